@@ -1,2 +1,3 @@
-pub mod Trees
 pub mod Reference
+pub mod Trees
+pub mod Values

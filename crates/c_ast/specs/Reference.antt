@@ -3,9 +3,10 @@
 -- Evaluation goes down the tree, by one rule for each form, in the order of C17 as this project's profile fixes it:
 -- operands and arguments from left to right. A unit of the budget is spent as each expression and each statement
 -- is entered; where there is none left, the run is going.
-use Rattle.std.specs.Prelude.{ℕ, zero, suc, ◌+◌, ◌-◌, ◌%◌, ℤ, pos, negsuc, List, [], ◌∷◌, ◌++◌, nat_lt, if◌then◌else◌}
+use Rattle.std.specs.Prelude.{ℕ, zero, suc, ℤ, pos, negsuc, List, [], ◌∷◌, ◌++◌}
 use Rattle.run_theory.specs.Runs.{Trace, Output, Answer, Going, Over, Ended, Run}
 use Rattle.c_ast.specs.Trees.{ExprTree, Decimal, Character, EndOfFile, GetChar, PutChar, Parenthesized, StmtTree, Empty, Expression, Return, ProgramTree}
+use Rattle.c_ast.specs.Values.{byte_of, char_of, next_char, after_next}
 
 -- the units of the budget that are left, the input that is left, and what has happened
 pub record State : Type 0 where
@@ -41,24 +42,9 @@ spend rest (suc units) input trace = rest (record { units = units; input = input
 abbrev pub entered : {A : Type 0} → Eval A → Eval A
 entered rest state = spend rest state.units state.input state.trace
 
--- the value of (unsigned char) v (C17 6.3.1.3)
-abbrev pub byte_of : ℤ → ℕ
-byte_of (pos n) = n % 256
-byte_of (negsuc n) = 255 - n % 256
-
--- the value of a byte as a char, which is signed and has 8 bits (C17 6.2.5; the profile)
-abbrev pub char_of : ℕ → ℤ
-char_of byte = if nat_lt byte 128 then pos byte else negsuc (255 - byte)
-
--- the next byte as 0 to 255, or -1 at the end of the input (C17 7.21.7.6)
-abbrev pub next_char : List ℕ → Trace → ℕ → Outcome ℤ
-next_char [] trace units = Then (negsuc 0) (record { units = units; input = []; trace = trace })
-next_char (byte ∷ input) trace units = Then (pos byte) (record { units = units; input = input; trace = trace })
-
 abbrev pub get_char : Eval ℤ
-get_char state = next_char state.input state.trace state.units
+get_char state = Then (next_char state.input) (record { units = state.units; input = after_next state.input; trace = state.trace })
 
--- writes the value as an unsigned char, and gives that (C17 7.21.7.8)
 abbrev pub put_char : ℤ → Eval ℤ
 put_char value state = Then (pos (byte_of value)) (record { units = state.units; input = state.input; trace = state.trace ++ Output (byte_of value) ∷ [] })
 

@@ -4,6 +4,9 @@
 //! which grammar, meaning and theorems speak of, and the views that lead from these to those.
 #![tactic(auto)]
 
+ghost use Rattle.std.specs.Prelude.{◌≡◌};
+ghost use Rattle.c_ast.specs.Values.{char_of};
+
 pub use run_theory::Pos;
 
 /// An expression (C17 6.5).
@@ -38,4 +41,15 @@ pub enum Stmt {
 #[derive(Drop)]
 pub struct Program {
     pub body: Vec<Stmt>,
+}
+
+/// The value of a byte as a `char`, which is signed and has 8 bits: what a character constant is worth.
+pub fn character_value(byte: u8) -> i32
+    ensures { result ≡ char_of byte }
+{
+    if byte < 128 {
+        i32::from(byte)
+    } else {
+        i32::from(byte) - 256
+    }
 }

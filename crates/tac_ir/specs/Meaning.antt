@@ -1,0 +1,52 @@
+-- What three-address code does. A state is a point, the values of the registers, the input that is left and the trace.
+-- Where a point or a register isn't there, the run is undefined: what is compiled from it owes nothing then.
+use Rattle.std.specs.Prelude.{ℕ, ◌+◌, ℤ, pos, List, [], ◌∷◌, ◌++◌, Option, Some, None, length, nat_lt, if◌then◌else◌, slice_get, slice_set, replicate}
+use Rattle.run_theory.specs.declared.ends.UbKind.TheVariants as Ub
+use Rattle.run_theory.specs.Runs.{Trace, Output, Ended, Undefined, Move, To, Halt, steps, Run}
+use Rattle.c_ast.specs.Values.{byte_of, next_char, after_next}
+use Rattle.tac_ir.specs.declared.Op.{Op}
+use Rattle.tac_ir.specs.declared.Op.TheVariants as O
+use Rattle.tac_ir.specs.declared.Tac.{Tac}
+
+pub record State : Type 0 where
+  pub at : ℕ
+  pub registers : List ℤ
+  pub input : List ℕ
+  pub trace : Trace
+
+-- nothing is said of a run that comes here
+abbrev pub lost : State → Move State
+lost state = Halt (Undefined Ub.U04 (record { line = 1; column = 1 })) state
+
+-- goes on at a point with a value written to a register
+abbrev pub write : ℕ → ℤ → ℕ → List ℕ → Trace → State → Move State
+write to value next input trace state =
+    if nat_lt to (length state.registers)
+      then To (record { at = next; registers = slice_set state.registers to value; input = input; trace = trace })
+      else lost state
+
+-- goes on with the value of a register
+abbrev pub read : Option ℤ → State → (ℤ → Move State) → Move State
+read None state go = lost state
+read (Some value) state go = go value
+
+abbrev pub execute : Option Op → State → Move State
+execute None state = lost state
+execute (Some (O.Constant to value next)) state = write to.0 value next.0 state.input state.trace state
+execute (Some (O.GetChar to next)) state = write to.0 (next_char state.input) next.0 (after_next state.input) state.trace state
+execute (Some (O.PutChar from to next)) state =
+    read (slice_get state.registers from.0) state (λ value. write to.0 (pos (byte_of value)) next.0 state.input (state.trace ++ Output (byte_of value) ∷ []) state)
+execute (Some (O.Return from)) state =
+    read (slice_get state.registers from.0) state (λ value. Halt (Ended (byte_of value)) state)
+
+-- one step
+abbrev pub act : List Op → State → Move State
+act points state = execute (slice_get points state.at) state
+
+-- the first state: each register holds 0
+abbrev pub initial : Tac → List ℕ → State
+initial tac input = record { at = tac.main.entry.0; registers = replicate tac.main.registers (pos 0); input = input; trace = [] }
+
+-- the run of a program on an input
+abbrev pub tac_run : Tac → List ℕ → Run
+tac_run tac input n = steps (act tac.main.points.items) (λ state. state.trace) n (initial tac input)
