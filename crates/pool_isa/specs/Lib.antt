@@ -1,0 +1,5 @@
+pub mod Spelling
+pub mod Number
+pub mod Code
+pub mod Instr
+pub mod Machine

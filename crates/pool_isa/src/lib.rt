@@ -1,1 +1,6 @@
 #![tactic(auto)]
+
+mod head;
+mod instr;
+
+pub use instr::{Comparison, Instr, Width};

@@ -70,20 +70,24 @@ compose a b c factor constant factor' constant' factor'' constant'' p q sum = re
   );
 }
 
--- One fact for each budget makes a simulation: a budget behind that is bounded and matches, and a bound on the
--- budget in front by the one behind.
-pub simulates_from : (front behind : Run) (c d p q : ℕ) → ((n : ℕ) → (j : ℕ) × (j ≤ c * n + d) × Matches (front n) (behind j) × (IsGoing (front n) → n ≤ p + q * j)) → Simulates front behind c d
-simulates_from front behind c d p q f = record {
+-- One fact for each budget makes a simulation: a budget behind that is bounded and matches, and, while both go on, a
+-- bound on the budget in front by the one behind.
+pub simulates_both : (front behind : Run) (c d p q : ℕ) → ((n : ℕ) → (j : ℕ) × (j ≤ c * n + d) × Matches (front n) (behind j) × (IsGoing (front n) → IsGoing (behind j) → n ≤ p + q * j)) → Simulates front behind c d
+simulates_both front behind c d p q f = record {
   at = λ n. (f n).0;
   bound = λ n. (f n).1;
   matches = λ n. (f n).2;
-  pace = λ m. (suc (p + q * m), λ n far g g'. ⊎_elim (λ lt. absurd (slow n m (f n).0 far ((f n).3 g) lt)) (λ le. le) (cases_lt (f n).0 m));
+  pace = λ m. (suc (p + q * m), λ n far g g'. ⊎_elim (λ lt. absurd (slow n m (f n).0 far ((f n).3 g g') lt)) (λ le. le) (cases_lt (f n).0 m));
 }
   where
     slow : (n m j : ℕ) → suc (p + q * m) ≤ n → n ≤ p + q * j → suc j ≤ m → ⊥
     slow n m j far near lt =
         let le : j ≤ m = omega arith in
         omega (arith, mul-le-mul_left q le)
+
+-- the same where the bound holds while the front goes on
+pub simulates_from : (front behind : Run) (c d p q : ℕ) → ((n : ℕ) → (j : ℕ) × (j ≤ c * n + d) × Matches (front n) (behind j) × (IsGoing (front n) → n ≤ p + q * j)) → Simulates front behind c d
+simulates_from front behind c d p q f = simulates_both front behind c d p q (λ n. ((f n).0, (f n).1, (f n).2, λ g g'. (f n).3 g))
 
 -- a run that never traps simulates itself
 pub simulates_same : (run : Run) → ((n : ℕ) → IsTrap (run n) → ⊥) → Simulates run run 1 0
@@ -103,6 +107,9 @@ simulates_within front behind c d c' d' le s = record {
   matches = s.matches;
   pace = s.pace;
 }
+
+pub same_run : (run run' : Run) → ((n : ℕ) → run n ≡ run' n) → IsRun run → IsRun run'
+same_run run run' e = subst IsRun (λ i n. e n i)
 
 -- k units more behind, for what comes before its start
 pub simulates_later : (front behind behind' : Run) (c d k d' : ℕ) → ((n : ℕ) → (j : ℕ) × (j ≡ n + k) × (behind' j ≡ behind n)) → d' ≡ d + k → Simulates front behind c d → Simulates front behind' c d'

@@ -1,0 +1,76 @@
+-- The instructions of a function in three-address code.
+--
+-- A register is a word of the frame, and no operand is left between points. The points are laid out from the last one
+-- to the first, since lowering appends a point before those that lead to it: a successor is mostly the next one, and
+-- where it isn't, a jump leads to it.
+use Rattle.std.specs.Prelude.{ℕ, ◌+◌, ◌*◌, ◌^◌, ◌==◌, List, [], ◌∷◌, ◌++◌, Option, Some, None, length, drop, if◌then◌else◌}
+use Rattle.c_num.specs.Conversion.{modulo}
+use Rattle.c_num.specs.declared.IntType.TheVariants as types
+use Rattle.pool_isa.specs.declared.instr.Width.TheVariants as widths
+use Rattle.pool_isa.specs.declared.instr.Instr.{Instr}
+use Rattle.pool_isa.specs.declared.instr.Instr.TheVariants as instrs
+use Rattle.pool_isa.specs.Machine.{Function}
+use Rattle.tac_ir.specs.declared.Op.{Op}
+use Rattle.tac_ir.specs.declared.Op.TheVariants as O
+use Rattle.tac_ir.specs.declared.Register.{Register}
+use Rattle.tac_ir.specs.declared.Tac.{Tac}
+
+-- where a register lies in the frame
+abbrev pub offset_of : Register → ℕ
+offset_of register = 8 * register.0
+
+-- what is done at a point
+abbrev pub op_code : Op → List Instr
+op_code (O.Constant to value next) = instrs.Local (offset_of to) ∷ instrs.Constant (modulo value (2 ^ 64)) ∷ instrs.Store widths.Eight ∷ []
+op_code (O.GetChar to next) = instrs.Local (offset_of to) ∷ instrs.GetChar ∷ instrs.Store widths.Eight ∷ []
+op_code (O.PutChar from to next) =
+    instrs.Local (offset_of to) ∷ instrs.Local (offset_of from) ∷ instrs.Load types.ULong ∷ instrs.PutChar ∷ instrs.Store widths.Eight ∷ []
+op_code (O.Return from) = instrs.Local (offset_of from) ∷ instrs.Load types.ULong ∷ instrs.ReturnValue ∷ []
+
+-- the point that follows
+abbrev pub successor_of : Op → Option ℕ
+successor_of (O.Constant to value next) = Some next.0
+successor_of (O.GetChar to next) = Some next.0
+successor_of (O.PutChar from to next) = Some next.0
+successor_of (O.Return from) = None
+
+-- the way from a point, or from the beginning of the function, to the one that follows: none where that is laid out next
+abbrev pub way_to : (ℕ → ℕ) → ℕ → Option ℕ → List Instr
+way_to place number None = []
+way_to place number (Some next) = if next + 1 == number then [] else instrs.Jump (place next) ∷ []
+
+-- the instructions of the point of a number
+abbrev pub block : (ℕ → ℕ) → ℕ → Op → List Instr
+block place number op = op_code op ++ way_to place number (successor_of op)
+
+-- the blocks of points that are numbered from a number on, the last point first
+abbrev pub blocks : (ℕ → ℕ) → ℕ → List Op → List Instr
+blocks place number [] = []
+blocks place number (op ∷ ops) = blocks place (number + 1) ops ++ block place number op
+
+-- how many instructions those are, wherever they lie
+abbrev pub count : ℕ → List Op → ℕ
+count number ops = length (blocks (λ _. 0) number ops)
+
+-- the way from the beginning of a function to its entry
+abbrev pub opening : (ℕ → ℕ) → List Op → ℕ → List Instr
+opening place points entry = way_to place (length points) (Some entry)
+
+-- where a point's block begins
+abbrev pub place_of : List Op → ℕ → ℕ → ℕ
+place_of points entry number = length (opening (λ _. 0) points entry) + count (number + 1) (drop (number + 1) points)
+
+abbrev pub function_code : List Op → ℕ → List Instr
+function_code points entry = opening (place_of points entry) points entry ++ blocks (place_of points entry) 0 points
+
+-- function 0 calls main, and ends with the value that main returned
+abbrev pub start_function : Function
+start_function = record { parameters = 0; extra = 0; height = 1; signature = 0; code = instrs.Call 1 ∷ instrs.ReturnValue ∷ [] }
+
+abbrev pub main_function : Tac → Function
+main_function tac =
+    record { parameters = 0; extra = 8 * tac.main.registers; height = 2; signature = 0; code = function_code tac.main.points.items tac.main.entry.0 }
+
+-- the functions of a program's image
+abbrev pub functions_of : Tac → List Function
+functions_of tac = start_function ∷ main_function tac ∷ []
