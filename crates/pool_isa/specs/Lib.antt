@@ -1,0 +1,4 @@
+pub mod Spelling
+pub mod Number
+pub mod Code
+pub mod Instr
