@@ -2,7 +2,7 @@
 use Rattle.std.proofs.Common.{◌≡◌, ℕ, zero, suc, ◌+◌, ◌-◌, ◌*◌, ◌/◌, ◌%◌, ◌^◌, ◌<◌, ◌≤◌, Bool, true, false, nat_lt, List, [], ◌∷◌, ◌++◌, length, take, drop, refl, sym, ap, subst, ◌∙◌, append_assoc, add-one, arith, ◌⊎◌, inl, inr}
 use Rattle.std.proofs.lemmas.Bool.{cases_lt, ltb-false, le-ltb, lt-ltb}
 use Rattle.std.proofs.Math.Nat.{one-le-pow, pow-succ', pow-le-pow_right}
-use Rattle.std.proofs.lemmas.List.{append_cancel_left, append-nil}
+use Rattle.std.proofs.lemmas.List.{append_cancel_left, append-nil, length-take, take-append-le}
 use Rattle.std.specs.Prelude.{◌↔◌}
 use Rattle.pool_isa.specs.Spelling.{IsCutShort, IsFault, IsPrefixFree}
 use Rattle.pool_isa.proofs.Faults.{fault_at_end, fault_here, fault_behind}
@@ -166,3 +166,19 @@ number_behind b bs good ge lt =
     fault_behind (IsHighSpelling 8) IsNumberSpelling b bs good
     (λ x h. (b - 128 + 128 * h.0, omega (arith, h.2, lt), ap (λ (t : List ℕ). b ∷ t) h.3 ∙ sym (number_bytes-more b h.0 ge lt h.1)))
     (λ x h. elim (begins h.0 b x h.2) [ inl p ↦ absurd (omega (arith, p.0, p.1, ge)) | inr p ↦ (h.0 / 128, omega (arith, p.0), omega (arith, h.1), p.2) ])
+
+-- ---- writing
+
+-- one byte more of a number that goes on
+pub pushed_more : (code new whole : List ℕ) (rest : ℕ) → new ≡ code ++ (128 + rest % 128) ∷ [] → 128 ≤ rest → code ++ number_bytes rest ≡ whole → new ++ number_bytes (rest / 128) ≡ whole
+pushed_more code new whole rest e le h =
+    ap (λ (t : List ℕ). t ++ number_bytes (rest / 128)) e ∙ append_assoc code ((128 + rest % 128) ∷ []) (number_bytes (rest / 128)) ∙ ap (λ (t : List ℕ). code ++ t) (sym (number_bytes-large rest le)) ∙ h
+
+-- the last byte of a number
+pub pushed_last : (code new whole : List ℕ) (rest : ℕ) → new ≡ code ++ rest ∷ [] → rest < 128 → code ++ number_bytes rest ≡ whole → new ≡ whole
+pushed_last code new whole rest e lt h = e ∙ ap (λ (t : List ℕ). code ++ t) (sym (number_bytes-small rest lt)) ∙ h
+
+-- what is appended leaves what was there
+pub kept_append : (old code new more : List ℕ) → new ≡ code ++ more → take (length old) code ≡ old → take (length old) new ≡ old
+kept_append old code new more e h =
+    ap (take (length old)) e ∙ take-append-le (length old) code more (omega (arith, length-take (length old) code, ap length h)) ∙ h
