@@ -1,7 +1,7 @@
 -- Heads, operands and spellings of instructions: the code tells the head, and the head tells the operand.
-use Rattle.std.proofs.Common.{◌≡◌, ◌≢◌, ℕ, ◌+◌, ◌^◌, ◌<◌, Option, Some, None, List, [], ◌∷◌, ◌++◌, refl, sym, ap, subst, ◌∙◌, arith}
+use Rattle.std.proofs.Common.{◌≡◌, ◌≢◌, ℕ, ◌+◌, Option, Some, None, List, [], ◌∷◌, ◌++◌, refl, sym, ap, subst, ◌∙◌}
 use Rattle.std.specs.Prelude.{slice_get, option_and_then}
-use Rattle.std.proofs.lemmas.List.{append_cancel_left, append-nil}
+use Rattle.std.proofs.lemmas.List.{append_cancel_left}
 use Rattle.c_num.specs.declared.IntType.{IntType}
 use Rattle.c_num.specs.declared.IntType.TheVariants as kinds
 use Rattle.c_num.specs.declared.BinOp.TheVariants as operators
@@ -15,12 +15,12 @@ use Rattle.pool_isa.specs.declared.head.TypeForm.{TypeForm}
 use Rattle.pool_isa.specs.declared.head.TypeForm.TheVariants as types
 use Rattle.pool_isa.specs.declared.head.Head.{Head}
 use Rattle.pool_isa.specs.declared.head.Head.TheVariants.{Alone, Numbered, Typed}
-use Rattle.pool_isa.specs.declared.head.Operand.{Operand}
-use Rattle.pool_isa.specs.declared.head.Operand.TheVariants as operands
-use Rattle.pool_isa.specs.Spelling.{IsCutShort, Begins, IsFault, IsPrefixFree}
+use Rattle.pool_isa.specs.declared.code.Operand.{Operand}
+use Rattle.pool_isa.specs.declared.code.Operand.TheVariants as operands
+use Rattle.pool_isa.specs.Spelling.{IsCutShort, IsFault, IsPrefixFree}
 use Rattle.pool_isa.specs.Code.{type_code}
 use Rattle.pool_isa.specs.Number.{number_bytes, IsNumberSpelling}
-use Rattle.pool_isa.specs.Instr.{code_of, operand_of, operand_bytes, spelling, FitsOperand, Fits, IsInstrSpelling, IsTypeSpelling, with_number, with_type, HasCode}
+use Rattle.pool_isa.specs.Instr.{code_of, operand_of, operand_bytes, spelling, FitsOperand, IsInstrSpelling, IsTypeSpelling, with_number, with_type, HasCode}
 use Rattle.pool_isa.proofs.Faults.{fault_at_end, fault_here, fault_behind}
 use Rattle.pool_isa.proofs.Numbers.{same_number}
 
@@ -370,12 +370,12 @@ number_form_behind form code bs good has =
     fault_behind IsNumberSpelling IsInstrSpelling code bs good
     (λ x h. (with_number form h.0, subst FitsOperand (sym (number_follows_form form h.0)) h.1, ap (λ (t : List ℕ). code ∷ t) h.2 ∙ number_form_spelling form code h.0 has))
     (λ x h.
-        let e : code ∷ x ≡ spelling h.0 = h.2 in
-        let codes : code_of h.0 ≡ code_of (with_number form 0) = let here : code ≡ code_of h.0 = cc in sym here ∙ sym (has 0) in
-        let bytes : x ≡ operand_bytes (operand_of h.0) = cc in
-        let heads : head h.0 ≡ Numbered form = same_head h.0 (with_number form 0) codes ∙ head_of_number_form form in
-        let operand = subst (λ (k : Head). Wants k (operand_of h.0)) heads (wanted h.0) in
-        (operand.0, subst FitsOperand operand.1 h.1, bytes ∙ ap operand_bytes operand.1))
+    let e : code ∷ x ≡ spelling h.0 = h.2 in
+    let codes : code_of h.0 ≡ code_of (with_number form 0) = let here : code ≡ code_of h.0 = cc in sym here ∙ sym (has 0) in
+    let bytes : x ≡ operand_bytes (operand_of h.0) = cc in
+    let heads : head h.0 ≡ Numbered form = same_head h.0 (with_number form 0) codes ∙ head_of_number_form form in
+    let operand = subst (λ (k : Head). Wants k (operand_of h.0)) heads (wanted h.0) in
+    (operand.0, subst FitsOperand operand.1 h.1, bytes ∙ ap operand_bytes operand.1))
 
 -- a fault in the type behind a code
 pub type_form_behind : (form : TypeForm) (code : ℕ) (bs : List ℕ) (good : ℕ) → HasCode (Typed form) code → IsFault IsTypeSpelling bs good → IsFault IsInstrSpelling (code ∷ bs) (good + 1)
@@ -383,12 +383,12 @@ type_form_behind form code bs good has =
     fault_behind IsTypeSpelling IsInstrSpelling code bs good
     (λ x h. (with_type form h.0, subst FitsOperand (sym (type_follows_form form h.0)) tt, ap (λ (t : List ℕ). code ∷ t) h.1 ∙ type_form_spelling form code h.0 has))
     (λ x h.
-        let e : code ∷ x ≡ spelling h.0 = h.2 in
-        let codes : code_of h.0 ≡ code_of (with_type form kinds.Char) = let here : code ≡ code_of h.0 = cc in sym here ∙ sym (has kinds.Char) in
-        let bytes : x ≡ operand_bytes (operand_of h.0) = cc in
-        let heads : head h.0 ≡ Typed form = same_head h.0 (with_type form kinds.Char) codes ∙ head_of_type_form form in
-        let operand = subst (λ (k : Head). Wants k (operand_of h.0)) heads (wanted h.0) in
-        (operand.0, bytes ∙ ap operand_bytes operand.1))
+    let e : code ∷ x ≡ spelling h.0 = h.2 in
+    let codes : code_of h.0 ≡ code_of (with_type form kinds.Char) = let here : code ≡ code_of h.0 = cc in sym here ∙ sym (has kinds.Char) in
+    let bytes : x ≡ operand_bytes (operand_of h.0) = cc in
+    let heads : head h.0 ≡ Typed form = same_head h.0 (with_type form kinds.Char) codes ∙ head_of_type_form form in
+    let operand = subst (λ (k : Head). Wants k (operand_of h.0)) heads (wanted h.0) in
+    (operand.0, bytes ∙ ap operand_bytes operand.1))
 
 -- a code and the type behind it
 pub type_form_parts : (form : TypeForm) (code : ℕ) (t : IntType) (instr : Instr) (bytes rest after : List ℕ) → HasCode (Typed form) code → bytes ≡ code ∷ rest → rest ≡ type_code t ∷ after → instr ≡ with_type form t → bytes ≡ spelling instr ++ after

@@ -1,8 +1,8 @@
 -- The bytes of numbers: one byte more, the grammar, and that none begins another.
-use Rattle.std.proofs.Common.{◌≡◌, ℕ, zero, suc, ◌+◌, ◌-◌, ◌*◌, ◌/◌, ◌%◌, ◌^◌, ◌<◌, ◌≤◌, Bool, true, false, nat_lt, List, [], ◌∷◌, ◌++◌, length, take, drop, refl, sym, ap, subst, ◌∙◌, append_assoc, add-one, arith, ◌⊎◌, inl, inr}
+use Rattle.std.proofs.Common.{◌≡◌, ℕ, zero, suc, ◌+◌, ◌-◌, ◌*◌, ◌/◌, ◌%◌, ◌^◌, ◌<◌, ◌≤◌, Bool, true, false, nat_lt, List, [], ◌∷◌, ◌++◌, length, take, refl, sym, ap, subst, ◌∙◌, append_assoc, arith, ◌⊎◌, inl, inr}
 use Rattle.std.proofs.lemmas.Bool.{cases_lt, ltb-false, le-ltb, lt-ltb}
 use Rattle.std.proofs.Math.Nat.{one-le-pow, pow-succ', pow-le-pow_right}
-use Rattle.std.proofs.lemmas.List.{append_cancel_left, append-nil, length-take, take-append-le}
+use Rattle.std.proofs.lemmas.List.{append_cancel_left, length-take, take-append-le}
 use Rattle.std.specs.Prelude.{◌↔◌}
 use Rattle.pool_isa.specs.Spelling.{IsCutShort, IsFault, IsPrefixFree}
 use Rattle.pool_isa.proofs.Faults.{fault_at_end, fault_here, fault_behind}
@@ -54,18 +54,18 @@ same_step : (m n : ℕ) (x y : List ℕ) → (128 ≤ m → number_bytes (m / 12
 same_step m n x y high e =
     elim (cases_lt n 128) [
       | inl small ↦ let e' : number_bytes m ++ x ≡ n ∷ y = e ∙ ap (λ (t : List ℕ). t ++ y) (number_bytes-small n small) in
-        elim (cases_lt m 128) [
-          | inl small' ↦ (first_small m n x y small' e').0
-          | inr large' ↦ absurd (omega (arith, (first_large m n x y large' e').0, small))
-        ]
+          elim (cases_lt m 128) [
+            | inl small' ↦ (first_small m n x y small' e').0
+            | inr large' ↦ absurd (omega (arith, (first_large m n x y large' e').0, small))
+          ]
       | inr large ↦ let e' : number_bytes m ++ x ≡ (128 + n % 128) ∷ (number_bytes (n / 128) ++ y) = e ∙ ap (λ (t : List ℕ). t ++ y) (number_bytes-large n large) in
-        elim (cases_lt m 128) [
-          | inl small' ↦ absurd (omega (arith, (first_small m (128 + n % 128) x (number_bytes (n / 128) ++ y) small' e').0, small'))
-          | inr large' ↦
-            let parts = first_large m (128 + n % 128) x (number_bytes (n / 128) ++ y) large' e' in
-            let same : m / 128 ≡ n / 128 = high large' parts.1 in
-            omega (arith, parts.0, same)
-        ]
+          elim (cases_lt m 128) [
+            | inl small' ↦ absurd (omega (arith, (first_small m (128 + n % 128) x (number_bytes (n / 128) ++ y) small' e').0, small'))
+            | inr large' ↦
+                let parts = first_large m (128 + n % 128) x (number_bytes (n / 128) ++ y) large' e' in
+                let same : m / 128 ≡ n / 128 = high large' parts.1 in
+                omega (arith, parts.0, same)
+          ]
     ]
 
 same_below : (k m n : ℕ) (x y : List ℕ) → m ≤ k → number_bytes m ++ x ≡ number_bytes n ++ y → m ≡ n

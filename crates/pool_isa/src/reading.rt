@@ -1,13 +1,12 @@
 // Instructions from bytes.
 
-ghost use Rattle.std.specs.Prelude.{◌≡◌, ◌≢◌, ℕ, ◌+◌, ◌≤◌, List, [], ◌∷◌, ◌++◌, length, drop, Ok, IfOk, IfErr, IfSome, IfNone};
+ghost use Rattle.std.specs.Prelude.{◌≡◌, ℕ, ◌+◌, ◌≤◌, List, ◌∷◌, ◌++◌, length, drop, Ok, IfOk, IfErr};
 ghost use Rattle.pool_isa.specs.Spelling.{StandsAt, IsFault, IsFaultAt};
 ghost use Rattle.pool_isa.specs.Code.{type_code};
 ghost use Rattle.pool_isa.specs.Instr.{spelling, Fits, IsInstrSpelling, IsTypeSpelling};
-ghost use Rattle.c_num.specs.declared.IntType.{IntType as AnIntType};
 ghost use Rattle.pool_isa.specs.declared.instr.Instr.{Instr as AnInstr};
 
-use crate::head::{Head, head_of};
+use crate::head::{Head, head_of, type_of};
 use crate::instr::Instr;
 use crate::number::number_front;
 use c_num::IntType;
@@ -17,23 +16,6 @@ use thiserror::Error;
 #[derive(Clone, Copy, Debug, PartialEq, Eq, Error)]
 #[error("no instruction: the byte at {0} is wrong or missing")]
 pub struct BadInstr(pub usize);
-
-fn type_of(byte: u8) -> Option<IntType>
-    ensures some { IfSome result (λ t. type_code t ≡ byte) }
-    ensures none { IfNone result ((t : AnIntType) → type_code t ≢ byte) }
-{
-    Some(match byte {
-        0 => IntType::Char,
-        1 => IntType::UChar,
-        2 => IntType::Short,
-        3 => IntType::UShort,
-        4 => IntType::Int,
-        5 => IntType::UInt,
-        6 => IntType::Long,
-        7 => IntType::ULong,
-        _ => return None,
-    })
-}
 
 // The type at the front, with what follows it; otherwise how many bytes are good.
 fn type_front(bytes: &[u8]) -> Result<(IntType, &[u8]), usize>

@@ -3,7 +3,7 @@
 ghost use Rattle.std.specs.Prelude.{◌≡◌, ◌++◌, length, take, IfOk, OnOk, OnErr};
 ghost use Rattle.pool_isa.specs.Instr.{spelling};
 
-use crate::head::{Operand, type_byte};
+use crate::code::{Operand, type_byte};
 use crate::instr::Instr;
 use crate::number::append_number;
 use std::alloc::{AllocError, Global};

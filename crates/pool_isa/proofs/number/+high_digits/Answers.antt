@@ -1,4 +1,4 @@
-use Rattle.std.proofs.Common.{◌≡◌, ℕ, suc, ◌+◌, ◌-◌, ◌*◌, ◌^◌, ◌<◌, ◌≤◌, List, ◌∷◌, ◌++◌, length, take, drop, arith}
+use Rattle.std.proofs.Common.{◌≡◌, ◌-◌, ◌∷◌, length, take, drop, arith}
 use Rattle.std.proofs.lemmas.List.{nil_from_length}
 use Rattle.pool_isa.proofs.Faults.{first_and_rest}
 use Rattle.pool_isa.proofs.Numbers.{high_at_end, high_zero, high_last, high_behind, bound-more, bound_holds_small, bound_is_small, alone_parts, more_parts}

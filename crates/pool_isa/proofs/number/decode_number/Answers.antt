@@ -1,6 +1,5 @@
-use Rattle.std.proofs.Common.{◌≡◌, ℕ, ◌+◌, ◌-◌, ◌<◌, List, ◌++◌, length, take, drop, refl, sym, subst, ◌∙◌}
+use Rattle.std.proofs.Common.{◌-◌, length, drop, refl, sym, ◌∙◌}
 use Rattle.std.proofs.lemmas.List.{take_rest}
-use Rattle.pool_isa.specs.Spelling.{IsFault}
 use Rattle.pool_isa.specs.Number.{number_bytes, IsNumberSpelling}
 use Rattle.pool_isa.proofs.Faults.{from_place, stands, fault_from, nothing_stands, same_answer}
 use Rattle.pool_isa.proofs.Numbers.{same_number, numbers_prefix_free}

@@ -1,4 +1,4 @@
-use Rattle.std.proofs.Common.{◌≡◌, ℕ, ◌+◌, ◌-◌, ◌*◌, ◌<◌, List, ◌∷◌, ◌++◌, length, take, drop, arith}
+use Rattle.std.proofs.Common.{◌-◌, length, take, drop, arith}
 use Rattle.std.proofs.lemmas.List.{nil_from_length}
 use Rattle.pool_isa.proofs.Faults.{first_and_rest}
 use Rattle.pool_isa.proofs.Numbers.{number_at_end, number_behind, alone_parts, more_parts}

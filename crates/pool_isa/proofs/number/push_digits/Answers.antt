@@ -1,4 +1,4 @@
-use Rattle.std.proofs.Common.{◌≡◌, ℕ, ◌+◌, ◌/◌, ◌%◌, List, [], ◌∷◌, ◌++◌, length, take, arith}
+use Rattle.std.proofs.Common.{◌+◌, ◌%◌, [], ◌∷◌, ◌++◌}
 use Rattle.pool_isa.specs.Number.{number_bytes}
 use Rattle.pool_isa.proofs.Numbers.{pushed_more, pushed_last, kept_append}
 use Rattle.pool_isa.proofs.number.push_digits.Goals as goal

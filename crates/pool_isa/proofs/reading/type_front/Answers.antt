@@ -14,4 +14,4 @@ returns-in_default-clause-fault c =
 pub returns-in-None-clause-fault : goal.returns-in-None-clause-fault
 returns-in-None-clause-fault c =
     let bytes = c.args.bytes.now in
-    subst (λ (bs : List ℕ). IsFault IsTypeSpelling bs 0) (sym (first_and_rest bytes (get_or bytes 0 0) c.in-len1-up.len_at_least refl)) (type_unknown (get_or bytes 0 0) (take (length bytes - 1) (drop 1 bytes)) c.in-None.ensures.none)
+    subst (λ (bs : List ℕ). IsFault IsTypeSpelling bs 0) (sym (first_and_rest bytes (get_or bytes 0 0) c.in-len1-up.len_at_least refl)) (type_unknown (get_or bytes 0 0) (take (length bytes - 1) (drop 1 bytes)) c.in-None.ensures.unknown)
