@@ -148,3 +148,21 @@ pub record Locks {S T : Type 0} (act : S → Move S) (trace : S → Trace) (act'
   pub traces : (s : S) (t : T) → R s t → trace' t ≡ trace s
   pub goes_on : (s next : S) (t : T) → R s t → act s ≡ To next → (k : ℕ) × (next' : T) × (1 ≤ k) × (k ≤ bound) × Leads act' t k next' × R next next'
   pub halts : (s last : S) (t : T) (final : Final) → R s t → act s ≡ Halt final last → IsUndefined (Over final (trace last)) ⊎ ((k : ℕ) × (before last' : T) × (k + 1 ≤ bound) × Leads act' t k before × (act' before ≡ Halt final last') × (trace' last' ≡ trace last) × (IsProgramEnd final ⊎ IsResourceEnd final))
+
+-- Within so many steps the second machine halts at a limit, with no event that is not among these.
+pub record MeetsLimit {T : Type 0} (act : T → Move T) (trace : T → Trace) (start : T) (bound : ℕ) (had : Trace) : Type 0 where
+  pub taken : ℕ
+  pub before : T
+  pub last : T
+  pub final : Final
+  pub soon : taken + 1 ≤ bound
+  pub leads : Leads act start taken before
+  pub halts : act before ≡ Halt final last
+  pub limit : IsResourceEnd final
+  pub no_more : IsPrefix (trace last) had
+
+-- Two machines in step, where the second may also meet a limit that the first does not have.
+pub record LocksToLimits {S T : Type 0} (act : S → Move S) (trace : S → Trace) (act' : T → Move T) (trace' : T → Trace) (R : S → T → Type 0) (bound : ℕ) : Type 0 where
+  pub traces : (s : S) (t : T) → R s t → trace' t ≡ trace s
+  pub goes_on : (s next : S) (t : T) → R s t → act s ≡ To next → ((k : ℕ) × (next' : T) × (1 ≤ k) × (k ≤ bound) × Leads act' t k next' × R next next') ⊎ MeetsLimit act' trace' t bound (trace next)
+  pub halts : (s last : S) (t : T) (final : Final) → R s t → act s ≡ Halt final last → IsUndefined (Over final (trace last)) ⊎ (((k : ℕ) × (before last' : T) × (k + 1 ≤ bound) × Leads act' t k before × (act' before ≡ Halt final last') × (trace' last' ≡ trace last) × (IsProgramEnd final ⊎ IsResourceEnd final)) ⊎ MeetsLimit act' trace' t bound (trace last))

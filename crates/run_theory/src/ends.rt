@@ -1,10 +1,55 @@
 // What the ends of runs name: places in a source, kinds of undefined behaviour, kinds of traps.
 
+ghost use Rattle.std.specs.Prelude.{◌≡◌, ◌+◌, ◌^◌, ◌<◌, Some};
+
+use std::fmt;
+
 /// A place in a source: line and column, both counted from 1, columns in bytes.
 #[derive(Clone, Copy, Debug, PartialEq, Eq, PartialOrd, Ord)]
 pub struct Pos {
     pub line: u32,
     pub column: u32,
+}
+
+impl Pos {
+    ghost use Rattle.run_theory.specs.Places.{first_place, place_after};
+
+    /// The place of a source's first byte, 1:1.
+    pub fn start() -> Pos
+        ensures { result ≡ first_place }
+    {
+        Pos { line: 1, column: 1 }
+    }
+
+    /// The place behind `byte`, where `byte` stands at this place. A newline ends its line (C17 5.2.1 paragraph 3).
+    pub fn after(self, byte: u8) -> Pos
+        requires line_room { self.line + 1 < 2 ^ 32 }
+        requires column_room { self.column + 1 < 2 ^ 32 }
+        ensures { result ≡ place_after self byte }
+    {
+        if byte == b'\n' {
+            Pos {
+                line: self.line + 1,
+                column: 1,
+            }
+        } else {
+            Pos {
+                line: self.line,
+                column: self.column + 1,
+            }
+        }
+    }
+}
+
+/// As `12:5`, the line first.
+impl fmt::Display for Pos {
+    ghost use Rattle.run_theory.specs.Places.{place_text};
+
+    ghost output = { λ place. Some (place_text place) };
+
+    fn fmt<W: fmt::Write>(&self, f: &mut fmt::Formatter<W>) -> fmt::Result {
+        write!(f, "{}:{}", self.line, self.column)
+    }
 }
 
 /// A kind of undefined behaviour, as it is printed.
@@ -46,6 +91,45 @@ pub enum UbKind {
     U17,
 }
 
+impl UbKind {
+    ghost use Rattle.run_theory.specs.Names.{undefined_name};
+
+    /// The kind as it is printed, from `U01` to `U17`.
+    pub fn name(self) -> &'static str
+        ensures { result.now ≡ undefined_name self }
+    {
+        match self {
+            UbKind::U01 => "U01",
+            UbKind::U02 => "U02",
+            UbKind::U03 => "U03",
+            UbKind::U04 => "U04",
+            UbKind::U05 => "U05",
+            UbKind::U06 => "U06",
+            UbKind::U07 => "U07",
+            UbKind::U08 => "U08",
+            UbKind::U09 => "U09",
+            UbKind::U10 => "U10",
+            UbKind::U11 => "U11",
+            UbKind::U12 => "U12",
+            UbKind::U13 => "U13",
+            UbKind::U14 => "U14",
+            UbKind::U15 => "U15",
+            UbKind::U16 => "U16",
+            UbKind::U17 => "U17",
+        }
+    }
+}
+
+impl fmt::Display for UbKind {
+    ghost use Rattle.run_theory.specs.Names.{undefined_name};
+
+    ghost output = { λ kind. Some (undefined_name kind) };
+
+    fn fmt<W: fmt::Write>(&self, f: &mut fmt::Formatter<W>) -> fmt::Result {
+        f.write_str(self.name())
+    }
+}
+
 /// Why the machine trapped.
 #[derive(Clone, Copy, Debug, PartialEq, Eq)]
 pub enum TrapKind {
@@ -65,4 +149,65 @@ pub enum TrapKind {
     StackFull,
     /// The instruction `trap` was reached.
     Reached,
+}
+
+impl TrapKind {
+    ghost use Rattle.run_theory.specs.Names.{trap_name};
+
+    /// The kind as it is printed.
+    pub fn name(self) -> &'static str
+        ensures { result.now ≡ trap_name self }
+    {
+        match self {
+            TrapKind::BadAccess => "BadAccess",
+            TrapKind::BadPool => "BadPool",
+            TrapKind::BadFree => "BadFree",
+            TrapKind::BadSize => "BadSize",
+            TrapKind::BadCall => "BadCall",
+            TrapKind::StackEmpty => "StackEmpty",
+            TrapKind::StackFull => "StackFull",
+            TrapKind::Reached => "Reached",
+        }
+    }
+}
+
+impl fmt::Display for TrapKind {
+    ghost use Rattle.run_theory.specs.Names.{trap_name};
+
+    ghost output = { λ kind. Some (trap_name kind) };
+
+    fn fmt<W: fmt::Write>(&self, f: &mut fmt::Formatter<W>) -> fmt::Result {
+        f.write_str(self.name())
+    }
+}
+
+#[cfg(test)]
+mod tests {
+    use super::*;
+    use std::test::Fail;
+
+    // In `a`, newline, tab, `b` the `b` stands at 2:2.
+    #[test]
+    fn counts_lines_and_columns(rt: HostRuntime) {
+        let start = Pos::start();
+        let second = start.after(b'a');
+        let below = second.after(b'\n');
+        let last = below.after(b'\t');
+        assert_eq!(rt; (start.line, start.column), (1, 1));
+        assert_eq!(rt; (second.line, second.column), (1, 2));
+        assert_eq!(rt; (below.line, below.column), (2, 1));
+        assert_eq!(rt; (last.line, last.column), (2, 2));
+        assert!(rt; second < below);
+    }
+
+    #[test]
+    fn prints_ends(rt: HostRuntime) -> Result<(), Fail> {
+        let place = Pos {
+            line: 12,
+            column: 5,
+        };
+        let text = format!(in rt.alloc(); "{} at {place}, {}", UbKind::U06, TrapKind::StackFull)?;
+        assert_eq!(rt; text.as_str(), "U06 at 12:5, StackFull");
+        Ok(())
+    }
 }

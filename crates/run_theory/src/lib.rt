@@ -5,5 +5,6 @@
 #![tactic(auto)]
 
 mod ends;
+pub mod laws;
 
 pub use ends::{Pos, TrapKind, UbKind};

@@ -1,0 +1,163 @@
+// What the program answers.
+
+ghost use Rattle.std.specs.Prelude.{◌≡◌};
+ghost use Rattle.poolcc.specs.Status.{exit_status_of};
+
+use run_theory::{Pos, TrapKind, UbKind};
+
+/// What a command comes to.
+#[derive(Clone, Copy, Debug, PartialEq, Eq)]
+pub enum Status {
+    /// The command is done.
+    Done,
+    /// The program ended with this status.
+    Program(u8),
+    /// Calls nest deeper than 10,000.
+    Depth,
+    /// An allocation needs more adjacent slabs than are free.
+    HeapExhausted,
+    /// An indexed pool has as many cells as the index limit, and none is free.
+    IndexExhausted,
+    /// The step limit was reached before an end.
+    StepsSpent,
+    /// The machine trapped.
+    Trapped(TrapKind),
+    /// The program's behaviour is undefined, of this kind and at this place.
+    Undefined(UbKind, Pos),
+    /// The source was refused.
+    Refused(Refusal),
+    /// The bytes are no image: no image's bytes begin with those through this place.
+    BadImage(u64),
+    /// The source has more than 1,048,576 bytes.
+    SourceTooLong,
+    /// The image has more than 2^40 bytes.
+    ImageTooLong,
+    /// The command line is faulty.
+    Usage(UsageKind),
+    /// A read failed.
+    ReadFault,
+    /// A write failed.
+    WriteFault,
+    OutOfMemory,
+}
+
+/// What is wrong with a command line.
+#[derive(Clone, Copy, Debug, PartialEq, Eq)]
+pub enum UsageKind {
+    /// The second word is missing or is no command.
+    Command,
+    /// The command is known, and the rest is no line of it.
+    Words,
+}
+
+/// Why a source was refused.
+#[derive(Clone, Copy, Debug, PartialEq, Eq)]
+pub enum Refusal {
+    /// The text doesn't divide into tokens.
+    Lex(LexKind, Pos),
+    /// The tokens are no program.
+    Syntax(SyntaxKind, Pos),
+    /// A type rule is violated.
+    TypeRule(TypeRule, Pos),
+    /// A limit is exceeded, with the count that exceeds it.
+    Limit(LimitKind, u64),
+    /// The heap graph of a group has more nodes than its limit.
+    Graph(u64),
+    /// A function has more pools than its limit.
+    Pools(FuncId, u64),
+}
+
+/// The number of a function in the order of the text.
+#[derive(Clone, Copy, Debug, PartialEq, Eq)]
+pub struct FuncId(pub u32);
+
+/// A lexical refusal.
+#[derive(Clone, Copy, Debug, PartialEq, Eq)]
+pub enum LexKind {
+    BadByte,
+    BadLiteral,
+    Unclosed,
+    BadDirective,
+    NameTooLong,
+}
+
+/// A syntactic refusal.
+#[derive(Clone, Copy, Debug, PartialEq, Eq)]
+pub enum SyntaxKind {
+    /// The token doesn't fit.
+    At,
+    /// The token would fit if nesting had no limit.
+    TooDeep,
+}
+
+/// A type rule, as it is printed.
+#[derive(Clone, Copy, Debug, PartialEq, Eq)]
+pub enum TypeRule {
+    T01,
+    T02,
+    T03,
+    T04,
+    T05,
+    T06,
+    T07,
+    T08,
+    T09,
+    T10,
+    T11,
+    T12,
+    T13,
+    T14,
+    T15,
+    T16,
+    T17,
+    T18,
+    T19,
+    T20,
+    T21,
+    T22,
+    T23,
+    T24,
+}
+
+/// A limit of a source, as it is printed.
+#[derive(Clone, Copy, Debug, PartialEq, Eq)]
+pub enum LimitKind {
+    /// Functions defined: 4,096.
+    L1,
+    /// Parameters of one function type: 64.
+    L2,
+    /// Slots of one type: 1,024.
+    L3,
+    /// Bytes of one type: 1,048,576.
+    L4,
+    /// Bytes of one frame: 1,048,576.
+    L5,
+    /// Bytes of globals and literals: 1,073,741,824.
+    L6,
+}
+
+impl Status {
+    /// The exit status that tells it to the shell.
+    pub fn exit_status(self) -> u8
+        ensures { result ≡ exit_status_of self }
+    {
+        match self {
+            Status::Program(status) => status,
+            Status::Done => 0,
+            Status::Usage(_) => 240,
+            Status::Refused(_) => 241,
+            Status::SourceTooLong => 242,
+            Status::ImageTooLong => 243,
+            Status::BadImage(_) => 244,
+            Status::Undefined(..) => 245,
+            Status::Trapped(_) => 246,
+            Status::Depth => 247,
+            Status::HeapExhausted => 248,
+            Status::IndexExhausted => 249,
+            Status::StepsSpent => 250,
+            Status::ReadFault => 251,
+            Status::WriteFault => 252,
+            Status::OutOfMemory => 253,
+        }
+    }
+}

@@ -1,0 +1,5 @@
+use Rattle.run_theory.proofs.Simulations.{compose}
+use Rattle.run_theory.proofs.laws.composition.Goals as goal
+
+pub returns : goal.returns
+returns c = compose

@@ -1,0 +1,5 @@
+int main(void) {
+    putchar(getchar());
+    putchar(getchar());
+    putchar('\n');
+}
