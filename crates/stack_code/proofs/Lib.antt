@@ -1,1 +1,5 @@
-pub mod Frames
+mod Words
+mod Frames
+mod Places
+mod Steps
+mod Simulation
