@@ -1,11 +1,10 @@
 -- The bytes of an image, version 1: its fields in their order, each number in its shortest form and its range.
-use Rattle.std.specs.Prelude.{◌≡◌, ◌≢◌, ℕ, ◌+◌, ◌/◌, ◌%◌, ◌^◌, ◌<◌, ◌≤◌, Bool, true, false, IsTrue, List, [], ◌∷◌, ◌++◌, map, length, if◌then◌else◌}
+use Rattle.std.specs.Prelude.{◌≡◌, ◌≢◌, ℕ, ◌/◌, ◌%◌, ◌≤◌, List, [], ◌∷◌, ◌++◌, map, length, if◌then◌else◌}
 use Rattle.std.specs.List.{flat_map, AllByRecursion}
-use Rattle.pool_isa.specs.declared.instr.Instr.{Instr}
-use Rattle.pool_isa.specs.declared.instr.Instr.TheVariants as instrs
-use Rattle.pool_isa.specs.Instr.{spelling, Fits}
+use Rattle.pool_isa.specs.Instr.{spelling}
 use Rattle.pool_isa.specs.Number.{number_bytes}
 use Rattle.pool_isa.specs.Machine as machine
+use Rattle.pool_isa.specs.Ranges.{IsWithin, IsFunction}
 use Rattle.image_form.specs.declared.image.MachineLimits.{MachineLimits}
 use Rattle.image_form.specs.declared.image.PoolKind.{PoolKind}
 use Rattle.image_form.specs.declared.image.PoolKind.TheVariants.{Mixed, Homogeneous}
@@ -48,46 +47,9 @@ image_bytes form =
     80 ∷ 65 ∷ 73 ∷ 77 ∷ form.version ∷ (number_bytes form.limits.slabs ++ number_bytes form.limits.index ++ number_bytes form.globals ++ counted (λ byte. byte ∷ []) form.contents
     ++ counted kind_bytes form.kinds ++ counted function_bytes form.functions)
 
--- a value in a range, its ends included
-abbrev pub IsWithin : ℕ → ℕ → ℕ → Type 0
-IsWithin low high value = (low ≤ value) × (value ≤ high)
-
 abbrev pub IsKind : PoolKind → Type 0
 IsKind Mixed = Unit {0}
 IsKind (Homogeneous source cell indexed) = IsWithin 1 1048576 source × IsWithin 4 1048576 cell × (cell % 4 ≡ 0)
-
--- the instruction's operand is in range: a jump stays in the function, and functions and kinds are there
-abbrev pub InRange : ℕ → ℕ → ℕ → Instr → Type 0
-InRange kinds functions instructions (instrs.Jump target) = target < instructions
-InRange kinds functions instructions (instrs.JumpIfZero target) = target < instructions
-InRange kinds functions instructions (instrs.JumpIfNotZero target) = target < instructions
-InRange kinds functions instructions (instrs.Call function) = function < functions
-InRange kinds functions instructions (instrs.PoolInit kind) = kind < kinds
-InRange kinds functions instructions _ = Unit {0}
-
--- control doesn't fall through the instruction
-abbrev pub is_last : Instr → Bool
-is_last (instrs.Jump target) = true
-is_last instrs.Return = true
-is_last instrs.ReturnValue = true
-is_last instrs.Exit = true
-is_last instrs.Trap = true
-is_last _ = false
-
--- the last of a list is so; there is one
-abbrev pub LastIs : {X : Type 0} → (X → Type 0) → List X → Type 0
-LastIs P [] = ⊥
-LastIs P (item ∷ []) = P item
-LastIs P (item ∷ next ∷ items) = LastIs P (next ∷ items)
-
-pub record IsFunction (kinds functions : ℕ) (function : machine.Function) : Type 0 where
-  pub parameters : function.parameters ≤ 320
-  pub extra : function.extra ≤ 67108864
-  pub height : IsWithin 1 65536 function.height
-  pub signature : function.signature < 2 ^ 32
-  pub instructions : length function.code < 2 ^ 32
-  pub operands : AllByRecursion (λ instr. Fits instr × InRange kinds functions (length function.code) instr) function.code
-  pub last : LastIs (λ instr. IsTrue (is_last instr)) function.code
 
 -- the data end with a byte that isn't 0
 abbrev pub IsTrimmed : List ℕ → Type 0

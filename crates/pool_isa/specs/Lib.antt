@@ -3,3 +3,4 @@ pub mod Number
 pub mod Code
 pub mod Instr
 pub mod Machine
+pub mod Ranges

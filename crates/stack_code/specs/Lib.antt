@@ -1,1 +1,3 @@
 pub mod Emission
+pub mod Fits
+pub mod Laws

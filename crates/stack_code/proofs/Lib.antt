@@ -1,0 +1,5 @@
+mod Words
+mod Frames
+mod Places
+mod Steps
+mod Simulation
