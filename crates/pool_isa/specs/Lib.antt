@@ -2,3 +2,4 @@ pub mod Spelling
 pub mod Number
 pub mod Code
 pub mod Instr
+pub mod Head
