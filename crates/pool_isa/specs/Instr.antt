@@ -7,6 +7,7 @@ use Rattle.pool_isa.specs.declared.code.Operand.TheVariants.{Nothing, Number, Ty
 use Rattle.pool_isa.specs.Code.{type_code, width_code, operator_code, comparison_code}
 use Rattle.pool_isa.specs.Number.{number_bytes}
 
+-- the byte that an instruction begins with
 abbrev pub code_of : Instr → ℕ
 code_of (Constant n) = 0x01
 code_of Discard = 0x02
