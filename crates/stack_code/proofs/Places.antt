@@ -75,7 +75,7 @@ op_code-fits (O.GetChar to next) = (omega arith, omega arith)
 op_code-fits (O.PutChar from to next) = (omega arith, omega arith)
 op_code-fits (O.Return from) = (omega arith, omega arith)
 
-way_to-fits : (place : ℕ → ℕ) (number : ℕ) (next : Option ℕ) → length (way_to place number next) ≤ 1
+pub way_to-fits : (place : ℕ → ℕ) (number : ℕ) (next : Option ℕ) → length (way_to place number next) ≤ 1
 way_to-fits place number None = omega arith
 way_to-fits place number (Some next) = go (next + 1 == number)
   where
@@ -83,7 +83,7 @@ way_to-fits place number (Some next) = go (next + 1 == number)
     go true = omega arith
     go false = omega arith
 
-blocks-fits : (place : ℕ → ℕ) (number : ℕ) (ops : List Op) → length (blocks place number ops) ≤ 6 * length ops
+pub blocks-fits : (place : ℕ → ℕ) (number : ℕ) (ops : List Op) → length (blocks place number ops) ≤ 6 * length ops
 blocks-fits place number [] = omega arith
 blocks-fits place number (op ∷ ops) =
     let parts = length-append (blocks place (number + 1) ops) (block place number op) in
@@ -190,7 +190,7 @@ module _ (points : List Op) (entry : ℕ) where
 
   -- a table of places makes the code
   pub function_code-by : (place : ℕ → ℕ) (registers : ℕ) → ((number : ℕ) → number < length points → place number ≡ place_of points entry number) → entry < length points → AllByRecursion (NamesBelow registers (length points)) points →
-    opening place points entry ++ blocks place 0 points ≡ function_code points entry
+      opening place points entry ++ blocks place 0 points ≡ function_code points entry
   function_code-by place registers same there names =
       ap (λ front. front ++ blocks place 0 points) (way_to-same place (place_of points entry) (length points) same (length points) entry there)
       ∙ ap (λ rest. opening (place_of points entry) points entry ++ rest) (blocks-same place (place_of points entry) (length points) same registers 0 points names)

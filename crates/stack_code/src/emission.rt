@@ -1,10 +1,11 @@
 // The instructions of a program's functions.
 
-ghost use Rattle.std.specs.Prelude.{◌≡◌, ℕ, ◌+◌, ◌*◌, ◌^◌, ◌<◌, ◌≤◌, ◌==◌, ◌++◌, length, vec_len, IfOk, OnOk, slice_index};
+ghost use Rattle.std.specs.Prelude.{◌≡◌, ◌+◌, ◌^◌, ◌<◌, ◌≤◌, ◌==◌, ◌++◌, length, IfOk, OnOk, slice_index};
 ghost use Rattle.std.specs.Option.{ForSome};
+ghost use Rattle.std.specs.List.{AllByRecursion};
 ghost use Rattle.c_num.specs.Conversion.{modulo};
-ghost use Rattle.tac_ir.specs.declared.Func.{Func as IsFunc};
-ghost use Rattle.stack_code.specs.Emission.{op_code, successor_of, way_to, block, place_of, function_code, start_function, main_function, functions_of, offset_of};
+ghost use Rattle.pool_isa.specs.Ranges.{IsFunction};
+ghost use Rattle.stack_code.specs.Emission.{op_code, successor_of, way_to, block, function_code, start_function, main_function, functions_of, offset_of};
 ghost use Rattle.stack_code.specs.Fits.{NamesBelow, FitsFunction, FitsFrame};
 ghost use Rattle.stack_code.specs.Places.{ArePlaces};
 ghost use Rattle.stack_code.specs.Units.{unit_function, unit_functions};
@@ -13,6 +14,12 @@ use c_num::IntType;
 use pool_isa::{Instr, Width};
 use std::alloc::{AllocError, Global};
 use tac_ir::{Func, Op, Register, Tac};
+
+/// Loads the word of a register.
+const LOAD: Instr = Instr::Load(IntType::ULong);
+
+/// Stores the word of a register.
+const STORE: Instr = Instr::Store(Width::Eight);
 
 /// A function of the machine.
 #[derive(Debug, Drop)]
@@ -80,23 +87,23 @@ fn push_op(code: &mut Vec<Instr>, op: Op) -> Result<(), AllocError>
         Op::Constant { to, value, .. } => code.extend_from_slice(&[
             Instr::Local(offset(to)),
             Instr::Constant(word_of(i64::from(value))),
-            Instr::Store(Width::Eight),
+            STORE,
         ]),
         Op::GetChar { to, .. } => code.extend_from_slice(&[
             Instr::Local(offset(to)),
             Instr::GetChar,
-            Instr::Store(Width::Eight),
+            STORE,
         ]),
         Op::PutChar { from, to, .. } => code.extend_from_slice(&[
             Instr::Local(offset(to)),
             Instr::Local(offset(from)),
-            Instr::Load(IntType::ULong),
+            LOAD,
             Instr::PutChar,
-            Instr::Store(Width::Eight),
+            STORE,
         ]),
         Op::Return { from } => code.extend_from_slice(&[
             Instr::Local(offset(from)),
-            Instr::Load(IntType::ULong),
+            LOAD,
             Instr::ReturnValue,
         ]),
     }
@@ -214,10 +221,14 @@ fn main_unit(alloc: Global, tac: &Tac) -> Result<Unit, AllocError>
 /// The instructions of a program's functions, function 0 being `start`.
 pub fn emit(alloc: Global, tac: &Tac) -> Result<Units, AllocError>
     requires { FitsFrame tac.now }
-    ensures { IfOk result (λ units. unit_functions units ≡ functions_of tac.now) }
+    ensures functions { IfOk result (λ units. unit_functions units ≡ functions_of tac.now) }
+    ensures ranges { IfOk result (λ units. AllByRecursion (IsFunction 0 2) (unit_functions units)) }
 {
     let mut functions = Vec::new(alloc);
     functions.push(start(alloc)?)?;
     functions.push(main_unit(alloc, tac)?)?;
     Ok(Units { functions })
 }
+
+#[cfg(test)]
+mod tests;

@@ -1,6 +1,6 @@
-use Rattle.std.proofs.Common.{◌≡◌, ◌-◌, ◌<◌, ap, ◌∙◌, length, arith}
-use Rattle.stack_code.specs.Emission.{op_code, successor_of, way_to}
-use Rattle.stack_code.proofs.Places.{behind, behind-before, behind-fits}
+use Rattle.std.proofs.Common.{◌-◌, ap, ◌∙◌, length, arith}
+use Rattle.stack_code.specs.Emission.{way_to}
+use Rattle.stack_code.proofs.Places.{behind-before, behind-fits}
 use Rattle.stack_code.proofs.emission.places.Goals as goal
 
 pub overflow_add-place-in-loop-number : goal.overflow_add-place-in-loop-number
