@@ -16,6 +16,7 @@ use Rattle.tac_ir.specs.declared.Op.TheVariants as O
 use Rattle.tac_ir.specs.declared.Tac.{Tac}
 use Rattle.tac_ir.specs.Meaning.{State, execute, lost, write, read, act, initial, tac_run}
 use Rattle.stack_code.specs.Emission.{op_code, successor_of, way_to, block, place_of, function_code, functions_of}
+use Rattle.stack_code.specs.Laws.{EmissionFollowsCode}
 use Rattle.stack_code.proofs.Words.{word, word-byte, word-pos_byte, input_word-next}
 use Rattle.stack_code.proofs.Frames.{zero_frame}
 use Rattle.stack_code.proofs.Places.{StandsAt, block_stands, opening_stands, place_of-falls, place_of-entry}
@@ -196,3 +197,7 @@ module _ (tac : Tac) where
           let from = begins in
           let simulates = locked_from (act points) (λ state. state.trace) step (λ state. state.trace) Related 8 in_step (initial tac input) (stand_in (initial tac input)) (machine.initial (functions_of tac) input) from.0 from.2 (refl, length-replicate tac.main.registers (pos 0)) in
           simulates_within (tac_run tac input) (machine.mach (functions_of tac) input) 8 from.0 8 2 (λ n. omega (arith, from.1)) simulates
+
+-- the law, over all code and input
+pub emission_follows : EmissionFollowsCode
+emission_follows tac input fits = follows_code tac fits.registers input

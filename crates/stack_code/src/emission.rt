@@ -218,7 +218,7 @@ fn main_unit(alloc: Global, tac: &Tac) -> Result<Unit, AllocError>
     })
 }
 
-/// The instructions of a program's functions, function 0 being `start`.
+/// The instructions of a program's functions, function 0 being `start`, in time linear in the points.
 pub fn emit(alloc: Global, tac: &Tac) -> Result<Units, AllocError>
     requires { FitsFrame tac.now }
     ensures functions { IfOk result (λ units. unit_functions units ≡ functions_of tac.now) }
