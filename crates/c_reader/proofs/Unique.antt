@@ -25,7 +25,7 @@ expr_unique (Parenthesized a) (Parenthesized b) x y h =
 expr_unique a b x y h = cc
 
 -- the tokens that begin an expression
-abbrev MayBegin : Lexeme → Type 0
+abbrev pub MayBegin : Lexeme → Type 0
 MayBegin (L.Decimal value) = Unit {0}
 MayBegin (L.Character byte) = Unit {0}
 MayBegin L.EndOfFile = Unit {0}
@@ -34,7 +34,7 @@ MayBegin L.PutChar = Unit {0}
 MayBegin L.OpenParenthesis = Unit {0}
 MayBegin token = ⊥
 
-expr_begins : (a : ExprTree) (x : List Lexeme) (token : Lexeme) (y : List Lexeme) → expr_leaves a ++ x ≡ token ∷ y → MayBegin token
+pub expr_begins : (a : ExprTree) (x : List Lexeme) (token : Lexeme) (y : List Lexeme) → expr_leaves a ++ x ≡ token ∷ y → MayBegin token
 expr_begins (Decimal value) x token y h = let same : L.Decimal value ≡ token = cc in subst MayBegin same tt
 expr_begins (Character byte) x token y h = let same : L.Character byte ≡ token = cc in subst MayBegin same tt
 expr_begins EndOfFile x token y h = let same : L.EndOfFile ≡ token = cc in subst MayBegin same tt
