@@ -112,6 +112,6 @@ one_more room done stmt all tokens rest found next =
     }
 
 -- A program whose leaves these are has the body that was found, and nothing but the end of the text behind it.
-pub same_body : (program : ProgramTree) (all tokens : List Lexeme) (body : List StmtTree) (rest : List Lexeme) → Parses all program → all ≡ L.Int ∷ L.Main ∷ L.OpenParenthesis ∷ L.Void ∷ L.CloseParenthesis ∷ L.OpenBrace ∷ tokens → BeginsBody 199 tokens body (L.CloseBrace ∷ rest) → (body ≡ program.body) × (rest ≡ L.EndOfText ∷ [])
-same_body program all tokens body rest parses e found =
+pub same_body : (room : ℕ) (program : ProgramTree) (all tokens : List Lexeme) (body : List StmtTree) (rest : List Lexeme) → Parses all program → all ≡ L.Int ∷ L.Main ∷ L.OpenParenthesis ∷ L.Void ∷ L.CloseParenthesis ∷ L.OpenBrace ∷ tokens → BeginsBody room tokens body (L.CloseBrace ∷ rest) → (body ≡ program.body) × (rest ≡ L.EndOfText ∷ [])
+same_body room program all tokens body rest parses e found =
     body_unique body program.body rest (L.EndOfText ∷ []) (let behind : tokens ≡ body_leaves program.body ++ L.CloseBrace ∷ L.EndOfText ∷ [] = cc (e, parses.leaves) in sym found.leaves_then_rest ∙ behind)

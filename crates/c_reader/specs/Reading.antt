@@ -1,11 +1,13 @@
 -- What the parts of the reader answer: a tree whose leaves the tokens begin with, or that they begin with the leaves
 -- of none. The room is how deep a tree may still nest.
-use Rattle.std.specs.Prelude.{◌≡◌, ◌≢◌, ℕ, ◌≤◌, List, ◌∷◌, ◌++◌, map, Result, Ok, Err}
+use Rattle.std.specs.Prelude.{◌≡◌, ◌≢◌, ℕ, ◌≤◌, List, [], ◌∷◌, ◌++◌, map, Result, Ok, Err}
 use Rattle.c_ast.specs.Trees.{ExprTree, StmtTree, ProgramTree, program_tree, stmt_tree}
 use Rattle.c_ast.specs.declared.Program.{Program}
 use Rattle.c_ast.specs.declared.Stmt.{Stmt}
 use Rattle.c_lexer.specs.declared.token.Lexeme.{Lexeme}
 use Rattle.c_lexer.specs.declared.token.Lexeme.TheVariants as L
+use Rattle.c_lexer.specs.declared.token.Token.{Token}
+use Rattle.run_theory.specs.declared.ends.Pos.{Pos}
 use Rattle.c_reader.specs.declared.syntax_err.SyntaxErr.{SyntaxErr}
 use Rattle.c_reader.specs.declared.syntax_err.SyntaxErr.TheVariants as S
 use Rattle.c_reader.specs.Grammar.{expr_leaves, stmt_leaves, body_leaves, expr_height, stmt_height, body_height}
@@ -44,6 +46,11 @@ BeginsNoStmt room tokens = (stmt : StmtTree) (rest : List Lexeme) → BeginsStmt
 
 abbrev pub BeginsNoBodyThen : Lexeme → ℕ → List Lexeme → Type 0
 BeginsNoBodyThen end room tokens = (body : List StmtTree) (rest : List Lexeme) → BeginsBody room tokens body (end ∷ rest) → ⊥
+
+-- where the first token stands, or the start of the text
+abbrev pub front_place : List Token → Pos
+front_place [] = record { line = 1; column = 1 }
+front_place (token ∷ tokens) = token.place
 
 -- The claim holds where the refusal is not that memory ran out.
 abbrev pub UnlessMemory : SyntaxErr → Type 0 → Type 0

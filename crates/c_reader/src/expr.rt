@@ -63,10 +63,11 @@ pub fn read_expr_then(
     Ok((expr, rest))
 }
 
-/// The room below a node that has others under it, and where it stands.
+/// The room below a node at this place that has others under it.
 fn room_below(room: u32, place: Pos) -> Result<u32, SyntaxErr>
     ensures found { IfOk result (λ below. (0 < below) × (below + 1 ≡ room)) }
     ensures none { OnErr result (room < 2) }
+    ensures deep { IfErr result (λ fault. fault ≡ SyntaxErr.TooDeep place) }
 {
     if room < 2 {
         return Err(SyntaxErr::TooDeep(place));

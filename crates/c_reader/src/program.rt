@@ -12,6 +12,9 @@ use c_ast::{Program, Stmt};
 use c_lexer::{Lexeme, Token};
 use std::alloc::Global;
 
+#[cfg(test)]
+mod tests;
+
 /// How deep the nodes of a program may nest.
 const NESTING: u32 = 200;
 

@@ -3,13 +3,16 @@
 ghost use Rattle.std.specs.Prelude.{◌≡◌, List, ◌∷◌, ◌++◌, IfOk, OnErr};
 ghost use Rattle.c_lexer.specs.declared.token.Lexeme.{Lexeme};
 ghost use Rattle.c_reader.specs.Grammar.{lexemes_of};
+ghost use Rattle.c_reader.specs.Reading.{front_place};
 
 use crate::SyntaxErr;
 use c_lexer::{Lexeme, Token};
 use run_theory::Pos;
 
-/// The refusal at the first of the tokens.
-pub fn misfit(tokens: &[Token]) -> SyntaxErr {
+/// The refusal at the first of the tokens, or at the start of the text where there is none.
+pub fn misfit(tokens: &[Token]) -> SyntaxErr
+    ensures { result ≡ SyntaxErr.At (front_place tokens.now) }
+{
     match tokens.first() {
         Some(token) => SyntaxErr::At(token.place),
         None => SyntaxErr::At(Pos { line: 1, column: 1 }),
