@@ -1,16 +1,14 @@
 -- What stands at the front of tokens that begin with no tree.
-use Rattle.std.proofs.Common.{◌≡◌, ◌≢◌, ℕ, ◌+◌, ◌-◌, ◌<◌, ◌≤◌, List, [], ◌∷◌, ◌++◌, Result, Ok, Err, IfErr, false, length, sym, ap, refl, ◌∙◌, arith, append_assoc}
+use Rattle.std.proofs.Common.{◌≡◌, ◌≢◌, ℕ, ◌+◌, ◌-◌, ◌≤◌, List, [], ◌∷◌, ◌++◌, Result, Ok, Err, IfErr, false, length, sym, ap, refl, ◌∙◌, arith, append_assoc}
 use Rattle.std.specs.Prelude.{◌==◌}
 use Rattle.std.specs.Result.{IsErrAnd}
 use Rattle.c_ast.specs.Trees.{ExprTree, Decimal, Character, EndOfFile, GetChar, PutChar, Parenthesized, StmtTree, Empty, Expression, Return, ProgramTree}
-use Rattle.c_ast.specs.declared.Program.{Program}
 use Rattle.c_lexer.specs.declared.token.Lexeme.{Lexeme}
 use Rattle.c_lexer.specs.declared.token.Lexeme.TheVariants as L
 use Rattle.c_lexer.specs.declared.token.Token.{Token}
 use Rattle.c_reader.specs.declared.syntax_err.SyntaxErr.{SyntaxErr}
-use Rattle.c_reader.specs.declared.syntax_err.SyntaxErr.TheVariants as S
 use Rattle.c_reader.specs.Grammar.{Parses, lexemes_of, expr_leaves, stmt_leaves, body_leaves, expr_height, stmt_height, body_height}
-use Rattle.c_reader.specs.Reading.{IsReadUnlessMemory, BeginsExpr, BeginsStmt, BeginsBody, BeginsNoExpr, BeginsNoExprThen, BeginsNoStmt, BeginsNoBodyThen, UnlessMemory}
+use Rattle.c_reader.specs.Reading.{BeginsExpr, BeginsStmt, BeginsBody, BeginsNoExpr, BeginsNoExprThen, BeginsNoStmt, BeginsNoBodyThen, UnlessMemory}
 use Rattle.c_reader.proofs.Unique.{regroup, expr_unique, expr_begins, stmt_unique, stmt_no_brace, body_unique}
 
 pub height_positive : (a : ExprTree) → 1 ≤ expr_height a

@@ -1,9 +1,9 @@
 -- Unique readability: no tree's leaves begin with another's.
 use Rattle.std.proofs.Common.{◌≡◌, List, [], ◌∷◌, ◌++◌, ap, sym, refl, ◌∙◌, subst, append_assoc}
-use Rattle.c_ast.specs.Trees.{ExprTree, Decimal, Character, EndOfFile, GetChar, PutChar, Parenthesized, StmtTree, Empty, Expression, Return}
+use Rattle.c_ast.specs.Trees.{ExprTree, Decimal, Character, EndOfFile, GetChar, PutChar, Parenthesized, StmtTree, Empty, Expression, Return, ProgramTree}
 use Rattle.c_lexer.specs.declared.token.Lexeme.{Lexeme}
 use Rattle.c_lexer.specs.declared.token.Lexeme.TheVariants as L
-use Rattle.c_reader.specs.Grammar.{expr_leaves, stmt_leaves, body_leaves}
+use Rattle.c_reader.specs.Grammar.{Parses, expr_leaves, stmt_leaves, body_leaves}
 
 -- what stands behind a last token
 pub regroup : (xs : List Lexeme) (end : Lexeme) (ys : List Lexeme) → (xs ++ end ∷ []) ++ ys ≡ xs ++ end ∷ ys
@@ -68,3 +68,10 @@ body_unique (s ∷ a) (t ∷ b) x y h =
     let first = stmt_unique s t (body_leaves a ++ L.CloseBrace ∷ x) (body_leaves b ++ L.CloseBrace ∷ y) (sym (append_assoc (stmt_leaves s) (body_leaves a) _) ∙ h ∙ append_assoc (stmt_leaves t) (body_leaves b) _) in
     let rest = body_unique a b x y first.1 in
     (cc, rest.1)
+
+-- No tokens are the leaves of two programs.
+pub program_unique : (tokens : List Lexeme) (a b : ProgramTree) → Parses tokens a → Parses tokens b → a ≡ b
+program_unique tokens a b parses others =
+    let bodies : body_leaves a.body ++ L.CloseBrace ∷ L.EndOfText ∷ [] ≡ body_leaves b.body ++ L.CloseBrace ∷ L.EndOfText ∷ [] = cc (parses.leaves, others.leaves) in
+    let tree : List StmtTree → ProgramTree = λ body. record { body = body } in
+    ap tree (body_unique a.body b.body _ _ bodies).0

@@ -1,11 +1,9 @@
 -- What the parts of the reader answer: a tree whose leaves the tokens begin with, or that they begin with the leaves
 -- of none. The room is how deep a tree may still nest.
-use Rattle.std.specs.Prelude.{◌≡◌, ◌≢◌, ℕ, ◌≤◌, List, [], ◌∷◌, ◌++◌, map, Result, Ok, Err}
-use Rattle.c_ast.specs.Trees.{ExprTree, StmtTree, ProgramTree, program_tree, stmt_tree}
+use Rattle.std.specs.Prelude.{◌≡◌, ◌≢◌, ℕ, ◌≤◌, List, [], ◌∷◌, ◌++◌, Result, Ok, Err}
+use Rattle.c_ast.specs.Trees.{ExprTree, StmtTree, ProgramTree, program_tree}
 use Rattle.c_ast.specs.declared.Program.{Program}
-use Rattle.c_ast.specs.declared.Stmt.{Stmt}
 use Rattle.c_lexer.specs.declared.token.Lexeme.{Lexeme}
-use Rattle.c_lexer.specs.declared.token.Lexeme.TheVariants as L
 use Rattle.c_lexer.specs.declared.token.Token.{Token}
 use Rattle.run_theory.specs.declared.ends.Pos.{Pos}
 use Rattle.c_reader.specs.declared.syntax_err.SyntaxErr.{SyntaxErr}

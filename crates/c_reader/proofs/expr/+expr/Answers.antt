@@ -1,6 +1,5 @@
-use Rattle.std.proofs.Common.{◌≡◌, ◌≤◌, ◌<◌, ◌+◌, ◌∷◌, arith, ap, rules}
+use Rattle.std.proofs.Common.{arith, rules}
 use Rattle.c_reader.specs.Grammar.{lexemes_of}
-use Rattle.c_lexer.specs.declared.token.Lexeme.TheVariants as L
 use Rattle.c_reader.proofs.Refusals.{no_lexemes, no_get_char, no_put_char, no_parenthesis, no_other, no_empty, no_end, refused, passed_on}
 use Rattle.c_reader.proofs.expr.+expr.Goals as goal
 

@@ -1,4 +1,4 @@
-use Rattle.std.proofs.Common.{List, ap, sym, arith, ◌∙◌}
+use Rattle.std.proofs.Common.{List, ap, sym, ◌∙◌}
 use Rattle.c_ast.specs.Trees.{StmtTree, ProgramTree}
 use Rattle.c_reader.specs.Grammar.{lexemes_of}
 use Rattle.c_reader.proofs.Refusals.{same_body, nothing_left}

@@ -1,8 +1,7 @@
-use Rattle.std.proofs.Common.{rules, map, subst, sym, ◌∙◌, ◌++◌, ◌∷◌, [], ap, List}
+use Rattle.std.proofs.Common.{map}
 use Rattle.std.proofs.lemmas.List.{map-append}
-use Rattle.c_ast.specs.Trees.{stmt_tree, StmtTree}
+use Rattle.c_ast.specs.Trees.{stmt_tree}
 use Rattle.c_reader.specs.Grammar.{lexemes_of}
-use Rattle.c_reader.specs.Reading.{BeginsBody}
 use Rattle.c_reader.proofs.Refusals.{no_body, one_more, passed_on}
 use Rattle.c_reader.proofs.program.read_body.Goals as goal
 

@@ -1,6 +1,6 @@
-use Rattle.std.proofs.Common.{◌≡◌, List, ◌++◌, ◌≤◌, length, map}
+use Rattle.std.proofs.Common.{length, map}
 use Rattle.c_ast.specs.Trees.{stmt_tree}
-use Rattle.c_reader.specs.Grammar.{lexemes_of, body_leaves, body_height}
+use Rattle.c_reader.specs.Grammar.{lexemes_of}
 use Rattle.c_reader.specs.Reading.{BeginsBody}
 use Rattle.c_reader.proofs.program.read_body.Given as goal
 
