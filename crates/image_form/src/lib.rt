@@ -2,5 +2,7 @@
 #![tactic(auto)]
 
 mod image;
+mod writing;
 
 pub use image::{Function, Globals, Image, ImageErr, MachineLimits, PoolKind};
+pub use writing::to_bytes;
