@@ -2,6 +2,7 @@
 #![tactic(auto)]
 
 mod image;
+mod reading;
 mod writing;
 
 pub use image::{Function, Globals, Image, ImageErr, MachineLimits, PoolKind};
