@@ -3,3 +3,4 @@ mod Frames
 mod Places
 mod Steps
 mod Simulation
+pub mod Ranges

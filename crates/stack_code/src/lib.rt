@@ -4,4 +4,7 @@
 //! leads from a point to its successor unless that one is laid out next.
 #![tactic(auto)]
 
+mod emission;
 pub mod laws;
+
+pub use emission::{Unit, Units, emit};

@@ -1,0 +1,12 @@
+use Rattle.std.proofs.Common.{map, drop}
+use Rattle.run_theory.specs.Runs.{IsPrefix}
+use Rattle.c_ast.specs.Trees.{stmt_tree}
+use Rattle.tac_build.specs.Code.{BodyCode}
+use Rattle.tac_build.proofs.lowering.Builder.body.Given as goal
+
+-- the code of the statements from the index on
+abbrev pub invariant-loop-index : goal.invariant-loop-index
+invariant-loop-index l = record {
+  stands : IsPrefix l.fn.self.points.items l.self.points.items;
+  code : BodyCode l.self.points.items (map stmt_tree (drop l.index l.stmts)) l.entry.0 l.fn.next.0;
+}
