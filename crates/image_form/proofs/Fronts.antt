@@ -6,6 +6,8 @@ use Rattle.std.proofs.lemmas.Grind.{flat_map-append}
 use Rattle.pool_isa.specs.Spelling.{StandsAt}
 use Rattle.std.specs.Prelude.{Err, Some, slice_get, ◌-◌}
 use Rattle.pool_isa.specs.Ranges.{LastIs}
+use Rattle.pool_isa.specs.Number.{number_bytes}
+use Rattle.pool_isa.proofs.Numbers.{same_number}
 use Rattle.image_form.specs.declared.image.ImageErr.{ImageErr}
 use Rattle.image_form.specs.declared.image.ImageErr.TheVariants.{Bad, OutOfMemory}
 use Rattle.image_form.specs.Reading.{BeginsAll, Finds}
@@ -60,6 +62,17 @@ module _ {X : Type 0} (bytes_of : X → List ℕ) (IsItem : X → Type 0) (free 
           let each = others_are found (x ∷ others) (subst (AllByRecursion IsItem) same is.1) in
           none x (flat_map bytes_of others ++ rest) each.0 (left ∙ append_assoc (bytes_of x) (flat_map bytes_of others) rest)
 
+  -- as many items with the same bytes are the same
+  pub same_items : (xs ys : List X) (x y : List ℕ) → length xs ≡ length ys → flat_map bytes_of xs ++ x ≡ flat_map bytes_of ys ++ y → (xs ≡ ys) × (x ≡ y)
+  same_items [] [] x y many e = (refl, e)
+  same_items [] (b ∷ ys) x y many e = absurd (omega arith)
+  same_items (a ∷ xs) [] x y many e = absurd (omega arith)
+  same_items (a ∷ xs) (b ∷ ys) x y many e =
+      let first = free a b (flat_map bytes_of xs ++ x) (flat_map bytes_of ys ++ y) (sym (append_assoc (bytes_of a) (flat_map bytes_of xs) x) ∙ e ∙ append_assoc (bytes_of b) (flat_map bytes_of ys) y) in
+      let rest = same_items xs ys x y (omega arith) first.1 in
+      let one : a ∷ xs ≡ b ∷ ys = let f = first.0 in let r = rest.0 in cc in
+      (one, rest.1)
+
   -- a refusal of an item is one of the items
   pub items_refused : {T U : Type 0} (view : T → X) (views : U → List X) (count : ℕ) (bytes : List ℕ) (at here : ℕ) (found : List X) (fault : ImageErr) → length found < count → BeginsAll IsItem bytes_of count bytes at found here → Finds IsItem bytes_of view bytes here (Err fault) → Finds (λ items. (length items ≡ count) × AllByRecursion IsItem items) (flat_map bytes_of) views bytes at (Err fault)
   items_refused view views count bytes at here found (Bad place) fewer begins none = none_begin count bytes at here found fewer begins none
@@ -72,3 +85,15 @@ last_is P (a ∷ []) x e = let same : x ≡ a = cc in (λ p. subst P same p, λ 
 last_is P (a ∷ b ∷ xs) x e =
     let place : length (a ∷ b ∷ xs) - 1 ≡ suc (length (b ∷ xs) - 1) = omega arith in
     last_is P (b ∷ xs) x (e ∙ ap (slice_get (a ∷ b ∷ xs)) place)
+
+-- the number that stands at a place is the one, and what follows it stands behind
+pub number_there : (bytes : List ℕ) (at mid m n : ℕ) (tail : List ℕ) → StandsAt bytes at mid (number_bytes m) → drop at bytes ≡ number_bytes n ++ tail → (m ≡ n) × (drop mid bytes ≡ tail)
+number_there bytes at mid m n tail stands front = same_number m n (drop mid bytes) tail (sym stands.parts ∙ front)
+
+-- A field whose bytes begin with some that stand nowhere doesn't stand, whatever memory did.
+pub refused_by : {T U V W : Type 0} (IsField : V → Type 0) (bytes_of : V → List ℕ) (view : T → V) (IsWhole : W → Type 0) (whole_bytes : W → List ℕ) (whole_view : U → W) (bytes : List ℕ) (at here : ℕ) (fault : ImageErr)
+    → ((whole : W) (rest : List ℕ) → IsWhole whole → drop at bytes ≡ whole_bytes whole ++ rest → (field : V) × (tail : List ℕ) × IsField field × (drop here bytes ≡ bytes_of field ++ tail))
+    → Finds IsField bytes_of view bytes here (Err fault) → Finds IsWhole whole_bytes whole_view bytes at (Err fault)
+refused_by IsField bytes_of view IsWhole whole_bytes whole_view bytes at here (Bad place) part none =
+    λ whole rest is front. let p = part whole rest is front in none p.0 p.1 p.2 p.3
+refused_by IsField bytes_of view IsWhole whole_bytes whole_view bytes at here OutOfMemory part none = tt

@@ -54,25 +54,19 @@ abbrev pub image_bytes : Form → List ℕ
 image_bytes form =
     header_bytes form ++ (contents_bytes form.contents ++ (counted kind_bytes form.kinds ++ counted function_bytes form.functions))
 
--- the data end with a byte that isn't 0
-abbrev pub IsTrimmed : List ℕ → Type 0
-IsTrimmed [] = Unit {0}
-IsTrimmed (byte ∷ []) = byte ≢ 0
-IsTrimmed (byte ∷ next ∷ bytes) = IsTrimmed (next ∷ bytes)
-
 -- function 0 is `start`, and has no parameters
 abbrev pub BeginsWithStart : List machine.Function → Type 0
 BeginsWithStart [] = ⊥
 BeginsWithStart (start ∷ functions) = start.parameters ≡ 0
 
--- the fields are in their ranges; no form of the language needs a pool yet, so that no kind of pool is there
+-- The fields are in their ranges. No form of the language needs globals or pools yet, so that no first contents and
+-- no kind of pool is there.
 pub record IsImage (form : Form) : Type 0 where
   pub version : form.version ≡ 1
   pub slabs : IsWithin 1 1048576 form.limits.slabs
   pub index : IsWithin 1 4294967295 form.limits.index
   pub globals : form.globals ≤ 1073741824
-  pub fits : length form.contents ≤ form.globals
-  pub trimmed : IsTrimmed form.contents
+  pub contents : form.contents ≡ []
   pub kinds : form.kinds ≡ []
   pub functions : length form.functions ≤ 4097
   pub each_function : AllByRecursion (IsFunction 0 (length form.functions)) form.functions

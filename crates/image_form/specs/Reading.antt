@@ -1,5 +1,5 @@
 -- What the readers of an image's fields answer.
-use Rattle.std.specs.Prelude.{◌≡◌, ℕ, ◌<◌, ◌≤◌, ◌^◌, IsTrue, List, ◌++◌, length, drop, Result, Ok, Err, Vec}
+use Rattle.std.specs.Prelude.{◌≡◌, ℕ, ◌<◌, ◌≤◌, ◌^◌, IsTrue, List, [], ◌∷◌, ◌++◌, length, map, drop, Result, Ok, Err, Vec}
 use Rattle.std.specs.declared.alloc.Global.{Global}
 use Rattle.std.specs.List.{AllByRecursion, flat_map}
 use Rattle.pool_isa.specs.declared.instr.Instr.{Instr}
@@ -9,9 +9,11 @@ use Rattle.pool_isa.specs.Spelling.{StandsAt}
 use Rattle.pool_isa.specs.Machine as machine
 use Rattle.pool_isa.specs.Ranges.{IsWithin, InRange, is_last, LastIs, IsFunction}
 use Rattle.image_form.specs.declared.reading.Head.{Head}
+use Rattle.image_form.specs.declared.reading.Header.{Header}
+use Rattle.image_form.specs.declared.image.Function.{Function}
 use Rattle.image_form.specs.declared.image.ImageErr.{ImageErr}
 use Rattle.image_form.specs.declared.image.ImageErr.TheVariants.{Bad, OutOfMemory}
-use Rattle.image_form.specs.Form.{Form, function_bytes, counted, ImageOf}
+use Rattle.image_form.specs.Form.{Form, function_of, function_bytes, counted, ImageOf}
 
 -- A reader of a field, asked at a place: what it finds is such a field, whose bytes stand there up to the place behind
 -- them; where it refuses, the bytes of no such field do. Nothing is said where memory ran out.
@@ -48,6 +50,17 @@ instrs_of code = code.items
 abbrev pub code_bytes : List Instr → List ℕ
 code_bytes code = flat_map spelling code
 
+-- the numbers of an image behind its first bytes: the limits and the bytes of globals
+abbrev pub IsHeader : Header → Type 0
+IsHeader header = IsWithin 1 1048576 header.slabs × IsWithin 1 4294967295 header.index × IsWithin 0 1073741824 header.size
+
+-- P A I M, version 1, and these numbers
+abbrev pub opening_bytes : Header → List ℕ
+opening_bytes header = 80 ∷ 65 ∷ 73 ∷ 77 ∷ 1 ∷ (number_bytes header.slabs ++ (number_bytes header.index ++ number_bytes header.size))
+
+abbrev pub header_of : Form → Header
+header_of form = record { slabs = form.limits.slabs; index = form.limits.index; size = form.globals }
+
 -- the numbers of a function: what it is without its instructions, and how many these are
 abbrev pub IsHead : Head → Type 0
 IsHead head =
@@ -57,8 +70,20 @@ abbrev pub head_bytes : Head → List ℕ
 head_bytes head =
     number_bytes head.parameters ++ (number_bytes head.extra ++ (number_bytes head.height ++ (number_bytes head.signature ++ number_bytes head.count)))
 
+-- the numbers of a function, and the function of numbers and instructions
+abbrev pub head_of : machine.Function → Head
+head_of function =
+    record { parameters = function.parameters; extra = function.extra; height = function.height; signature = function.signature; count = length function.code }
+
+abbrev pub function_with : Head → List Instr → machine.Function
+function_with head code =
+    record { parameters = head.parameters; extra = head.extra; height = head.height; signature = head.signature; code = code }
+
 abbrev pub IsFunctions : ℕ → List machine.Function → Type 0
 IsFunctions count functions = (length functions ≡ count) × AllByRecursion (IsFunction 0 count) functions
+
+abbrev pub functions_of : Vec Function Global → List machine.Function
+functions_of functions = map function_of functions.items
 
 abbrev pub functions_bytes : List machine.Function → List ℕ
 functions_bytes functions = flat_map function_bytes functions

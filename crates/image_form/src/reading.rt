@@ -1,11 +1,12 @@
 // An image from its bytes.
 
-ghost use Rattle.std.specs.Prelude.{◌≡◌, ℕ, ◌≤◌, ◌<◌, ◌^◌, List, length, drop, map, IfOk, IsTrue, ◌↔◌};
+ghost use Rattle.std.specs.Prelude.{◌≡◌, ℕ, ◌≤◌, ◌<◌, ◌^◌, List, [], ◌∷◌, length, drop, map, IfOk, IfErr, IsTrue, ◌↔◌};
 ghost use Rattle.pool_isa.specs.Ranges.{IsWithin, InRange, is_last, LastIs, IsFunction};
 ghost use Rattle.pool_isa.specs.Number.{number_bytes};
+ghost use Rattle.pool_isa.specs.Spelling.{StandsAt};
 ghost use Rattle.pool_isa.specs.Instr.{spelling};
 ghost use Rattle.image_form.specs.Form.{Form, form_of, function_of, function_bytes, ImageOf};
-ghost use Rattle.image_form.specs.Reading.{Finds, IsInstr, IsInstrs, IsCode, instrs_of, code_bytes, IsHead, head_bytes, IsFunctions, functions_bytes, IsDecodedUnlessMemory};
+ghost use Rattle.image_form.specs.Reading.{Finds, IsInstr, IsInstrs, IsCode, instrs_of, code_bytes, IsHeader, opening_bytes, IsHead, head_bytes, function_with, functions_of, IsFunctions, functions_bytes, IsDecodedUnlessMemory};
 
 use crate::image::{Function, Globals, Image, ImageErr, MachineLimits};
 use pool_isa::{BadInstr, BadNumber, Instr, decode_number, decode_one};
@@ -101,7 +102,22 @@ struct Head {
     extra: u32,
     height: u32,
     signature: u32,
-    count: u32,
+    count: u64,
+}
+
+impl Head {
+    // The function of these numbers and instructions.
+    fn with(self, code: Vec<Instr>) -> Function
+        ensures { function_of result ≡ function_with self code.items }
+    {
+        Function {
+            parameters: self.parameters,
+            extra: self.extra,
+            height: self.height,
+            signature: self.signature,
+            code,
+        }
+    }
 }
 
 fn small_number(bytes: &[u8], at: usize, low: u32, high: u32) -> Result<(u32, usize), ImageErr>
@@ -134,9 +150,106 @@ fn read_head(bytes: &[u8], at: usize) -> Result<(Head, usize), ImageErr>
         Ok(found) => found,
         Err(fault) => return Err(fault),
     };
-    let (count, at) = match small_number(bytes, at, 1, u32::MAX) {
+    let (count, at) = match number_within(bytes, at, 1, 4_294_967_295) {
         Ok(found) => found,
         Err(fault) => return Err(fault),
     };
     Ok((Head { parameters, extra, height, signature, count }, at))
+}
+
+// The instructions of a function, of which control doesn't fall through the last.
+fn code(alloc: Global, bytes: &[u8], at: usize, functions: u64, count: u64) -> Result<(Vec<Instr>, usize), ImageErr>
+    requires { at ≤ length bytes.now }
+    ensures { Finds (IsCode functions count) code_bytes instrs_of bytes.now at result }
+{
+    match instrs(alloc, bytes, at, functions, count) {
+        Ok((code, end)) => {
+            if ends_well(&code) {
+                Ok((code, end))
+            } else {
+                Err(ImageErr::Bad(end.saturating_sub(1)))
+            }
+        }
+        Err(fault) => Err(fault),
+    }
+}
+
+// A function, in an image of so many.
+fn function(alloc: Global, bytes: &[u8], at: usize, functions: u64) -> Result<(Function, usize), ImageErr>
+    requires { at ≤ length bytes.now }
+    ensures { Finds (IsFunction 0 functions) function_bytes function_of bytes.now at result }
+{
+    let (head, at) = match read_head(bytes, at) {
+        Ok(found) => found,
+        Err(fault) => return Err(fault),
+    };
+    match code(alloc, bytes, at, functions, head.count) {
+        Ok((code, end)) => Ok((head.with(code), end)),
+        Err(fault) => Err(fault),
+    }
+}
+
+// So many functions.
+fn functions(alloc: Global, bytes: &[u8], at: usize, count: u64) -> Result<(Vec<Function>, usize), ImageErr>
+    requires { at ≤ length bytes.now }
+    ensures { Finds (IsFunctions count) functions_bytes functions_of bytes.now at result }
+{
+    let mut functions = Vec::new(alloc);
+    let mut here = at;
+    for index in 0..count {
+        let (next, end) = match function(alloc, bytes, here, count) {
+            Ok(found) => found,
+            Err(fault) => return Err(fault),
+        };
+        match functions.push(next) {
+            Ok(()) => here = end,
+            Err(_) => return Err(ImageErr::OutOfMemory),
+        }
+    }
+    Ok((functions, here))
+}
+
+// The numbers of an image behind its first bytes: the limits and the bytes of globals.
+#[derive(Clone, Copy)]
+struct Header {
+    slabs: u32,
+    index: u32,
+    size: u32,
+}
+
+// The place behind the first bytes, which are the same in every image of version 1.
+fn first_bytes(bytes: &[u8]) -> Result<usize, ImageErr>
+    ensures found { IfOk result (λ end. StandsAt bytes.now 0 end (80 ∷ 65 ∷ 73 ∷ 77 ∷ 1 ∷ [])) }
+    ensures none { IfErr result (λ _. (rest : List ℕ) → bytes.now ≡ 80 ∷ 65 ∷ 73 ∷ 77 ∷ 1 ∷ rest → ⊥) }
+{
+    match bytes {
+        [80, 65, 73, 77, 1, ..] => Ok(5),
+        [80, 65, 73, 77, ..] => Err(ImageErr::Bad(4)),
+        [80, 65, 73, ..] => Err(ImageErr::Bad(3)),
+        [80, 65, ..] => Err(ImageErr::Bad(2)),
+        [80, ..] => Err(ImageErr::Bad(1)),
+        _ => Err(ImageErr::Bad(0)),
+    }
+}
+
+fn read_header(bytes: &[u8]) -> Result<(Header, usize), ImageErr>
+    ensures { Finds IsHeader opening_bytes (λ header. header) bytes.now 0 result }
+{
+    let at = match first_bytes(bytes) {
+        Ok(end) => end,
+        Err(fault) => return Err(fault),
+    };
+    let (slabs, at) = match small_number(bytes, at, 1, 1_048_576) {
+        Ok(found) => found,
+        Err(fault) => return Err(fault),
+    };
+    let (index, at) = match small_number(bytes, at, 1, u32::MAX) {
+        Ok(found) => found,
+        Err(fault) => return Err(fault),
+    };
+    let (size, at) = match small_number(bytes, at, 0, 1_073_741_824) {
+        Ok(found) => found,
+        Err(fault) => return Err(fault),
+    };
+    Ok((Header { slabs, index, size }, at))
 }
