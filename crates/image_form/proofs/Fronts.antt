@@ -1,5 +1,5 @@
 -- Items that stand one behind another.
-use Rattle.std.proofs.Common.{◌≡◌, ℕ, ◌+◌, ◌<◌, ◌≤◌, List, [], ◌∷◌, ◌++◌, zero, suc, length, drop, refl, sym, ap, subst, ◌∙◌, arith, append_assoc}
+use Rattle.std.proofs.Common.{◌≡◌, ℕ, ◌<◌, ◌≤◌, List, [], ◌∷◌, ◌++◌, suc, length, drop, refl, sym, ap, subst, ◌∙◌, arith, append_assoc}
 use Rattle.std.specs.List.{AllByRecursion, flat_map}
 use Rattle.std.proofs.lemmas.List.{length-append, append-nil}
 use Rattle.std.proofs.lemmas.Grind.{flat_map-append}
@@ -24,7 +24,6 @@ pub stands_nowhere : (bytes : List ℕ) (at : ℕ) → at ≤ length bytes → S
 stands_nowhere bytes at within = record { parts = refl; end_is = omega arith; within = within }
 
 module _ {X : Type 0} (bytes_of : X → List ℕ) (IsItem : X → Type 0) (free : (a b : X) (x y : List ℕ) → bytes_of a ++ x ≡ bytes_of b ++ y → (a ≡ b) × (x ≡ y)) where
-
   -- one more item behind those that stand
   pub one_more_stands : (bytes : List ℕ) (at here end : ℕ) (found : List X) (next : X) → StandsAt bytes at here (flat_map bytes_of found) → StandsAt bytes here end (bytes_of next) → StandsAt bytes at end (flat_map bytes_of (found ++ next ∷ []))
   one_more_stands bytes at here end found next first second =
@@ -56,6 +55,7 @@ module _ {X : Type 0} (bytes_of : X → List ℕ) (IsItem : X → Type 0) (free 
       others_are : (front others : List X) → AllByRecursion IsItem (front ++ others) → AllByRecursion IsItem others
       others_are [] others each = each
       others_are (x ∷ front) others each = others_are front others each.1
+
       go : (others : List X) → items ≡ found ++ others → drop here bytes ≡ flat_map bytes_of others ++ rest → ⊥
       go [] same left = let l = ap length same ∙ length-append found [] in let m = is.0 in absurd (omega arith)
       go (x ∷ others) same left =

@@ -1,17 +1,16 @@
 -- Functions as their numbers and their instructions.
-use Rattle.std.proofs.Common.{◌≡◌, ℕ, ◌≤◌, List, [], ◌∷◌, ◌++◌, length, drop, refl, sym, ap, subst, ◌∙◌, arith, append_assoc}
-use Rattle.std.specs.Prelude.{IsTrue}
+use Rattle.std.proofs.Common.{◌≡◌, ℕ, ◌≤◌, List, [], ◌∷◌, ◌++◌, length, drop, sym, ap, subst, ◌∙◌, arith, append_assoc}
 use Rattle.std.specs.List.{AllByRecursion}
-use Rattle.pool_isa.specs.Instr.{spelling, Fits}
+use Rattle.pool_isa.specs.Instr.{spelling}
 use Rattle.pool_isa.specs.Number.{number_bytes}
 use Rattle.pool_isa.specs.Spelling.{StandsAt}
 use Rattle.pool_isa.specs.Machine as machine
-use Rattle.pool_isa.specs.Ranges.{IsWithin, InRange, is_last, LastIs, IsFunction}
+use Rattle.pool_isa.specs.Ranges.{LastIs, IsFunction}
 use Rattle.pool_isa.proofs.Numbers.{same_number}
 use Rattle.pool_isa.proofs.Instrs.{same_instr}
 use Rattle.image_form.specs.declared.reading.Head.{Head}
 use Rattle.image_form.specs.Form.{function_bytes}
-use Rattle.image_form.specs.Reading.{IsInstr, IsInstrs, IsCode, code_bytes, IsHead, head_bytes, head_of, function_with}
+use Rattle.image_form.specs.Reading.{IsInstr, IsCode, code_bytes, IsHead, head_bytes, head_of, function_with}
 use Rattle.image_form.proofs.Fronts.{same_items, stands_on}
 
 -- the bytes of a head, cut behind each number
@@ -62,7 +61,7 @@ function_is n head code h c = record {
 pub function_stands : (bytes : List ℕ) (at mid end n : ℕ) (head : Head) (code : List _) → IsCode n head.count code → StandsAt bytes at mid (head_bytes head) → StandsAt bytes mid end (code_bytes code) → StandsAt bytes at end (function_bytes (function_with head code))
 function_stands bytes at mid end n head code is first second =
     let parts : head_bytes head ++ code_bytes code ≡ function_bytes (function_with head code) =
-      head_cut head (code_bytes code) ∙ ap (λ c. number_bytes head.parameters ++ (number_bytes head.extra ++ (number_bytes head.height ++ (number_bytes head.signature ++ (number_bytes c ++ code_bytes code))))) (sym is.0.0) in
+    head_cut head (code_bytes code) ∙ ap (λ c. number_bytes head.parameters ++ (number_bytes head.extra ++ (number_bytes head.height ++ (number_bytes head.signature ++ (number_bytes c ++ code_bytes code))))) (sym is.0.0) in
     subst (StandsAt bytes at end) parts (stands_on bytes at mid end (head_bytes head) (code_bytes code) first second)
 
 -- where a head stands, the function is one of that head, and its instructions stand behind it

@@ -1,5 +1,5 @@
 -- The bytes of an image, version 1: its fields in their order, each number in its shortest form and its range.
-use Rattle.std.specs.Prelude.{◌≡◌, ◌≢◌, ℕ, ◌/◌, ◌%◌, ◌≤◌, List, [], ◌∷◌, ◌++◌, map, length, if◌then◌else◌}
+use Rattle.std.specs.Prelude.{◌≡◌, ℕ, ◌/◌, ◌≤◌, List, [], ◌∷◌, ◌++◌, map, length, if◌then◌else◌}
 use Rattle.std.specs.List.{flat_map, AllByRecursion}
 use Rattle.pool_isa.specs.Instr.{spelling}
 use Rattle.pool_isa.specs.Number.{number_bytes}

@@ -1,5 +1,5 @@
 -- What the readers of an image's fields answer.
-use Rattle.std.specs.Prelude.{◌≡◌, ℕ, ◌<◌, ◌≤◌, ◌^◌, IsTrue, List, [], ◌∷◌, ◌++◌, length, map, drop, Result, Ok, Err, Vec}
+use Rattle.std.specs.Prelude.{◌≡◌, ℕ, ◌≤◌, IsTrue, List, [], ◌∷◌, ◌++◌, length, map, drop, Result, Ok, Err, Vec}
 use Rattle.std.specs.declared.alloc.Global.{Global}
 use Rattle.std.specs.List.{AllByRecursion, flat_map}
 use Rattle.pool_isa.specs.declared.instr.Instr.{Instr}
@@ -13,7 +13,7 @@ use Rattle.image_form.specs.declared.reading.Header.{Header}
 use Rattle.image_form.specs.declared.image.Function.{Function}
 use Rattle.image_form.specs.declared.image.ImageErr.{ImageErr}
 use Rattle.image_form.specs.declared.image.ImageErr.TheVariants.{Bad, OutOfMemory}
-use Rattle.image_form.specs.Form.{Form, function_of, function_bytes, counted, ImageOf}
+use Rattle.image_form.specs.Form.{Form, function_of, function_bytes, BeginsWithStart}
 
 -- A reader of a field, asked at a place: what it finds is such a field, whose bytes stand there up to the place behind
 -- them; where it refuses, the bytes of no such field do. Nothing is said where memory ran out.
@@ -61,6 +61,11 @@ opening_bytes header = 80 ∷ 65 ∷ 73 ∷ 77 ∷ 1 ∷ (number_bytes header.sl
 abbrev pub header_of : Form → Header
 header_of form = record { slabs = form.limits.slabs; index = form.limits.index; size = form.globals }
 
+-- the image of these numbers and functions
+abbrev pub form_with : Header → List machine.Function → Form
+form_with header functions =
+    record { version = 1; limits = record { slabs = header.slabs; index = header.index }; globals = header.size; contents = []; kinds = []; functions = functions }
+
 -- the numbers of a function: what it is without its instructions, and how many these are
 abbrev pub IsHead : Head → Type 0
 IsHead head =
@@ -81,6 +86,10 @@ function_with head code =
 
 abbrev pub IsFunctions : ℕ → List machine.Function → Type 0
 IsFunctions count functions = (length functions ≡ count) × AllByRecursion (IsFunction 0 count) functions
+
+-- the functions of an image
+abbrev pub IsAllFunctions : List machine.Function → Type 0
+IsAllFunctions functions = (length functions ≤ 4097) × AllByRecursion (IsFunction 0 (length functions)) functions × BeginsWithStart functions
 
 abbrev pub functions_of : Vec Function Global → List machine.Function
 functions_of functions = map function_of functions.items

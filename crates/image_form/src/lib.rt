@@ -6,4 +6,5 @@ mod reading;
 mod writing;
 
 pub use image::{Function, Globals, Image, ImageErr, MachineLimits, PoolKind};
+pub use reading::from_bytes;
 pub use writing::to_bytes;

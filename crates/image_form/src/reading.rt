@@ -5,8 +5,8 @@ ghost use Rattle.pool_isa.specs.Ranges.{IsWithin, InRange, is_last, LastIs, IsFu
 ghost use Rattle.pool_isa.specs.Number.{number_bytes};
 ghost use Rattle.pool_isa.specs.Spelling.{StandsAt};
 ghost use Rattle.pool_isa.specs.Instr.{spelling};
-ghost use Rattle.image_form.specs.Form.{Form, form_of, function_of, function_bytes, ImageOf};
-ghost use Rattle.image_form.specs.Reading.{Finds, IsInstr, IsInstrs, IsCode, instrs_of, code_bytes, IsHeader, opening_bytes, IsHead, head_bytes, function_with, functions_of, IsFunctions, functions_bytes, IsDecodedUnlessMemory};
+ghost use Rattle.image_form.specs.Form.{Form, form_of, function_of, function_bytes, counted, BeginsWithStart, image_bytes, IsImage, ImageOf};
+ghost use Rattle.image_form.specs.Reading.{Finds, IsInstr, IsInstrs, IsCode, instrs_of, code_bytes, IsHeader, opening_bytes, IsHead, head_bytes, function_with, functions_of, form_with, IsFunctions, IsAllFunctions, functions_bytes, IsDecodedUnlessMemory};
 
 use crate::image::{Function, Globals, Image, ImageErr, MachineLimits};
 use pool_isa::{BadInstr, BadNumber, Instr, decode_number, decode_one};
@@ -34,7 +34,8 @@ fn is_in_range(instr: Instr, functions: u64, count: u64) -> bool
     ensures { IsTrue result ↔ InRange 0 functions count instr }
 {
     match instr {
-        Instr::Jump(target) | Instr::JumpIfZero(target) | Instr::JumpIfNotZero(target) => target < count,
+        Instr::Jump(target) | Instr::JumpIfZero(target) | Instr::JumpIfNotZero(target) => target
+            < count,
         Instr::Call(function) => function < functions,
         Instr::PoolInit(_) => false,
         _ => true,
@@ -72,11 +73,20 @@ fn ends_well(code: &[Instr]) -> bool
 fn is_last_kind(instr: Instr) -> bool
     ensures { result ≡ is_last instr }
 {
-    matches!(instr, Instr::Jump(_) | Instr::Return | Instr::ReturnValue | Instr::Exit | Instr::Trap)
+    matches!(
+        instr,
+        Instr::Jump(_) | Instr::Return | Instr::ReturnValue | Instr::Exit | Instr::Trap
+    )
 }
 
 // So many instructions.
-fn instrs(alloc: Global, bytes: &[u8], at: usize, functions: u64, count: u64) -> Result<(Vec<Instr>, usize), ImageErr>
+fn instrs(
+    alloc: Global,
+    bytes: &[u8],
+    at: usize,
+    functions: u64,
+    count: u64,
+) -> Result<(Vec<Instr>, usize), ImageErr>
     requires { at ≤ length bytes.now }
     ensures { Finds (IsInstrs functions count) code_bytes instrs_of bytes.now at result }
 {
@@ -154,11 +164,26 @@ fn read_head(bytes: &[u8], at: usize) -> Result<(Head, usize), ImageErr>
         Ok(found) => found,
         Err(fault) => return Err(fault),
     };
-    Ok((Head { parameters, extra, height, signature, count }, at))
+    Ok((
+        Head {
+            parameters,
+            extra,
+            height,
+            signature,
+            count,
+        },
+        at,
+    ))
 }
 
 // The instructions of a function, of which control doesn't fall through the last.
-fn code(alloc: Global, bytes: &[u8], at: usize, functions: u64, count: u64) -> Result<(Vec<Instr>, usize), ImageErr>
+fn code(
+    alloc: Global,
+    bytes: &[u8],
+    at: usize,
+    functions: u64,
+    count: u64,
+) -> Result<(Vec<Instr>, usize), ImageErr>
     requires { at ≤ length bytes.now }
     ensures { Finds (IsCode functions count) code_bytes instrs_of bytes.now at result }
 {
@@ -175,7 +200,12 @@ fn code(alloc: Global, bytes: &[u8], at: usize, functions: u64, count: u64) -> R
 }
 
 // A function, in an image of so many.
-fn function(alloc: Global, bytes: &[u8], at: usize, functions: u64) -> Result<(Function, usize), ImageErr>
+fn function(
+    alloc: Global,
+    bytes: &[u8],
+    at: usize,
+    functions: u64,
+) -> Result<(Function, usize), ImageErr>
     requires { at ≤ length bytes.now }
     ensures { Finds (IsFunction 0 functions) function_bytes function_of bytes.now at result }
 {
@@ -190,7 +220,12 @@ fn function(alloc: Global, bytes: &[u8], at: usize, functions: u64) -> Result<(F
 }
 
 // So many functions.
-fn functions(alloc: Global, bytes: &[u8], at: usize, count: u64) -> Result<(Vec<Function>, usize), ImageErr>
+fn functions(
+    alloc: Global,
+    bytes: &[u8],
+    at: usize,
+    count: u64,
+) -> Result<(Vec<Function>, usize), ImageErr>
     requires { at ≤ length bytes.now }
     ensures { Finds (IsFunctions count) functions_bytes functions_of bytes.now at result }
 {
@@ -215,6 +250,27 @@ struct Header {
     slabs: u32,
     index: u32,
     size: u32,
+}
+
+impl Header {
+    // The image of these numbers and functions.
+    fn with(self, alloc: Global, functions: Vec<Function>) -> Image
+        ensures { form_of result ≡ form_with self (functions_of functions) }
+    {
+        Image {
+            version: 1,
+            limits: MachineLimits {
+                slabs: self.slabs,
+                index: self.index,
+            },
+            globals: Globals {
+                size: self.size,
+                contents: Vec::new(alloc),
+            },
+            kinds: Vec::new(alloc),
+            functions,
+        }
+    }
 }
 
 // The place behind the first bytes, which are the same in every image of version 1.
@@ -252,4 +308,80 @@ fn read_header(bytes: &[u8]) -> Result<(Header, usize), ImageErr>
         Err(fault) => return Err(fault),
     };
     Ok((Header { slabs, index, size }, at))
+}
+
+// Whether function 0 can be `start`: it is there, and has no parameters.
+fn begins_with_start(functions: &[Function]) -> bool
+    ensures { IsTrue result ↔ BeginsWithStart (map function_of functions.now) }
+{
+    match functions.first() {
+        Some(start) => start.parameters == 0,
+        None => false,
+    }
+}
+
+// The functions of an image: how many, and then each.
+fn counted_functions(
+    alloc: Global,
+    bytes: &[u8],
+    at: usize,
+) -> Result<(Vec<Function>, usize), ImageErr>
+    requires { at ≤ length bytes.now }
+    ensures { Finds IsAllFunctions (counted function_bytes) functions_of bytes.now at result }
+{
+    let (count, at) = match number_within(bytes, at, 1, 4_097) {
+        Ok(found) => found,
+        Err(fault) => return Err(fault),
+    };
+    match functions(alloc, bytes, at, count) {
+        Ok((functions, end)) => {
+            if begins_with_start(&functions) {
+                Ok((functions, end))
+            } else {
+                Err(ImageErr::Bad(at))
+            }
+        }
+        Err(fault) => Err(fault),
+    }
+}
+
+// An image, and the place behind it.
+fn image(alloc: Global, bytes: &[u8]) -> Result<(Image, usize), ImageErr>
+    ensures { Finds IsImage image_bytes form_of bytes.now 0 result }
+{
+    let (header, at) = match read_header(bytes) {
+        Ok(found) => found,
+        Err(fault) => return Err(fault),
+    };
+    let (_contents, at) = match number_within(bytes, at, 0, 0) {
+        Ok(found) => found,
+        Err(fault) => return Err(fault),
+    };
+    let (_kinds, at) = match number_within(bytes, at, 0, 0) {
+        Ok(found) => found,
+        Err(fault) => return Err(fault),
+    };
+    match counted_functions(alloc, bytes, at) {
+        Ok((functions, end)) => Ok((header.with(alloc, functions), end)),
+        Err(fault) => Err(fault),
+    }
+}
+
+/// The image of the bytes. `Bad` holds the place of a byte with which no image goes on, or the length.
+pub fn from_bytes(alloc: Global, bytes: &[u8]) -> Result<Image, ImageErr>
+    // What is found has these bytes.
+    ensures found { IfOk result (λ image. ImageOf bytes.now (form_of image)) }
+    // What has these bytes is found, unless memory runs out.
+    ensures only { (form : Form) → ImageOf bytes.now form → IsDecodedUnlessMemory form_of result form }
+{
+    match image(alloc, bytes) {
+        Ok((image, end)) => {
+            if end == bytes.len() {
+                Ok(image)
+            } else {
+                Err(ImageErr::Bad(end))
+            }
+        }
+        Err(fault) => Err(fault),
+    }
 }

@@ -1,4 +1,4 @@
-use Rattle.std.proofs.Common.{◌≡◌, ◌∙◌, length, sym, subst, false, true}
+use Rattle.std.proofs.Common.{◌≡◌, ◌∙◌, sym, subst, false, true}
 use Rattle.std.specs.Prelude.{IsTrue}
 use Rattle.pool_isa.specs.Instr.{spelling}
 use Rattle.pool_isa.specs.Ranges.{is_last, LastIs}

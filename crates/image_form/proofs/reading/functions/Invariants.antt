@@ -1,4 +1,4 @@
-use Rattle.std.proofs.Common.{◌≡◌, ◌≤◌, length}
+use Rattle.std.proofs.Common.{◌≡◌, length}
 use Rattle.std.specs.List.{AllByRecursion}
 use Rattle.pool_isa.specs.Spelling.{StandsAt}
 use Rattle.pool_isa.specs.Ranges.{IsFunction}
