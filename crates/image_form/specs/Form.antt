@@ -1,5 +1,5 @@
 -- The bytes of an image, version 1: its fields in their order, each number in its shortest form and its range.
-use Rattle.std.specs.Prelude.{◌≡◌, ◌≢◌, ℕ, ◌/◌, ◌%◌, ◌≤◌, List, [], ◌∷◌, ◌++◌, map, length, if◌then◌else◌}
+use Rattle.std.specs.Prelude.{◌≡◌, ℕ, ◌/◌, ◌≤◌, List, [], ◌∷◌, ◌++◌, map, length, if◌then◌else◌}
 use Rattle.std.specs.List.{flat_map, AllByRecursion}
 use Rattle.pool_isa.specs.Instr.{spelling}
 use Rattle.pool_isa.specs.Number.{number_bytes}
@@ -39,41 +39,37 @@ kind_bytes (Homogeneous source cell indexed) =
 
 abbrev pub function_bytes : machine.Function → List ℕ
 function_bytes function =
-    number_bytes function.parameters ++ number_bytes function.extra ++ number_bytes function.height ++ number_bytes function.signature ++ counted spelling function.code
+    number_bytes function.parameters ++ (number_bytes function.extra ++ (number_bytes function.height ++ (number_bytes function.signature ++ counted spelling function.code)))
 
--- P A I M and the version, the limits, the globals and their data, the kinds of pools, and the functions
+-- P A I M and the version, the limits and the bytes of the globals
+abbrev pub header_bytes : Form → List ℕ
+header_bytes form =
+    80 ∷ 65 ∷ 73 ∷ 77 ∷ form.version ∷ (number_bytes form.limits.slabs ++ (number_bytes form.limits.index ++ number_bytes form.globals))
+
+-- the first contents of the globals: how many bytes, and then these
+abbrev pub contents_bytes : List ℕ → List ℕ
+contents_bytes contents = number_bytes (length contents) ++ contents
+
 abbrev pub image_bytes : Form → List ℕ
 image_bytes form =
-    80 ∷ 65 ∷ 73 ∷ 77 ∷ form.version ∷ (number_bytes form.limits.slabs ++ number_bytes form.limits.index ++ number_bytes form.globals ++ counted (λ byte. byte ∷ []) form.contents
-    ++ counted kind_bytes form.kinds ++ counted function_bytes form.functions)
-
-abbrev pub IsKind : PoolKind → Type 0
-IsKind Mixed = Unit {0}
-IsKind (Homogeneous source cell indexed) = IsWithin 1 1048576 source × IsWithin 4 1048576 cell × (cell % 4 ≡ 0)
-
--- the data end with a byte that isn't 0
-abbrev pub IsTrimmed : List ℕ → Type 0
-IsTrimmed [] = Unit {0}
-IsTrimmed (byte ∷ []) = byte ≢ 0
-IsTrimmed (byte ∷ next ∷ bytes) = IsTrimmed (next ∷ bytes)
+    header_bytes form ++ (contents_bytes form.contents ++ (counted kind_bytes form.kinds ++ counted function_bytes form.functions))
 
 -- function 0 is `start`, and has no parameters
 abbrev pub BeginsWithStart : List machine.Function → Type 0
 BeginsWithStart [] = ⊥
 BeginsWithStart (start ∷ functions) = start.parameters ≡ 0
 
--- the fields are in their ranges
+-- The fields are in their ranges. No form of the language needs globals or pools yet, so that no first contents and
+-- no kind of pool is there.
 pub record IsImage (form : Form) : Type 0 where
   pub version : form.version ≡ 1
   pub slabs : IsWithin 1 1048576 form.limits.slabs
   pub index : IsWithin 1 4294967295 form.limits.index
   pub globals : form.globals ≤ 1073741824
-  pub fits : length form.contents ≤ form.globals
-  pub trimmed : IsTrimmed form.contents
-  pub kinds : length form.kinds ≤ 1048576
-  pub each_kind : AllByRecursion IsKind form.kinds
+  pub contents : form.contents ≡ []
+  pub kinds : form.kinds ≡ []
   pub functions : length form.functions ≤ 4097
-  pub each_function : AllByRecursion (IsFunction (length form.kinds) (length form.functions)) form.functions
+  pub each_function : AllByRecursion (IsFunction 0 (length form.functions)) form.functions
   pub start : BeginsWithStart form.functions
 
 -- The bytes are those of an image of this form, and nothing follows.
