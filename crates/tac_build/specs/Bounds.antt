@@ -4,7 +4,7 @@ use Rattle.std.specs.List.{AllByRecursion}
 use Rattle.tac_ir.specs.declared.Op.{Op}
 use Rattle.tac_ir.specs.Fits.{NamesBelow}
 
--- Each point names only the register and points that are there.
+-- Each point names only a register and a point that are there.
 abbrev pub NamesWhatStands : List Op → Type 0
 NamesWhatStands points = AllByRecursion (NamesBelow 1 (length points)) points
 

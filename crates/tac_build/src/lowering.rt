@@ -41,8 +41,8 @@ struct Builder {
 impl Builder {
     /// One more point.
     fn append(&mut self, op: Op) -> Result<PointId, AllocError>
-        requires named { NamesWhatStands self.old.points.items }
-        requires names { NamesBelow 1 (length self.old.points.items) op }
+        requires all_named { NamesWhatStands self.old.points.items }
+        requires op_named { NamesBelow 1 (length self.old.points.items) op }
         ensures stands { OnOk result (IsPrefix self.old.points.items self.new.points.items) }
         ensures code { IfOk result (λ at. HasOp self.new.points.items at.0 op) }
         ensures ready { IfOk result (λ at. IsReady self.new.points.items at.0) }
@@ -65,7 +65,8 @@ impl Builder {
         ensures stands { OnOk result (IsPrefix self.old.points.items self.new.points.items) }
         ensures code { IfOk result (λ entry. ExprCode self.new.points.items (expr_tree value.now) entry.0 to.0 next.0) }
         ensures ready { IfOk result (λ entry. IsReady self.new.points.items entry.0) }
-        ensures size { OnOk result (length self.new.points.items ≤ length self.old.points.items + expr_size (expr_tree value.now)) }
+        ensures size { OnOk result (length self.new.points.items
+            ≤ length self.old.points.items + expr_size (expr_tree value.now)) }
     {
         match value {
             Expr::Decimal(value) => self.constant(to, i64::from(*value), next),
@@ -86,7 +87,8 @@ impl Builder {
         ensures stands { OnOk result (IsPrefix self.old.points.items self.new.points.items) }
         ensures code { IfOk result (λ entry. StmtCode self.new.points.items (stmt_tree stmt.now) entry.0 next.0) }
         ensures ready { IfOk result (λ entry. IsReady self.new.points.items entry.0) }
-        ensures size { OnOk result (length self.new.points.items ≤ length self.old.points.items + stmt_size (stmt_tree stmt.now)) }
+        ensures size { OnOk result (length self.new.points.items
+            ≤ length self.old.points.items + stmt_size (stmt_tree stmt.now)) }
     {
         match stmt {
             Stmt::Empty => Ok(next),
@@ -104,7 +106,8 @@ impl Builder {
         ensures stands { OnOk result (IsPrefix self.old.points.items self.new.points.items) }
         ensures code { IfOk result (λ entry. BodyCode self.new.points.items (map stmt_tree stmts.now) entry.0 next.0) }
         ensures ready { IfOk result (λ entry. IsReady self.new.points.items entry.0) }
-        ensures size { OnOk result (length self.new.points.items ≤ length self.old.points.items + body_size (map stmt_tree stmts.now)) }
+        ensures size { OnOk result (length self.new.points.items
+            ≤ length self.old.points.items + body_size (map stmt_tree stmts.now)) }
     {
         let mut entry = next;
         for index in (0..stmts.len()).rev() {

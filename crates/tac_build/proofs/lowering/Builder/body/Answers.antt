@@ -1,6 +1,6 @@
 use Rattle.std.proofs.Common.{arith}
 use Rattle.run_theory.proofs.Traces.{prefix_refl, prefix_trans}
-use Rattle.tac_build.proofs.Bounds.{size_none, size_more, size_all}
+use Rattle.tac_build.proofs.Sizes.{size_none, size_more}
 use Rattle.tac_build.proofs.Standing.{body_stands, body_none, body_more, body_all}
 use Rattle.tac_build.proofs.lowering.Builder.body.Goals as goal
 
@@ -28,6 +28,3 @@ loop-index-preserved c = record {
 
 pub returns-clause-code : goal.returns-clause-code
 returns-clause-code c = body_all _ _ _ _ _ c.loop-index-test.false c.loop-index.invariant.code
-
-pub returns-clause-size : goal.returns-clause-size
-returns-clause-size c = omega (arith, size_all c.args.stmts.now _ c.loop-index-test.false)
