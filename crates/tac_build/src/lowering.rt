@@ -1,9 +1,11 @@
 // From trees to points, backwards: what follows a part stands before the part is lowered, so points are only appended.
 
-ghost use Rattle.std.specs.Prelude.{◌≡◌, [], ◌∷◌, ◌++◌, map, drop, pos, length, IfOk, OnOk};
+ghost use Rattle.std.specs.Prelude.{◌≡◌, ◌+◌, ◌^◌, ◌<◌, ◌≤◌, map, length, IfOk, OnOk};
 ghost use Rattle.run_theory.specs.Runs.{IsPrefix};
-ghost use Rattle.c_ast.specs.Trees.{expr_tree, stmt_tree, program_tree};
-ghost use Rattle.tac_build.specs.Code.{register, point, HasOp, ExprCode, StmtCode, BodyCode, EndCode, Code};
+ghost use Rattle.c_ast.specs.Trees.{expr_tree, stmt_tree, program_tree, expr_size, stmt_size, body_size, program_size};
+ghost use Rattle.tac_ir.specs.Fits.{NamesBelow, FitsFrame};
+ghost use Rattle.tac_build.specs.Bounds.{NamesWhatStands, IsReady};
+ghost use Rattle.tac_build.specs.Code.{HasOp, ExprCode, StmtCode, BodyCode, EndCode, Code};
 
 use c_ast::{Expr, Program, Stmt, character_value};
 use std::alloc::{AllocError, Global};
@@ -14,7 +16,8 @@ const VALUE: Register = Register(0);
 
 /// The code of a program, in time linear in its size. Each statement has its points, also behind a `return`.
 pub fn lower(alloc: Global, program: &Program) -> Result<Tac, AllocError>
-    ensures { IfOk result (λ tac. Code (program_tree program.now) tac) }
+    ensures code { IfOk result (λ tac. Code (program_tree program.now) tac) }
+    ensures fits { program_size (program_tree program.now) ≤ 2 ^ 27 → IfOk result FitsFrame }
 {
     let mut builder = Builder {
         points: Vec::new(alloc),
@@ -38,8 +41,12 @@ struct Builder {
 impl Builder {
     /// One more point.
     fn append(&mut self, op: Op) -> Result<PointId, AllocError>
+        requires all_named { NamesWhatStands self.old.points.items }
+        requires op_named { NamesBelow 1 (length self.old.points.items) op }
         ensures stands { OnOk result (IsPrefix self.old.points.items self.new.points.items) }
         ensures code { IfOk result (λ at. HasOp self.new.points.items at.0 op) }
+        ensures ready { IfOk result (λ at. IsReady self.new.points.items at.0) }
+        ensures size { OnOk result (length self.new.points.items ≡ length self.old.points.items + 1) }
     {
         let at = PointId(self.points.len());
         self.points.push(op)?;
@@ -53,8 +60,13 @@ impl Builder {
         to: Register,
         next: PointId,
     ) -> Result<PointId, AllocError>
+        requires register { to.0 < 1 }
+        requires ready { IsReady self.old.points.items next.0 }
         ensures stands { OnOk result (IsPrefix self.old.points.items self.new.points.items) }
         ensures code { IfOk result (λ entry. ExprCode self.new.points.items (expr_tree value.now) entry.0 to.0 next.0) }
+        ensures ready { IfOk result (λ entry. IsReady self.new.points.items entry.0) }
+        ensures size { OnOk result (length self.new.points.items
+            ≤ length self.old.points.items + expr_size (expr_tree value.now)) }
     {
         match value {
             Expr::Decimal(value) => self.constant(to, i64::from(*value), next),
@@ -71,8 +83,12 @@ impl Builder {
 
     /// A statement.
     fn statement(&mut self, stmt: &Stmt, next: PointId) -> Result<PointId, AllocError>
+        requires { IsReady self.old.points.items next.0 }
         ensures stands { OnOk result (IsPrefix self.old.points.items self.new.points.items) }
         ensures code { IfOk result (λ entry. StmtCode self.new.points.items (stmt_tree stmt.now) entry.0 next.0) }
+        ensures ready { IfOk result (λ entry. IsReady self.new.points.items entry.0) }
+        ensures size { OnOk result (length self.new.points.items
+            ≤ length self.old.points.items + stmt_size (stmt_tree stmt.now)) }
     {
         match stmt {
             Stmt::Empty => Ok(next),
@@ -86,8 +102,12 @@ impl Builder {
 
     /// Statements one after another, from the last to the first.
     fn body(&mut self, stmts: &[Stmt], next: PointId) -> Result<PointId, AllocError>
+        requires { IsReady self.old.points.items next.0 }
         ensures stands { OnOk result (IsPrefix self.old.points.items self.new.points.items) }
         ensures code { IfOk result (λ entry. BodyCode self.new.points.items (map stmt_tree stmts.now) entry.0 next.0) }
+        ensures ready { IfOk result (λ entry. IsReady self.new.points.items entry.0) }
+        ensures size { OnOk result (length self.new.points.items
+            ≤ length self.old.points.items + body_size (map stmt_tree stmts.now)) }
     {
         let mut entry = next;
         for index in (0..stmts.len()).rev() {
@@ -98,7 +118,10 @@ impl Builder {
 
     /// What follows the last statement of `main`, which returns 0 (C17 5.1.2.2.3).
     fn ending(&mut self) -> Result<PointId, AllocError>
-        ensures { IfOk result (λ entry. EndCode self.new.points.items entry.0) }
+        requires { NamesWhatStands self.old.points.items }
+        ensures code { IfOk result (λ entry. EndCode self.new.points.items entry.0) }
+        ensures ready { IfOk result (λ entry. IsReady self.new.points.items entry.0) }
+        ensures size { OnOk result (length self.new.points.items ≡ length self.old.points.items + 2) }
     {
         let end = self.append(Op::Return { from: VALUE })?;
         self.constant(VALUE, 0, end)
@@ -106,8 +129,12 @@ impl Builder {
 
     /// A value for a register.
     fn constant(&mut self, to: Register, value: i64, next: PointId) -> Result<PointId, AllocError>
+        requires register { to.0 < 1 }
+        requires ready { IsReady self.old.points.items next.0 }
         ensures stands { OnOk result (IsPrefix self.old.points.items self.new.points.items) }
         ensures code { IfOk result (λ at. HasOp self.new.points.items at.0 (Op.Constant to value next)) }
+        ensures ready { IfOk result (λ at. IsReady self.new.points.items at.0) }
+        ensures size { OnOk result (length self.new.points.items ≡ length self.old.points.items + 1) }
     {
         self.append(Op::Constant { to, value, next })
     }
