@@ -17,7 +17,7 @@ told-lookup : {A B : Type 0} (name : List ℕ) → (entries : List (String A × 
     file_of (map (λ file. (string_bytes file.0, file.1.items)) entries) name
     ≡ told (lookup (is_at (λ key. slice_cmp nat_cmp name (string_bytes key))) entries)
 told-lookup name [] = refl
-told-lookup name (file ∷ files) = rw is_eq-slice_cmp (?)
+told-lookup name (file ∷ files) = rw (is_eq-slice_cmp, told-lookup name files) ?
 
 pub told-get : {A B : Type 0} (files : BTreeMap (String A) (Vec ℕ B)) (name : List ℕ) → file_of (files_of files) name ≡ told (get_by_text files name)
 told-get files name = told-lookup name files.entries

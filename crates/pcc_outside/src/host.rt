@@ -3,6 +3,7 @@
 ghost use Rattle.std.specs.Prelude.{◌≡◌, ℕ, ◌<◌, ◌≤◌, List, length, IfOk, None};
 ghost use Rattle.pcc_outside.specs.Outside.{Rose, Untold};
 
+use crate::counts::{further, raised};
 use crate::{Failed, Files, Sink, Source};
 use std::io::{ErrorKind, Read, Seek, SeekFrom, Write};
 use std::{fs, io, rt};
@@ -19,7 +20,7 @@ fn fail(faults: &mut u64) -> Failed
     ensures rose { Rose faults.old faults.new }
     ensures counted { faults.old ≤ faults.new }
 {
-    *faults = faults.saturating_add(1);
+    *faults = raised(*faults);
     Failed
 }
 
@@ -175,9 +176,8 @@ impl<R: rt::Files> Files for HostFiles<R> {
 
     fn read_at(&mut self, name: &str, at: u64, buf: &mut [u8]) -> Result<usize, Failed> {
         match read_at_retrying(&self.runtime, name, at, buf) {
-            Ok(0) => Ok(0),
             Ok(n) => {
-                self.reach = self.reach.max(at + n as u64);
+                self.reach = further(self.reach, at, n);
                 Ok(n)
             }
             Err(_) => Err(fail(&mut self.faults)),

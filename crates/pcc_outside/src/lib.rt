@@ -4,6 +4,7 @@
 ghost use Rattle.std.specs.Prelude.{◌≡◌, ℕ, ◌<◌, ◌≤◌, ◌^◌, List, Option, length, take, IfOk, OnErr};
 ghost use Rattle.pcc_outside.specs.Outside.{Rose, Takes, Adds, Told, Gives, Reaches};
 
+mod counts;
 pub mod host;
 pub mod memory;
 pub mod whole;

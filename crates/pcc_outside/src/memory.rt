@@ -1,9 +1,10 @@
 //! Sources, sinks and files in memory. Their calls fail where they are told to.
 
-ghost use Rattle.std.specs.Prelude.{◌≡◌, ℕ, ◌+◌, ◌-◌, ◌^◌, ◌<◌, ◌≤◌, ◌↔◌, ◌⊎◌, min, List, [], length, take, drop, Some, None, Ok, IfOk, OnOk, OnErr, IsErr, IsOk, IsTrue};
+ghost use Rattle.std.specs.Prelude.{◌≡◌, ℕ, ◌+◌, ◌-◌, ◌^◌, ◌<◌, ◌≤◌, ◌↔◌, ◌⊎◌, min, List, [], length, take, drop, Some, None, Ok, IfSome, IfNone, IfOk, OnOk, OnErr, IsErr, IsOk, IsTrue};
 ghost use Rattle.pcc_outside.specs.Outside.{Rose, Takes, Adds, Missing, Holds, Gives, Reaches};
 ghost use Rattle.pcc_outside.specs.Memory.{uncalled, one_more, IsNextDue, OneCall, files_of, file_of};
 
+use crate::counts::{further, raised};
 use crate::{Failed, Files, Sink, Source};
 use std::alloc::{AllocError, Global};
 use std::collections::BTreeMap;
@@ -42,7 +43,7 @@ impl Calls {
         ensures called { OneCall self.old self.new }
         ensures failed { self.new.failed ≡ self.old.failed }
     {
-        self.made = self.made.saturating_add(1);
+        self.made = raised(self.made);
         self.failing.contains(&self.made)
     }
 
@@ -54,7 +55,7 @@ impl Calls {
         ensures made { self.new.made ≡ self.old.made }
         ensures failing { self.new.failing ≡ self.old.failing }
     {
-        self.failed = self.failed.saturating_add(1);
+        self.failed = raised(self.failed);
         Failed
     }
 }
@@ -67,16 +68,6 @@ fn copy_front(from: &[u8], buf: &mut [u8], most: usize) -> usize
     let n = most.min(buf.len()).min(from.len());
     buf[..n].copy_from_slice(&from[..n]);
     n
-}
-
-/// Copies the bytes of a file from the place `at` on into the front of `buf`, and says how many.
-fn copy_from(file: &[u8], at: u64, buf: &mut [u8]) -> usize
-    requires { 0 < length buf.old }
-    ensures gives { Gives (Holds file.now) at (take result buf.new) }
-    ensures within { result ≤ length buf.old }
-{
-    let start = (at as usize).min(file.len());
-    copy_front(&file[start..], buf, usize::MAX)
 }
 
 /// Bytes in memory to read.
@@ -271,6 +262,23 @@ impl MemFiles {
     }
 }
 
+fn find<'a>(files: &'a BTreeMap<String, Vec<u8>>, name: &str) -> Option<&'a Vec<u8>>
+    ensures found { IfSome result (λ file. file_of (files_of files.now) name.now ≡ Holds file.now.items) }
+    ensures missing { IfNone result (file_of (files_of files.now) name.now ≡ Missing) }
+{
+    files.get(name)
+}
+
+/// Copies the bytes of a file from the place `at` on into the front of `buf`, and says how many.
+fn copy_from(file: &[u8], at: u64, buf: &mut [u8]) -> usize
+    requires { 0 < length buf.old }
+    ensures gives { Gives (Holds file.now) at (take result buf.new) }
+    ensures within { result ≤ length buf.old }
+{
+    let start = (at as usize).min(file.len());
+    copy_front(&file[start..], buf, usize::MAX)
+}
+
 impl Files for MemFiles {
     ghost contents = { λ f name. file_of f.files name };
 
@@ -297,13 +305,11 @@ impl Files for MemFiles {
         if self.calls.next_is_due() {
             return Err(self.calls.fail());
         }
-        let Some(bytes) = self.files.get(name) else {
+        let Some(file) = find(&self.files, name) else {
             return Err(self.calls.fail());
         };
-        let n = copy_from(bytes, at, buf);
-        if n > 0 {
-            self.reach = self.reach.max(at + n as u64);
-        }
+        let n = copy_from(file, at, buf);
+        self.reach = further(self.reach, at, n);
         Ok(n)
     }
 }

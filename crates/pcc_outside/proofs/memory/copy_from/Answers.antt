@@ -1,8 +1,12 @@
-use Rattle.std.proofs.Common.{rules, ◌≡◌, ℕ, ◌+◌, ◌-◌, ◌^◌, ◌<◌, ◌≤◌, ◌↔◌, ◌⊎◌, min, List, [], length, take, drop, Some, None, Ok, IfOk, OnOk, OnErr, IsErr, IsOk, IsTrue, ◌*◌, ◌/◌, ◌%◌, Bool, true, false, nat_eq, nat_lt, ◌∷◌, ◌++◌, slice_index_or, slice_set, bit_and, bit_or, Fits, w8, w32, w64, Bor, MutBor}
-use Rattle.pcc_outside.specs.Outside.{Rose, Takes, Adds, Missing, Holds, Gives, Reaches}
-use Rattle.pcc_outside.specs.Memory.{uncalled, one_more, IsNextDue, OneCall, files_of, file_of}
+use Rattle.std.proofs.Common.{◌≡◌, ◌∙◌, ap, sym, arith, ◌≤◌, length, drop, take, ◌-◌}
+use Rattle.std.proofs.lemmas.List.{take_rest, drop_min, length-drop}
+use Rattle.pcc_outside.proofs.Reading.{Gives-front}
 use Rattle.pcc_outside.proofs.memory.copy_from.Goals as goal
 
--- src/memory.rt:73:1
 pub returns-clause-gives : goal.returns-clause-gives
-returns-clause-gives c = ?
+returns-clause-gives c =
+    let e = c.copy_front.ensures in
+    let start = c.min-start.ensures in
+    let rest_is : take (length c.args.file.now - c.min-start.result) (drop c.min-start.result c.args.file.now) ≡ drop c.args.at c.args.file.now =
+        rw (take_rest, start, drop_min) in
+    Gives-front _ _ _ _ _ rest_is e.copied (omega (arith, e.count)) (λ none. omega (arith, e.count, none))
