@@ -9,4 +9,4 @@ returns-clause-gives c =
     let start = c.min-start.ensures in
     let rest_is : take (length c.args.file.now - c.min-start.result) (drop c.min-start.result c.args.file.now) ≡ drop c.args.at c.args.file.now =
         rw (take_rest, start, drop_min) in
-    Gives-front _ _ _ _ _ rest_is e.copied (omega (arith, e.count)) (λ none. omega (arith, e.count, none))
+    Gives-front c.args.file.now _ _ c.args.at _ rest_is e.copied (omega (arith, e.count)) (λ none. omega (arith, e.count, none))
