@@ -5,7 +5,7 @@ use Rattle.std.specs.BTreeMap.{BTreeMap, get_by_text, is_at}
 use Rattle.std.specs.Cmp.Lexicographic.{slice_cmp}
 use Rattle.std.specs.Map.{lookup}
 use Rattle.std.specs.Borrow.{Bor}
-use Rattle.std.specs.Prelude.{bytes_eq, option_copied, IfSome, IfNone, ⊤}
+use Rattle.std.specs.Prelude.{bytes_eq, option_copied, IfSome, IfNone}
 use Rattle.pcc_outside.specs.Outside.{Told, Missing, Holds}
 use Rattle.pcc_outside.specs.Memory.{files_of, file_of}
 

@@ -1,7 +1,7 @@
 -- Reading bytes part by part.
-use Rattle.std.proofs.Common.{◌≡◌, ℕ, ◌+◌, ◌-◌, ◌<◌, ◌≤◌, min, ◌⊎◌, inl, inr, subst, List, [], ◌++◌, length, take, drop, Option, Some, refl, ap, sym, ◌∙◌, append_assoc, arith}
-use Rattle.std.proofs.lemmas.List.{append-nil, take-append-drop, take_at, drop-drop, drop_at, length-take, length-take-le, length-drop, length-append, nil_from_length}
-use Rattle.pcc_outside.specs.Outside.{Rose, Takes, Told, Untold, Missing, Holds, Gives, IsWhole, IsLonger}
+use Rattle.std.proofs.Common.{◌≡◌, ℕ, ◌+◌, ◌<◌, ◌≤◌, subst, List, [], ◌++◌, length, take, drop, Some, refl, ap, sym, ◌∙◌, append_assoc, arith}
+use Rattle.std.proofs.lemmas.List.{append-nil, take-append-drop, take_at, drop-drop, drop_at, length-take-le, length-append, nil_from_length}
+use Rattle.pcc_outside.specs.Outside.{Takes, Told, Untold, Missing, Holds, Gives, IsWhole, IsLonger}
 
 -- n bytes from the front of what is left were given, none only where nothing is left
 pub Takes-front : (bytes left got : List ℕ) (taken n : ℕ) → drop taken bytes ≡ left → got ≡ take n left → n ≤ length left → (n ≡ 0 → length left ≡ 0) → Takes (Some left) got (Some (drop (taken + n) bytes))
@@ -52,10 +52,6 @@ IsFront-longer (Holds bytes) front got limit more h k =
 pub Gives-behind : (file now : Told) (front got : List ℕ) (at : ℕ) → now ≡ file → at ≡ length front → Gives now at got → Gives file (length front) got
 Gives-behind file now front got at same here h =
     subst (λ (t : Told). Gives t (length front) got) same (subst (λ (p : ℕ). Gives now p got) here h)
-
--- a count that rose late rose since the start
-pub Rose-after : (start old new : ℕ) → start ≤ old → Rose old new → Rose start new
-Rose-after start old new h k = elim k as (λ _. Rose start new) [ inl more ↦ inl (omega arith) | inr last ↦ inr last ]
 
 -- a buffer's items after a write of all of them, as a slice that is read again
 pub written_is : (new items read : List ℕ) (len : ℕ) → length new ≡ len → read ≡ take len (new ++ drop (length new) items) → read ≡ new

@@ -155,7 +155,12 @@ fn read_once<R: rt::Files>(runtime: &R, name: &str, at: u64, buf: &mut [u8]) -> 
     file.read(buf)
 }
 
-fn read_at_retrying<R: rt::Files>(runtime: &R, name: &str, at: u64, buf: &mut [u8]) -> io::Result<usize>
+fn read_at_retrying<R: rt::Files>(
+    runtime: &R,
+    name: &str,
+    at: u64,
+    buf: &mut [u8],
+) -> io::Result<usize>
     ensures { IfOk result (λ n. n ≤ length buf.old) }
 {
     for _ in 0..RETRIES {

@@ -163,7 +163,12 @@ impl Model for MemSink {
 impl MemSink {
     /// A sink with room for `room` bytes, which is made now, that takes at most `piece` bytes in a call. A call that
     /// finds no room left fails. `failing` holds the numbers of the calls that are to fail besides, counted from 1.
-    pub fn new(alloc: Global, room: usize, failing: Vec<u64>, piece: usize) -> Result<Self, AllocError>
+    pub fn new(
+        alloc: Global,
+        room: usize,
+        failing: Vec<u64>,
+        piece: usize,
+    ) -> Result<Self, AllocError>
         requires { 0 < piece }
         ensures { IfOk result (λ s. s ≡ record { written = []; room = room; piece = piece; calls = uncalled failing.items }) }
     {

@@ -57,7 +57,12 @@ pub fn write_all<S: Sink>(sink: &mut S, bytes: &[u8]) -> Result<(), Failed>
 const PIECE: usize = 64 * 1024;
 
 /// Reads the whole file `name`, of at most `limit` bytes. It reads on at the limit to see whether the file ends there.
-pub fn read_all<F: Files>(alloc: Global, files: &mut F, name: &str, limit: u64) -> Result<Vec<u8>, ReadErr>
+pub fn read_all<F: Files>(
+    alloc: Global,
+    files: &mut F,
+    name: &str,
+    limit: u64,
+) -> Result<Vec<u8>, ReadErr>
     requires { limit ≤ 2 ^ 40 }
     ensures whole { IfOk result (λ v. IsWhole (F.contents files.old name.now) v.items) }
     ensures fits { IfOk result (λ v. vec_len v ≤ limit) }

@@ -1,6 +1,7 @@
-use Rattle.std.proofs.Common.{◌≡◌, ℕ, ◌<◌, ◌≤◌, ◌+◌, ◌∙◌, List, [], ◌++◌, length, arith, ap, take, sym, refl}
+use Rattle.std.proofs.Common.{◌≡◌, ◌≤◌, ◌∙◌, [], length, arith, ap, take, refl}
 use Rattle.std.proofs.lemmas.List.{length-take, length-take-le}
-use Rattle.pcc_outside.proofs.Reading.{IsFront-start, IsFront-more, IsFront-whole, IsFront-longer, Gives-behind, Rose-after, written_is}
+use Rattle.pcc_outside.proofs.Faults.{Rose-after}
+use Rattle.pcc_outside.proofs.Reading.{IsFront-start, IsFront-more, IsFront-whole, IsFront-longer, Gives-behind, written_is}
 use Rattle.pcc_outside.proofs.whole.read_all.Goals as goal
 
 pub loop-buf-init : goal.loop-buf-init
@@ -9,7 +10,7 @@ loop-buf-init g c = record {
   near = omega (arith, c.new-bytes.ensures.len);
   room = omega (arith, c.in_ok-buf.ensures.len);
   counted = λ other. omega arith;
-  kept = λ other. refl
+  kept = λ other. refl;
 }
 
 pub returns-in_err-n-clause-fault : goal.returns-in_err-n-clause-fault
@@ -47,7 +48,7 @@ loop-buf-preserved g c =
       near = omega (arith, length-take c.in_ok-n.n c.deref.result.now, c.in_ok-extend_from_slice.ensures.len, c.len-at.ensures, c.if-n-limit.false, c.loop-buf.invariant.near);
       room = c.loop-buf.invariant.room;
       counted = λ other. omega (arith, c.in_ok-n.ensures.counted other, c.loop-buf.invariant.counted other);
-      kept = λ other. c.in_ok-n.ensures.kept other ∙ c.loop-buf.invariant.kept other
+      kept = λ other. c.in_ok-n.ensures.kept other ∙ c.loop-buf.invariant.kept other;
     }
 
 pub returns-in_err-extend_from_slice-clause-counted :
