@@ -193,7 +193,7 @@ impl<R: rt::Files> Files for HostFiles<R> {
 #[cfg(test)]
 mod tests {
     use super::*;
-    use std::env;
+    use std::{env, process};
     use std::test::Fail;
 
     /// Answers `interrupts` calls with an interruption, and then what `kind` says, or that one byte was read or written.
@@ -274,7 +274,8 @@ mod tests {
     #[test]
     fn files_of_the_host(rt: HostRuntime) -> Result<(), Fail> {
         let dir = env::temp_dir(&rt)?;
-        let path = dir.as_path().join(rt.alloc(), "pcc_outside_host_files")?;
+        let own = format!(in rt.alloc(); "pcc_outside-{}", process::id(rt.process()))?;
+        let path = dir.as_path().join(rt.alloc(), own.as_str())?;
         fs::write(&rt, path.as_path(), b"abcd")?;
         let name = path.as_path().to_str().ok_or("a path that is text")?;
         let mut files = HostFiles::new(rt.clone()?);

@@ -310,10 +310,10 @@ impl Files for MemFiles {
         if self.calls.next_is_due() {
             return Err(self.calls.fail());
         }
-        let Some(file) = find(&self.files, name) else {
-            return Err(self.calls.fail());
+        let n = match find(&self.files, name) {
+            Some(file) => copy_from(file, at, buf),
+            None => return Err(self.calls.fail()),
         };
-        let n = copy_from(file, at, buf);
         self.reach = further(self.reach, at, n);
         Ok(n)
     }
