@@ -1,6 +1,8 @@
 //! The real outside: readers, writers and files of the system. What they give and take is not told.
 
-ghost use Rattle.std.specs.Prelude.{◌≡◌, ℕ, ◌<◌, ◌≤◌, List, length, IfOk, None};
+ghost use Rattle.std.specs.Prelude.{◌≡◌, ℕ, ◌<◌, ◌≤◌, List, length, take, IfOk, OnErr, None};
+ghost use Rattle.std.specs.Io.KnownBytes.{Keeps, Appends, Consumes, IsAtEnd};
+ghost use Rattle.pcc_outside.specs.Host.{source_reader, source_faults, sink_writer, sink_faults};
 ghost use Rattle.pcc_outside.specs.Outside.{Rose, Untold};
 
 use crate::counts::{further, raised};
@@ -34,19 +36,25 @@ pub struct StdSource<R> {
 impl<R: Read> StdSource<R> {
     /// A source over `reader`, such as a runtime's standard input.
     pub fn new(reader: R) -> Self
-        ensures { ⟦<StdSource<R> as Source>⟧.faults result ≡ 0 }
+        ensures reader { source_reader result ≡ reader }
+        ensures faults { source_faults result ≡ 0 }
     {
         StdSource { reader, faults: 0 }
     }
 }
 
 fn read_retrying<R: Read>(reader: &mut R, buf: &mut [u8]) -> io::Result<usize>
-    ensures { IfOk result (λ n. n ≤ length buf.old) }
+    requires { 0 < length buf.old }
+    ensures within { IfOk result (λ n. n ≤ length buf.old) }
+    ensures passes { IfOk result (λ n. Consumes (R.remaining reader.old) (R.remaining reader.new) (take n buf.new)) }
+    ensures ends { IfOk result (λ n. n ≡ 0 → IsAtEnd (R.remaining reader.new)) }
+    ensures stays { OnErr result (Keeps (R.remaining reader.old) (R.remaining reader.new)) }
 {
     for _ in 0..RETRIES {
         match reader.read(buf) {
             Err(error) if is_interrupted(&error) => {}
-            answer => return answer,
+            Err(error) => return Err(error),
+            Ok(n) => return Ok(n),
         }
     }
     reader.read(buf)
@@ -55,9 +63,19 @@ fn read_retrying<R: Read>(reader: &mut R, buf: &mut [u8]) -> io::Result<usize>
 impl<R: Read> Source for StdSource<R> {
     ghost left = { λ _. None };
 
-    ghost faults = { λ s. s.faults };
+    ghost faults = { source_faults };
 
-    fn read(&mut self, buf: &mut [u8]) -> Result<usize, Failed> {
+    fn read(&mut self, buf: &mut [u8]) -> Result<usize, Failed>
+        requires { 0 < length buf.old }
+        ensures within { IfOk result (λ n. n ≤ length buf.old) }
+        ensures fault { OnErr result (Rose (source_faults self.old) (source_faults self.new)) }
+        ensures counted { source_faults self.old ≤ source_faults self.new }
+
+        // The bytes are the reader's, where it is known what it has left.
+        ensures passes { IfOk result (λ n. Consumes (R.remaining (source_reader self.old)) (R.remaining (source_reader self.new)) (take n buf.new)) }
+        ensures ends { IfOk result (λ n. n ≡ 0 → IsAtEnd (R.remaining (source_reader self.new))) }
+        ensures stays { OnErr result (Keeps (R.remaining (source_reader self.old)) (R.remaining (source_reader self.new))) }
+    {
         match read_retrying(&mut self.reader, buf) {
             Ok(n) => Ok(n),
             Err(_) => Err(fail(&mut self.faults)),
@@ -65,7 +83,7 @@ impl<R: Read> Source for StdSource<R> {
     }
 }
 
-/// A writer of the system as a sink. Each write is flushed.
+/// A writer of the system as a sink. Each write is flushed, and fails where its flush does.
 #[derive(Drop)]
 pub struct StdSink<W> {
     writer: W,
@@ -75,36 +93,43 @@ pub struct StdSink<W> {
 impl<W: Write> StdSink<W> {
     /// A sink over `writer`, such as a runtime's standard output or standard error.
     pub fn new(writer: W) -> Self
-        ensures { ⟦<StdSink<W> as Sink>⟧.faults result ≡ 0 }
+        ensures writer { sink_writer result ≡ writer }
+        ensures faults { sink_faults result ≡ 0 }
     {
         StdSink { writer, faults: 0 }
     }
 }
 
 fn write_retrying<W: Write>(writer: &mut W, piece: &[u8]) -> io::Result<usize>
-    ensures { IfOk result (λ n. n ≤ length piece.now) }
+    ensures within { IfOk result (λ n. n ≤ length piece.now) }
+    ensures passes { IfOk result (λ n. Appends (W.contents writer.old) (W.contents writer.new) (take n piece.now)) }
 {
     for _ in 0..RETRIES {
         match writer.write(piece) {
             Err(error) if is_interrupted(&error) => {}
-            answer => return answer,
+            Err(error) => return Err(error),
+            Ok(n) => return Ok(n),
         }
     }
     writer.write(piece)
 }
 
-fn flush_retrying<W: Write>(writer: &mut W) -> io::Result<()> {
+fn flush_retrying<W: Write>(writer: &mut W) -> io::Result<()>
+    ensures { Keeps (W.contents writer.old) (W.contents writer.new) }
+{
     for _ in 0..RETRIES {
         match writer.flush() {
             Err(error) if is_interrupted(&error) => {}
-            answer => return answer,
+            Err(error) => return Err(error),
+            Ok(()) => return Ok(()),
         }
     }
     writer.flush()
 }
 
 fn write_through<W: Write>(writer: &mut W, piece: &[u8]) -> io::Result<usize>
-    ensures { IfOk result (λ n. n ≤ length piece.now) }
+    ensures within { IfOk result (λ n. n ≤ length piece.now) }
+    ensures passes { IfOk result (λ n. Appends (W.contents writer.old) (W.contents writer.new) (take n piece.now)) }
 {
     let n = write_retrying(writer, piece)?;
     flush_retrying(writer)?;
@@ -114,9 +139,17 @@ fn write_through<W: Write>(writer: &mut W, piece: &[u8]) -> io::Result<usize>
 impl<W: Write> Sink for StdSink<W> {
     ghost written = { λ _. None };
 
-    ghost faults = { λ s. s.faults };
+    ghost faults = { sink_faults };
 
-    fn write(&mut self, piece: &[u8]) -> Result<usize, Failed> {
+    fn write(&mut self, piece: &[u8]) -> Result<usize, Failed>
+        requires { 0 < length piece.now }
+        ensures within { IfOk result (λ n. (0 < n) × (n ≤ length piece.now)) }
+        ensures fault { OnErr result (Rose (sink_faults self.old) (sink_faults self.new)) }
+        ensures counted { sink_faults self.old ≤ sink_faults self.new }
+
+        // The bytes come to the writer, where it is known what it holds.
+        ensures passes { IfOk result (λ n. Appends (W.contents (sink_writer self.old)) (W.contents (sink_writer self.new)) (take n piece.now)) }
+    {
         match write_through(&mut self.writer, piece) {
             Ok(n) if n > 0 => Ok(n),
             _ => Err(fail(&mut self.faults)),
@@ -166,7 +199,8 @@ fn read_at_retrying<R: rt::Files>(
     for _ in 0..RETRIES {
         match read_once(runtime, name, at, buf) {
             Err(error) if is_interrupted(&error) => {}
-            answer => return answer,
+            Err(error) => return Err(error),
+            Ok(n) => return Ok(n),
         }
     }
     read_once(runtime, name, at, buf)
@@ -193,8 +227,8 @@ impl<R: rt::Files> Files for HostFiles<R> {
 #[cfg(test)]
 mod tests {
     use super::*;
-    use std::{env, process};
     use std::test::Fail;
+    use std::{env, process};
 
     /// Answers `interrupts` calls with an interruption, and then what `kind` says, or that one byte was read or written.
     #[derive(Drop)]

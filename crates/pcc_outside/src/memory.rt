@@ -1,6 +1,6 @@
 //! Sources, sinks and files in memory. Their calls fail where they are told to.
 
-ghost use Rattle.std.specs.Prelude.{◌≡◌, ℕ, ◌+◌, ◌-◌, ◌^◌, ◌<◌, ◌≤◌, ◌↔◌, ◌⊎◌, min, List, [], length, take, drop, Some, None, Ok, IfSome, IfNone, IfOk, OnOk, OnErr, IsErr, IsOk, IsTrue};
+ghost use Rattle.std.specs.Prelude.{◌≡◌, ℕ, ◌+◌, ◌-◌, ◌^◌, ◌<◌, ◌≤◌, ◌↔◌, ◌⊎◌, min, List, [], length, take, Some, None, Ok, IfSome, IfNone, IfOk, OnErr, IsErr, IsTrue};
 ghost use Rattle.pcc_outside.specs.Outside.{Rose, Takes, Adds, Missing, Holds, Gives, Reaches};
 ghost use Rattle.pcc_outside.specs.Memory.{uncalled, one_more, IsNextDue, OneCall, files_of, file_of};
 
