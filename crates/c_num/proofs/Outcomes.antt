@@ -14,7 +14,7 @@ use Rattle.c_num.specs.declared.ArithUb.{ArithUb}
 use Rattle.c_num.specs.declared.ArithUb.TheVariants.{Overflow, DivideByZero, BadShift}
 use Rattle.c_num.specs.Types.{width_of, is_signed, IsSigned, IsValue, is_value, least_of, greatest_of}
 use Rattle.c_num.specs.Conversion.{modulo, bits_of, value_of_bits, convert_to, word_of}
-use Rattle.c_num.specs.Arith.{exact, quotient, remainder, is_shift, IsRightOperand, divides_by_zero, is_bad_amount, is_bad_shift, overflows, outcome_of, wrapped_right, fitted, wrapped, negated_of, wrapped_negation, complement_of}
+use Rattle.c_num.specs.Arith.{exact, quotient, remainder, is_shift, IsRightOperand, divides_by_zero, is_bad_amount, is_out_of_range, is_bad_shift, overflows, outcome_of, wrapped_right, fitted, wrapped, negated_of, wrapped_negation, complement_of}
 use Rattle.c_num.proofs.Conversions.{convert_to-in_range, convert_to-same, convert_to-twice, value_of_bits-in_range, bits_below, modulo-same}
 
 pub le_from_test : (a b : ℤ) → int_le a b ≡ true → a ≤ℤ b
@@ -47,7 +47,7 @@ no_shift_by_zero Shl t a b e = absurd (true≢false (sym e))
 no_shift_by_zero Shr t a b e = absurd (true≢false (sym e))
 no_shift_by_zero _ t a b e = refl
 
-quotient_by_zero : (t : IntType) (a b : ℤ) → int_eq b (pos 0) ≡ true → (is_signed t && not (is_value t (quotient a b))) ≡ false
+quotient_by_zero : (t : IntType) (a b : ℤ) → int_eq b (pos 0) ≡ true → is_out_of_range t (quotient a b) ≡ false
 quotient_by_zero t a b e = rw (e, zero_is_value t) (by (is_signed t))
   where
     by : (s : Bool) → (s && not true) ≡ false
@@ -135,7 +135,7 @@ pub xor_below : (t : IntType) (a b : ℤ) → bit_xor (bits_of t a) (bits_of t b
 xor_below t a b = xor_lt (width_of t) (bits_of t a) (bits_of t b) (bits_below t a) (bits_below t b)
 
 -- in a signed type a test for a value that doesn't fail has passed
-fits_of_signed : (t : IntType) (z : ℤ) → IsSigned t → (is_signed t && not (is_value t z)) ≡ false → IsValue t z
+fits_of_signed : (t : IntType) (z : ℤ) → IsSigned t → is_out_of_range t z ≡ false → IsValue t z
 fits_of_signed t z s e = (is_value-Decides t z).0 (⊎_elim (λ f. absurd (true≢false (sym s ∙ f))) (not-false (is_value t z)) (and_cases (is_signed t) (not (is_value t z)) e))
 
 -- In a signed type a defined result is a value of the type.
@@ -145,11 +145,7 @@ exact-in_range Sub t a b s v k o = fits_of_signed t (a -ℤ b) s o
 exact-in_range Mul t a b s v k o = fits_of_signed t (a *ℤ b) s o
 exact-in_range Div t a b s v k o = fits_of_signed t (quotient a b) s o
 exact-in_range Rem t a b s v k o = remainder-in_range t a b v
-exact-in_range Shl t a b s v k o =
-    let z = exact Shl t a b in
-    let p = (or_parts (is_bad_amount t b) (is_signed t && (int_lt a (pos 0) || not (is_value t z))) k).1 in
-    let q : (int_lt a (pos 0) || not (is_value t z)) ≡ false = ⊎_elim (λ f. absurd (true≢false (sym s ∙ f))) (λ f. f) (and_cases (is_signed t) (int_lt a (pos 0) || not (is_value t z)) p) in
-    (is_value-Decides t z).0 (not-false (is_value t z) (or_parts (int_lt a (pos 0)) (not (is_value t z)) q).1)
+exact-in_range Shl t a b s v k o = fits_of_signed t (exact Shl t a b) s (or_parts (is_bad_amount t b || int_lt a (pos 0)) (is_out_of_range t (exact Shl t a b)) k).1
 exact-in_range Shr t a b s v k o = nearer_zero t a (int_shr a (unsigned_abs b)) v (shift_nearer a (unsigned_abs b))
 exact-in_range And t a b s v k o = value_of_bits-in_range t (bit_and (bits_of t a) (bits_of t b)) (and_below t a b)
 exact-in_range Or t a b s v k o = value_of_bits-in_range t (bit_or (bits_of t a) (bits_of t b)) (or_below t a b)
@@ -157,7 +153,7 @@ exact-in_range Xor t a b s v k o = value_of_bits-in_range t (bit_xor (bits_of t 
 
 -- ---- the total operator is the operator where that is defined
 
-good_amount : (t : IntType) (b : ℤ) → is_bad_amount t b ≡ false → (pos 0 ≤ℤ b) × (b <ℤ pos (width_of t))
+pub good_amount : (t : IntType) (b : ℤ) → is_bad_amount t b ≡ false → (pos 0 ≤ℤ b) × (b <ℤ pos (width_of t))
 good_amount t b k =
     let p = or_parts (int_lt b (pos 0)) (int_le (pos (width_of t)) b) k in
     let low = p.0 in
@@ -168,7 +164,9 @@ amount_is : (t : IntType) (b : ℤ) → is_bad_amount t b ≡ false → pos (mod
 amount_is t b k = let p = good_amount t b k in modulo-same (width_of t) b p.0 (omega (arith, ints)) (omega (arith, ints))
 
 right_is : (op : BinOp) (t : IntType) (a b : ℤ) → IsRightOperand op t b → is_bad_shift op t a b ≡ false → wrapped_right op t b ≡ b
-right_is Shl t a b v k = amount_is t b (or_parts (is_bad_amount t b) (is_signed t && (int_lt a (pos 0) || not (is_value t (exact Shl t a b)))) k).0
+right_is Shl t a b v k =
+    let p = or_parts (is_bad_amount t b || int_lt a (pos 0)) (is_out_of_range t (exact Shl t a b)) k in
+    amount_is t b (or_parts (is_bad_amount t b) (int_lt a (pos 0)) p.0).0
 right_is Shr t a b v k = amount_is t b k
 right_is Add t a b v k = convert_to-same t b (v refl)
 right_is Sub t a b v k = convert_to-same t b (v refl)
@@ -183,7 +181,27 @@ each_ok : {P Q : ℤ → Type 0} (r : Result ℤ ArithUb) → IfOk r P → ((x :
 each_ok (Ok x) h f = f x h
 each_ok (Err e) h f = tt
 
--- ---- the laws of `binary`, of an r that is the outcome
+-- ---- an outcome from its cause
+
+module _ (op : BinOp) (t : IntType) (a b : ℤ) where
+  pub zero_outcome : divides_by_zero op b ≡ true → Err DivideByZero ≡ outcome_of op t a b
+  zero_outcome e = sym ((causes_of op t a b).divide_by_zero.1 e)
+
+  pub shift_outcome : is_bad_shift op t a b ≡ true → Err BadShift ≡ outcome_of op t a b
+  shift_outcome e = sym ((causes_of op t a b).bad_shift.1 e)
+
+  pub overflow_outcome : overflows op t a b ≡ true → Err Overflow ≡ outcome_of op t a b
+  overflow_outcome e = sym ((causes_of op t a b).overflow.1 e)
+
+  pub ok_outcome : (r : ℤ) → divides_by_zero op b ≡ false → is_bad_shift op t a b ≡ false → overflows op t a b ≡ false → r ≡ convert_to t (exact op t a b) → Ok r ≡ outcome_of op t a b
+  unfolding outcome_of
+  ok_outcome r e f g h = rw (e, f, g, h) refl
+
+  pub fitted_outcome : divides_by_zero op b ≡ false → is_bad_shift op t a b ≡ false → overflows op t a b ≡ is_out_of_range t (exact op t a b) → fitted t (exact op t a b) ≡ outcome_of op t a b
+  unfolding outcome_of
+  fitted_outcome e f g = rw (e, f, g) refl
+
+-- ---- the laws of `binary`
 
 module _ (op : BinOp) (t : IntType) (a b : ℤ) where
   pub outcome-overflow : (outcome_of op t a b ≡ Err Overflow) ↔ IsTrue (overflows op t a b)
@@ -218,22 +236,22 @@ module _ (op : BinOp) (t : IntType) (a b : ℤ) where
 
 -- ---- the unary operators
 
-fitted-overflow : (t : IntType) (z : ℤ) → (fitted t z ≡ Err Overflow) ↔ IsTrue (is_signed t && not (is_value t z))
-fitted-overflow t z = by (is_signed t && not (is_value t z))
+fitted-overflow : (t : IntType) (z : ℤ) → (fitted t z ≡ Err Overflow) ↔ IsTrue (is_out_of_range t z)
+fitted-overflow t z = by (is_out_of_range t z)
   where
     by : (b : Bool) → (cond b (Err Overflow) (Ok (convert_to t z)) ≡ Err Overflow) ↔ IsTrue b
     by true = (λ e. refl, λ e. refl)
     by false = grind arith
 
 fitted-only_overflow : (t : IntType) (z : ℤ) → IfErr (fitted t z) (λ e. e ≡ Overflow)
-fitted-only_overflow t z = by (is_signed t && not (is_value t z))
+fitted-only_overflow t z = by (is_out_of_range t z)
   where
     by : (b : Bool) → IfErr (cond b (Err Overflow) (Ok (convert_to t z))) (λ e. e ≡ Overflow)
     by true = refl
     by false = tt
 
 fitted-reduced : (t : IntType) (z : ℤ) → IfOk (fitted t z) (λ r. r ≡ convert_to t z)
-fitted-reduced t z = by (is_signed t && not (is_value t z))
+fitted-reduced t z = by (is_out_of_range t z)
   where
     by : (b : Bool) → IfOk (cond b (Err Overflow) (Ok (convert_to t z))) (λ r. r ≡ convert_to t z)
     by true = tt
@@ -247,7 +265,7 @@ least_alone Int a s v n = by_lt_z (greatest_of Int) (neg_ℤ a) (λ h. omega (ar
 least_alone Long a s v n = by_lt_z (greatest_of Long) (neg_ℤ a) (λ h. omega (arith, ints)) (λ h. absurd (n (record { least = omega (arith, ints); greatest = h })))
 least_alone _ a s v n = absurd (true≢false (sym s))
 
-negated_least : (t : IntType) → IsSigned t → (is_signed t && not (is_value t (neg_ℤ (least_of t)))) ≡ true
+negated_least : (t : IntType) → IsSigned t → is_out_of_range t (neg_ℤ (least_of t)) ≡ true
 negated_least Char s = refl
 negated_least Short s = refl
 negated_least Int s = refl

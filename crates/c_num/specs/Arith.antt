@@ -50,6 +50,10 @@ is_shift Xor = false
 abbrev pub IsRightOperand : BinOp → IntType → ℤ → Type 0
 IsRightOperand op t b = is_shift op ≡ false → IsValue t b
 
+-- The result z doesn't fit the signed type t. Unsigned results are reduced modulo 2 ^ width (C17 6.2.5 paragraph 9).
+abbrev pub is_out_of_range : IntType → ℤ → Bool
+is_out_of_range t z = is_signed t && not (is_value t z)
+
 -- a divisor of zero (C17 6.5.5 paragraph 5)
 abbrev pub divides_by_zero : BinOp → ℤ → Bool
 divides_by_zero Add b = false
@@ -67,35 +71,35 @@ divides_by_zero Xor b = false
 abbrev pub is_bad_amount : IntType → ℤ → Bool
 is_bad_amount t b = int_lt b (pos 0) || int_le (pos (width_of t)) b
 
--- a bad amount, or in a signed type a left shift of a negative value or past the range (C17 6.5.7 paragraphs 3 and 4)
+-- A bad amount, or a left shift of a negative value, which a signed type alone has, or past the range (C17 6.5.7
+-- paragraphs 3 and 4).
 abbrev pub is_bad_shift : BinOp → IntType → ℤ → ℤ → Bool
 is_bad_shift Add t a b = false
 is_bad_shift Sub t a b = false
 is_bad_shift Mul t a b = false
 is_bad_shift Div t a b = false
 is_bad_shift Rem t a b = false
-is_bad_shift Shl t a b = is_bad_amount t b || (is_signed t && (int_lt a (pos 0) || not (is_value t (exact Shl t a b))))
+is_bad_shift Shl t a b = is_bad_amount t b || int_lt a (pos 0) || is_out_of_range t (exact Shl t a b)
 is_bad_shift Shr t a b = is_bad_amount t b
 is_bad_shift And t a b = false
 is_bad_shift Or t a b = false
 is_bad_shift Xor t a b = false
 
--- In a signed type, a result that is no value of the type (C17 6.5 paragraph 5). A remainder is defined where its
--- quotient is (6.5.5 paragraph 6).
+-- A result out of range (C17 6.5 paragraph 5). A remainder is defined where its quotient is (6.5.5 paragraph 6).
 abbrev pub overflows : BinOp → IntType → ℤ → ℤ → Bool
-overflows Add t a b = is_signed t && not (is_value t (a +ℤ b))
-overflows Sub t a b = is_signed t && not (is_value t (a -ℤ b))
-overflows Mul t a b = is_signed t && not (is_value t (a *ℤ b))
-overflows Div t a b = is_signed t && not (is_value t (quotient a b))
-overflows Rem t a b = is_signed t && not (is_value t (quotient a b))
+overflows Add t a b = is_out_of_range t (a +ℤ b)
+overflows Sub t a b = is_out_of_range t (a -ℤ b)
+overflows Mul t a b = is_out_of_range t (a *ℤ b)
+overflows Div t a b = is_out_of_range t (quotient a b)
+overflows Rem t a b = is_out_of_range t (quotient a b)
 overflows Shl t a b = false
 overflows Shr t a b = false
 overflows And t a b = false
 overflows Or t a b = false
 overflows Xor t a b = false
 
--- What the operator gives on values of t. An unsigned result is reduced modulo 2 ^ width (C17 6.2.5 paragraph 9); a
--- signed one that is no value of t is undefined, so its conversion changes nothing.
+-- What the operator gives on values of t. The conversion reduces an unsigned result; a signed one that is defined is a
+-- value of t, so that it stays.
 unfoldable pub outcome_of : BinOp → IntType → ℤ → ℤ → Result ℤ ArithUb
 outcome_of op t a b =
   if divides_by_zero op b then Err DivideByZero
@@ -113,7 +117,7 @@ wrapped op t a b = convert_to t (exact op t (convert_to t a) (wrapped_right op t
 
 -- a result z in type t: in a signed type an overflow where it is no value
 abbrev pub fitted : IntType → ℤ → Result ℤ ArithUb
-fitted t z = if is_signed t && not (is_value t z) then Err Overflow else Ok (convert_to t z)
+fitted t z = if is_out_of_range t z then Err Overflow else Ok (convert_to t z)
 
 -- the unary `-` (C17 6.5.3.3 paragraph 3), and the same made total
 unfoldable pub negated_of : IntType → ℤ → Result ℤ ArithUb
