@@ -2,7 +2,7 @@
 use Rattle.std.proofs.Common.{◌≡◌, ◌≢◌, ◌↔◌, ◌⊎◌, inl, inr, ℕ, zero, suc, ◌+◌, ◌-◌, ◌*◌, ◌/◌, ◌%◌, ◌^◌, ◌<◌, ◌≤◌, Bool, true, false, not, cond, ◌&&◌, ◌||◌, ℤ, pos, negsuc, ◌+ℤ◌, ◌-ℤ◌, ◌*ℤ◌, neg_ℤ, ◌≤ℤ◌, ◌<ℤ◌, int_le, int_lt, int_eq, Result, Ok, Err, IfOk, IfErr, IsTrue, refl, sym, ap, ◌∙◌, subst, arith, true≢false, rules, ⊎_elim, unsigned_abs, int_rem, bit_and, bit_or, bit_xor, mod-eq_of_lt, div-le_self}
 use Rattle.std.proofs.lemmas.Int.{ints, by_lt_z}
 use Rattle.std.proofs.lemmas.Nat.{and_le_l, or_lt, xor_lt}
-use Rattle.std.proofs.lemmas.Bool.{and_from, and_parts, and_cases, or_parts, not-false, not-true}
+use Rattle.std.proofs.lemmas.Bool.{and_from, and_parts, and_cases, or_parts, not-false, not-true, or_from, le-ltb, lt-leb}
 use Rattle.std.specs.Bool.{Decides}
 use Rattle.std.specs.Int.{int_shr}
 use Rattle.std.proofs.Math.Nat.{mod-le}
@@ -15,7 +15,7 @@ use Rattle.c_num.specs.declared.ArithUb.TheVariants.{Overflow, DivideByZero, Bad
 use Rattle.c_num.specs.Types.{width_of, is_signed, IsSigned, IsValue, is_value, least_of, greatest_of}
 use Rattle.c_num.specs.Conversion.{modulo, bits_of, value_of_bits, convert_to, word_of}
 use Rattle.c_num.specs.Arith.{exact, quotient, remainder, is_shift, IsRightOperand, divides_by_zero, is_bad_amount, is_out_of_range, is_bad_shift, overflows, outcome_of, wrapped_right, fitted, wrapped, negated_of, wrapped_negation, complement_of}
-use Rattle.c_num.proofs.Conversions.{convert_to-in_range, convert_to-same, convert_to-twice, value_of_bits-in_range, bits_below, modulo-same}
+use Rattle.c_num.proofs.Conversions.{convert_to-in_range, convert_to-same, convert_to-twice, value_of_bits-in_range, bits_below, modulo-same, modulo_below}
 
 pub le_from_test : (a b : ℤ) → int_le a b ≡ true → a ≤ℤ b
 le_from_test a b e = omega (arith, ints)
@@ -201,6 +201,14 @@ module _ (op : BinOp) (t : IntType) (a b : ℤ) where
   unfolding outcome_of
   fitted_outcome e f g = rw (e, f, g) refl
 
+-- A number that is the product, or congruent to it in an unsigned type, is fitted as the product is.
+pub product_outcome : (t : IntType) (a b p : ℤ) → (IsSigned t → p ≡ a *ℤ b) → convert_to t p ≡ convert_to t (a *ℤ b) → fitted t p ≡ outcome_of Mul t a b
+product_outcome t a b p f e = by (is_signed t) refl
+  where
+    by : (s : Bool) → is_signed t ≡ s → fitted t p ≡ outcome_of Mul t a b
+    by true s = ap (fitted t) (f s) ∙ fitted_outcome Mul t a b refl refl refl
+    by false s = rw (s, e) (let h : is_out_of_range t (a *ℤ b) ≡ false = rw s refl in ok_outcome Mul t a b (convert_to t (a *ℤ b)) refl refl h refl)
+
 -- ---- the laws of `binary`
 
 module _ (op : BinOp) (t : IntType) (a b : ℤ) where
@@ -230,7 +238,20 @@ module _ (op : BinOp) (t : IntType) (a b : ℤ) where
       each_ok (outcome_of op t a b) (causes_of op t a b).value
       (λ x h. rw (convert_to-same t a v, right_is op t a b w h.1) (sym h.3))
 
-  -- the same, where the outcome is known
+  -- all that is said of an r that is the outcome
+  pub explained : (r : Result ℤ ArithUb) → IsValue t a → r ≡ outcome_of op t a b → record { outcome : r ≡ outcome_of op t a b; overflow : (r ≡ Err Overflow) ↔ IsTrue (overflows op t a b); divide_by_zero : (r ≡ Err DivideByZero) ↔ IsTrue (divides_by_zero op b); bad_shift : (r ≡ Err BadShift) ↔ IsTrue (is_bad_shift op t a b); signed : IsSigned t → IfOk r (λ x. x ≡ exact op t a b); reduced : IfOk r (λ x. x ≡ convert_to t (exact op t a b)); in_range : IfOk r (λ x. IsValue t x) }
+  explained r v e =
+      record {
+        outcome = e;
+        overflow = rw e outcome-overflow;
+        divide_by_zero = rw e outcome-divide_by_zero;
+        bad_shift = rw e outcome-bad_shift;
+        signed = λ s. rw e (outcome-signed s v);
+        reduced = rw e outcome-reduced;
+        in_range = rw e outcome-in_range;
+      }
+
+  -- where the outcome is known
   pub wrapped_is : (r : ℤ) → IsValue t a → IsRightOperand op t b → outcome_of op t a b ≡ Ok r → wrapped op t a b ≡ r
   wrapped_is r v w e = rw e at (wrapped-outcome v w)
 
@@ -287,6 +308,14 @@ pub negated-in_range : (t : IntType) (a : ℤ) → IfOk (negated_of t a) (λ r. 
 unfolding negated_of
 negated-in_range t a = each_ok (negated_of t a) (fitted-reduced t (neg_ℤ a)) (λ x e. rw e (convert_to-in_range t (neg_ℤ a)))
 
+pub fitted_negation : (t : IntType) (a : ℤ) → fitted t (neg_ℤ a) ≡ negated_of t a
+unfolding negated_of
+fitted_negation t a = refl
+
+pub wrapped_negation_is : (t : IntType) (a : ℤ) → convert_to t (neg_ℤ (convert_to t a)) ≡ wrapped_negation t a
+unfolding wrapped_negation
+wrapped_negation_is t a = refl
+
 pub wrapped-negated : (t : IntType) (a : ℤ) → IsValue t a → IfOk (negated_of t a) (λ r. wrapped_negation t a ≡ r)
 unfolding negated_of wrapped_negation
 wrapped-negated t a v = each_ok (negated_of t a) (fitted-reduced t (neg_ℤ a)) (λ x e. rw (convert_to-same t a v) (sym e))
@@ -294,3 +323,31 @@ wrapped-negated t a v = each_ok (negated_of t a) (fitted-reduced t (neg_ℤ a)) 
 pub complement-in_range : (t : IntType) (a : ℤ) → IsValue t (complement_of t a)
 unfolding complement_of
 complement-in_range t a = let p = bits_below t a in value_of_bits-in_range t (2 ^ width_of t - 1 - bits_of t a) (omega arith)
+
+pub wrapped_value : (op : BinOp) (t : IntType) (a b : ℤ) → convert_to t (exact op t (convert_to t a) (wrapped_right op t b)) ≡ wrapped op t a b
+unfolding wrapped
+wrapped_value op t a b = refl
+
+-- ---- the right operand of the total operator
+
+pub wrapped_right-operand : (op : BinOp) (t : IntType) (b : ℤ) → IsRightOperand op t (wrapped_right op t b)
+wrapped_right-operand op t b = by (is_shift op)
+  where
+    by : (s : Bool) → s ≡ false → IsValue t (cond s (pos (modulo b (width_of t))) (convert_to t b))
+    by true e = absurd (true≢false e)
+    by false e = convert_to-in_range t b
+
+width_positive : (t : IntType) → 0 < width_of t
+width_positive Char = omega arith
+width_positive UChar = omega arith
+width_positive Short = omega arith
+width_positive UShort = omega arith
+width_positive Int = omega arith
+width_positive UInt = omega arith
+width_positive Long = omega arith
+width_positive ULong = omega arith
+
+pub wrapped_right-amount : (op : BinOp) (t : IntType) (b : ℤ) → is_shift op ≡ true → is_bad_amount t (wrapped_right op t b) ≡ false
+wrapped_right-amount op t b e =
+    let n = modulo b (width_of t) in
+    rw e (or_from (int_lt (pos n) (pos 0)) (int_le (pos (width_of t)) (pos n)) (le-ltb n 0 (omega arith)) (lt-leb (width_of t) n (modulo_below b (width_of t) (width_positive t))))

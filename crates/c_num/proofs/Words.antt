@@ -17,26 +17,26 @@ use Rattle.c_num.proofs.Conversions.{bits-word, convert_to-value_of_bits, same_c
 use Rattle.c_num.proofs.Outcomes.{and_below, or_below, xor_below, good_amount}
 
 module _ (t : IntType) (a b : ℤ) where
-  and_words : convert_to t (pos (bit_and (word_of t a) (word_of t b))) ≡ exact And t a b
+  pub and_words : convert_to t (pos (bit_and (word_of t a) (word_of t b))) ≡ exact And t a b
   unfolding convert_to
   and_words = ap (value_of_bits t) (and_mod (word_of t a) (word_of t b) (width_of t) ∙ ap₂ bit_and (bits-word t a) (bits-word t b))
 
-  pub and-converted : convert_to t (pos (bit_and (word_of t a) (word_of t b))) ≡ convert_to t (exact And t a b)
-  and-converted = and_words ∙ sym (convert_to-value_of_bits t (bit_and (bits_of t a) (bits_of t b)) (and_below t a b))
+  pub and_in_type : exact And t a b ≡ convert_to t (exact And t a b)
+  and_in_type = sym (convert_to-value_of_bits t (bit_and (bits_of t a) (bits_of t b)) (and_below t a b))
 
-  or_words : convert_to t (pos (bit_or (word_of t a) (word_of t b))) ≡ exact Or t a b
+  pub or_words : convert_to t (pos (bit_or (word_of t a) (word_of t b))) ≡ exact Or t a b
   unfolding convert_to
   or_words = ap (value_of_bits t) (or_mod (word_of t a) (word_of t b) (width_of t) ∙ ap₂ bit_or (bits-word t a) (bits-word t b))
 
-  pub or-converted : convert_to t (pos (bit_or (word_of t a) (word_of t b))) ≡ convert_to t (exact Or t a b)
-  or-converted = or_words ∙ sym (convert_to-value_of_bits t (bit_or (bits_of t a) (bits_of t b)) (or_below t a b))
+  pub or_in_type : exact Or t a b ≡ convert_to t (exact Or t a b)
+  or_in_type = sym (convert_to-value_of_bits t (bit_or (bits_of t a) (bits_of t b)) (or_below t a b))
 
-  xor_words : convert_to t (pos (bit_xor (word_of t a) (word_of t b))) ≡ exact Xor t a b
+  pub xor_words : convert_to t (pos (bit_xor (word_of t a) (word_of t b))) ≡ exact Xor t a b
   unfolding convert_to
   xor_words = ap (value_of_bits t) (xor_mod (word_of t a) (word_of t b) (width_of t) ∙ ap₂ bit_xor (bits-word t a) (bits-word t b))
 
-  pub xor-converted : convert_to t (pos (bit_xor (word_of t a) (word_of t b))) ≡ convert_to t (exact Xor t a b)
-  xor-converted = xor_words ∙ sym (convert_to-value_of_bits t (bit_xor (bits_of t a) (bits_of t b)) (xor_below t a b))
+  pub xor_in_type : exact Xor t a b ≡ convert_to t (exact Xor t a b)
+  xor_in_type = sym (convert_to-value_of_bits t (bit_xor (bits_of t a) (bits_of t b)) (xor_below t a b))
 
   -- the product of two values of an unsigned type, modulo 2 ^ 64
   pub product-converted : is_signed t ≡ false → IsValue t a → IsValue t b → convert_to t (pos (word_of t a * word_of t b % 2 ^ 64)) ≡ convert_to t (a *ℤ b)

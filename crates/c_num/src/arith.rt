@@ -2,7 +2,7 @@
 ghost use Rattle.std.specs.Prelude.{◌≡◌, ◌↔◌, ◌<◌, ◌^◌, true, false, pos, ◌*ℤ◌, IsTrue, IfOk, IfErr};
 ghost use Rattle.c_num.specs.Types.{IsSigned, IsValue, least_of};
 ghost use Rattle.c_num.specs.Conversion.{convert_to};
-ghost use Rattle.c_num.specs.Arith.{quotient, remainder, exact, is_shift, IsRightOperand, divides_by_zero, is_out_of_range, is_bad_amount, is_bad_shift, overflows, outcome_of, wrapped, fitted, negated_of, wrapped_negation, complement_of, Holds, compare_of};
+ghost use Rattle.c_num.specs.Arith.{quotient, remainder, exact, is_shift, IsRightOperand, divides_by_zero, is_out_of_range, is_bad_amount, is_bad_shift, overflows, outcome_of, wrapped_right, wrapped, fitted, negated_of, wrapped_negation, complement_of, Holds, compare_of};
 
 use crate::{ArithUb, BinOp, IntType, Relation, convert, value_of_word, word};
 
@@ -11,6 +11,16 @@ pub fn binary(op: BinOp, t: IntType, a: i128, b: i128) -> Result<i128, ArithUb>
     requires left { IsValue t a }
     requires right { IsRightOperand op t b }
     ensures outcome { result ≡ outcome_of op t a b }
+
+    // when each error comes
+    ensures overflow { (result ≡ Err ArithUb.Overflow) ↔ IsTrue (overflows op t a b) }
+    ensures divide_by_zero { (result ≡ Err ArithUb.DivideByZero) ↔ IsTrue (divides_by_zero op b) }
+    ensures bad_shift { (result ≡ Err ArithUb.BadShift) ↔ IsTrue (is_bad_shift op t a b) }
+
+    // what a result is
+    ensures signed { IsSigned t → IfOk result (λ r. r ≡ exact op t a b) }
+    ensures reduced { IfOk result (λ r. r ≡ convert_to t (exact op t a b)) }
+    ensures in_range { IfOk result (λ r. IsValue t r) }
 {
     match op {
         BinOp::Add => fit(t, a + b),
@@ -20,9 +30,9 @@ pub fn binary(op: BinOp, t: IntType, a: i128, b: i128) -> Result<i128, ArithUb>
         BinOp::Rem => divide_for_remainder(t, a, b),
         BinOp::Shl => shift_left(t, a, b),
         BinOp::Shr => shift_right(t, a, b),
-        BinOp::And => Ok(value_of_word(word(a, t) & word(b, t), t)),
-        BinOp::Or => Ok(value_of_word(word(a, t) | word(b, t), t)),
-        BinOp::Xor => Ok(value_of_word(word(a, t) ^ word(b, t), t)),
+        BinOp::And => Ok(bit_and(t, a, b)),
+        BinOp::Or => Ok(bit_or(t, a, b)),
+        BinOp::Xor => Ok(bit_xor(t, a, b)),
     }
 }
 
@@ -159,6 +169,24 @@ fn shift_right(t: IntType, a: i128, b: i128) -> Result<i128, ArithUb>
     Ok(convert(shifted_right(t, a, b), t))
 }
 
+fn bit_and(t: IntType, a: i128, b: i128) -> i128
+    ensures { result ≡ exact BinOp.And t a b }
+{
+    value_of_word(word(a, t) & word(b, t), t)
+}
+
+fn bit_or(t: IntType, a: i128, b: i128) -> i128
+    ensures { result ≡ exact BinOp.Or t a b }
+{
+    value_of_word(word(a, t) | word(b, t), t)
+}
+
+fn bit_xor(t: IntType, a: i128, b: i128) -> i128
+    ensures { result ≡ exact BinOp.Xor t a b }
+{
+    value_of_word(word(a, t) ^ word(b, t), t)
+}
+
 /// The result of the operator without regard to the range of `t`, or a number congruent to it modulo 2^64.
 fn unreduced(op: BinOp, t: IntType, a: i128, b: i128) -> i128
     requires left { IsValue t a }
@@ -174,13 +202,15 @@ fn unreduced(op: BinOp, t: IntType, a: i128, b: i128) -> i128
         BinOp::Rem => remainder(t, a, b),
         BinOp::Shl => shifted_left(t, a, b),
         BinOp::Shr => shifted_right(t, a, b),
-        BinOp::And => (word(a, t) & word(b, t)) as i128,
-        BinOp::Or => (word(a, t) | word(b, t)) as i128,
-        BinOp::Xor => (word(a, t) ^ word(b, t)) as i128,
+        BinOp::And => bit_and(t, a, b),
+        BinOp::Or => bit_or(t, a, b),
+        BinOp::Xor => bit_xor(t, a, b),
     }
 }
 
+/// The right operand of the operator made total.
 fn wrapped_right(op: BinOp, t: IntType, b: i128) -> i128
+    ensures { result ≡ wrapped_right op t b }
 {
     match op {
         BinOp::Shl | BinOp::Shr => b.rem_euclid(t.width() as i128),
