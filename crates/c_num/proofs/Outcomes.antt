@@ -24,9 +24,10 @@ pub test_from_le : (a b : ℤ) → a ≤ℤ b → int_le a b ≡ true
 test_from_le a b h = sym (omega (arith, ints))
 
 pub is_value-Decides : (t : IntType) (z : ℤ) → Decides (is_value t z) (IsValue t z)
-is_value-Decides t z =
-    (λ e. let p = and_parts (int_le (least_of t) z) (int_le z (greatest_of t)) e in record { least = le_from_test _ _ p.0; greatest = le_from_test _ _ p.1 },
-     λ v. and_from (int_le (least_of t) z) (int_le z (greatest_of t)) (test_from_le _ _ v.least) (test_from_le _ _ v.greatest))
+is_value-Decides t z = (
+  λ e. let p = and_parts (int_le (least_of t) z) (int_le z (greatest_of t)) e in record { least = le_from_test _ _ p.0; greatest = le_from_test _ _ p.1 },
+  λ v. and_from (int_le (least_of t) z) (int_le z (greatest_of t)) (test_from_le _ _ v.least) (test_from_le _ _ v.greatest),
+)
 
 zero_is_value : (t : IntType) → is_value t (pos 0) ≡ true
 zero_is_value Char = refl
@@ -295,10 +296,11 @@ negated_least _ s = absurd (true≢false (sym s))
 
 pub negated-overflow : (t : IntType) (a : ℤ) → IsValue t a → (negated_of t a ≡ Err Overflow) ↔ (IsSigned t × (a ≡ least_of t))
 unfolding negated_of
-negated-overflow t a v =
-    (λ e. let p = and_parts (is_signed t) (not (is_value t (neg_ℤ a))) ((fitted-overflow t (neg_ℤ a)).0 e) in
-        (p.0, least_alone t a p.0 v (λ w. true≢false (sym ((is_value-Decides t (neg_ℤ a)).1 w) ∙ not-true (is_value t (neg_ℤ a)) p.1))),
-     λ h. (fitted-overflow t (neg_ℤ a)).1 (rw h.1 (negated_least t h.0)))
+negated-overflow t a v = (
+  λ e. let p = and_parts (is_signed t) (not (is_value t (neg_ℤ a))) ((fitted-overflow t (neg_ℤ a)).0 e) in
+      (p.0, least_alone t a p.0 v (λ w. true≢false (sym ((is_value-Decides t (neg_ℤ a)).1 w) ∙ not-true (is_value t (neg_ℤ a)) p.1))),
+  λ h. (fitted-overflow t (neg_ℤ a)).1 (rw h.1 (negated_least t h.0)),
+)
 
 pub negated-only_overflow : (t : IntType) (a : ℤ) → IfErr (negated_of t a) (λ e. e ≡ Overflow)
 unfolding negated_of

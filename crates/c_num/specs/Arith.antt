@@ -102,10 +102,10 @@ overflows Xor t a b = false
 -- value of t, so that it stays.
 unfoldable pub outcome_of : BinOp → IntType → ℤ → ℤ → Result ℤ ArithUb
 outcome_of op t a b =
-  if divides_by_zero op b then Err DivideByZero
-  else if is_bad_shift op t a b then Err BadShift
-  else if overflows op t a b then Err Overflow
-  else Ok (convert_to t (exact op t a b))
+    if divides_by_zero op b then Err DivideByZero
+    else if is_bad_shift op t a b then Err BadShift
+    else if overflows op t a b then Err Overflow
+    else Ok (convert_to t (exact op t a b))
 
 -- The operator made total: both operands are converted to t first, but the amount of a shift is taken modulo the width,
 -- and the result is converted to t.

@@ -10,10 +10,9 @@ ghost use Rattle.c_num.specs.Types.{width_of, is_signed, IsValue, promoted, comm
 mod arith;
 mod conversion;
 
-use thiserror::Error;
-
 pub use arith::{binary, compare, complement, negate, wrap_binary, wrap_negate};
 pub use conversion::{convert, value_of_word, word};
+use thiserror::Error;
 
 /// An integer type. `char` is signed and has 8 bits, `short` 16, `int` 32 and `long` 64 (C17 6.2.5).
 #[derive(Clone, Copy, Debug, PartialEq, Eq)]
@@ -124,3 +123,6 @@ pub fn common(a: IntType, b: IntType) -> IntType
         (_, _) => IntType::Int,
     }
 }
+
+#[cfg(test)]
+mod tests;
