@@ -1,13 +1,14 @@
 -- The laws of conversion: the converted value is in range, congruent to what was converted, and the only such value.
-use Rattle.std.proofs.Common.{◌≡◌, ℕ, zero, suc, ◌+◌, ◌-◌, ◌*◌, ◌/◌, ◌%◌, ◌^◌, ◌<◌, ◌≤◌, Bool, true, false, cond, ◌&&◌, ℤ, pos, negsuc, ◌+ℤ◌, ◌-ℤ◌, ◌*ℤ◌, neg_ℤ, ◌≤ℤ◌, leb, leb-true, leb-false, le-leb, int_div, int_le, ◌<ℤ◌, ◌⊎◌, inl, inr, refl, sym, ap, ◌∙◌, arith, mod-eq_of_lt, true≢false}
+use Rattle.std.proofs.Common.{◌≡◌, ℕ, zero, suc, ◌+◌, ◌-◌, ◌*◌, ◌/◌, ◌%◌, ◌^◌, ◌<◌, ◌≤◌, Bool, true, false, cond, ◌&&◌, ℤ, pos, negsuc, ◌+ℤ◌, ◌-ℤ◌, ◌*ℤ◌, neg_ℤ, ◌≤ℤ◌, leb, ltb, leb-true, leb-false, le-leb, int_div, int_le, ◌<ℤ◌, ◌⊎◌, inl, inr, refl, sym, ap, ◌∙◌, arith, mod-eq_of_lt, true≢false}
 use Rattle.std.proofs.Math.IntN.{suc_ℤ, suc_ℤ-*ℤ}
 use Rattle.std.proofs.lemmas.Int.{ints}
 use Rattle.std.proofs.lemmas.Bool.{and_right, lt-leb}
+use Rattle.std.specs.Bool.{beq}
 use Rattle.std.specs.Int.{int_rem_euclid}
 use Rattle.std.proofs.lemmas.Nat.{pow_pos}
 use Rattle.c_num.specs.declared.IntType.{IntType}
 use Rattle.c_num.specs.declared.IntType.TheVariants.{Char, UChar, Short, UShort, Int, UInt, Long, ULong}
-use Rattle.c_num.specs.Types.{width_of, is_signed, IsValue, least_of, greatest_of}
+use Rattle.c_num.specs.Types.{width_of, is_signed, IsValue, least_of, greatest_of, rank_of, promoted, unsigned_of, common_of_signs, common_of_promoted, common_of}
 use Rattle.c_num.specs.Conversion.{modulo, IsCongruent, bits_of, value_of_bits, convert_to, word_of}
 
 -- ---- remainders
@@ -227,3 +228,55 @@ unsigned_modulo ULong z u v = modulo-same (2 ^ 64) z v.least v.greatest (omega a
 
 pub word_of_unsigned : (t : IntType) (z : ℤ) → is_signed t ≡ false → IsValue t z → pos (word_of t z) ≡ z
 word_of_unsigned t z u v = ap pos (word_is t z v) ∙ unsigned_modulo t z u v
+
+-- ---- promotion
+
+-- The promoted type has all values of the type (C17 6.3.1.1 paragraph 3).
+pub promoted-holds : (t : IntType) (z : ℤ) → IsValue t z → IsValue (promoted t) z
+promoted-holds Char z v = omega (arith, ints)
+promoted-holds UChar z v = omega (arith, ints)
+promoted-holds Short z v = omega (arith, ints)
+promoted-holds UShort z v = omega (arith, ints)
+promoted-holds Int z v = v
+promoted-holds UInt z v = v
+promoted-holds Long z v = v
+promoted-holds ULong z v = v
+
+-- A value of a promoted type is not promoted further, and an operator works in a promoted type.
+pub promoted-twice : (t : IntType) → promoted (promoted t) ≡ promoted t
+promoted-twice Char = refl
+promoted-twice UChar = refl
+promoted-twice Short = refl
+promoted-twice UShort = refl
+promoted-twice Int = refl
+promoted-twice UInt = refl
+promoted-twice Long = refl
+promoted-twice ULong = refl
+
+one_of : (b : Bool) (x y : IntType) → promoted x ≡ x → promoted y ≡ y → promoted (cond b x y) ≡ cond b x y
+one_of true x y e f = e
+one_of false x y e f = f
+
+unsigned_promoted : (t : IntType) → promoted t ≡ t → promoted (unsigned_of t) ≡ unsigned_of t
+unsigned_promoted Int e = refl
+unsigned_promoted UInt e = refl
+unsigned_promoted Long e = refl
+unsigned_promoted ULong e = refl
+unsigned_promoted Char e = absurd (cc)
+unsigned_promoted UChar e = absurd (cc)
+unsigned_promoted Short e = absurd (cc)
+unsigned_promoted UShort e = absurd (cc)
+
+of_signs_promoted : (s u : IntType) → promoted s ≡ s → promoted u ≡ u → promoted (common_of_signs s u) ≡ common_of_signs s u
+of_signs_promoted s u e f =
+    one_of (leb (rank_of s) (rank_of u)) u (cond (int_le (greatest_of u) (greatest_of s)) s (unsigned_of s)) f
+    (one_of (int_le (greatest_of u) (greatest_of s)) s (unsigned_of s) e (unsigned_promoted s e))
+
+pub promoted-common_of : (a b : IntType) → promoted (common_of a b) ≡ common_of a b
+promoted-common_of a b = by (promoted a) (promoted b) (promoted-twice a) (promoted-twice b)
+  where
+    by : (x y : IntType) → promoted x ≡ x → promoted y ≡ y → promoted (common_of_promoted x y) ≡ common_of_promoted x y
+    by x y e f =
+        one_of (beq (is_signed x) (is_signed y)) (cond (ltb (rank_of x) (rank_of y)) y x) (cond (is_signed x) (common_of_signs x y) (common_of_signs y x))
+        (one_of (ltb (rank_of x) (rank_of y)) y x f e)
+        (one_of (is_signed x) (common_of_signs x y) (common_of_signs y x) (of_signs_promoted x y e f) (of_signs_promoted y x f e))

@@ -97,7 +97,7 @@ causes_of op t a b =
 
 -- ---- results of a signed type are exact
 
-zero_in_range : (t : IntType) → IsValue t (pos 0)
+pub zero_in_range : (t : IntType) → IsValue t (pos 0)
 zero_in_range t = (is_value-Decides t (pos 0)).0 (zero_is_value t)
 
 -- r lies between a and 0
@@ -329,6 +329,14 @@ complement-in_range t a = let p = bits_below t a in value_of_bits-in_range t (2 
 pub wrapped_value : (op : BinOp) (t : IntType) (a b : ℤ) → convert_to t (exact op t (convert_to t a) (wrapped_right op t b)) ≡ wrapped op t a b
 unfolding wrapped
 wrapped_value op t a b = refl
+
+pub wrapped-in_range : (op : BinOp) (t : IntType) (a b : ℤ) → IsValue t (wrapped op t a b)
+unfolding wrapped
+wrapped-in_range op t a b = convert_to-in_range t (exact op t (convert_to t a) (wrapped_right op t b))
+
+pub wrapped_negation-in_range : (t : IntType) (a : ℤ) → IsValue t (wrapped_negation t a)
+unfolding wrapped_negation
+wrapped_negation-in_range t a = convert_to-in_range t (neg_ℤ (convert_to t a))
 
 -- ---- the right operand of the total operator
 

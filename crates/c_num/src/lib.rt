@@ -4,7 +4,7 @@
 //! undefined where it is; `wrap_binary`, `wrap_negate` and `complement` are total, as a machine needs them.
 #![tactic(auto)]
 
-ghost use Rattle.std.specs.Prelude.{◌≡◌, ◌↔◌, IsTrue};
+ghost use Rattle.std.specs.Prelude.{◌≡◌, ◌↔◌, IsTrue, ℤ};
 ghost use Rattle.c_num.specs.Types.{width_of, is_signed, IsValue, promoted, common_of};
 
 mod arith;
@@ -100,7 +100,8 @@ impl IntType {
 
 /// The type after the integer promotions (C17 6.3.1.1 paragraph 2).
 pub fn promote(t: IntType) -> IntType
-    ensures { result ≡ promoted t }
+    ensures value { result ≡ promoted t }
+    ensures holds { (z : ℤ) → IsValue t z → IsValue result z }
 {
     match t {
         IntType::Char | IntType::UChar | IntType::Short | IntType::UShort => IntType::Int,
@@ -111,7 +112,8 @@ pub fn promote(t: IntType) -> IntType
 /// The type in which an operator on operands of types `a` and `b` works: that of the usual arithmetic conversions, the
 /// promotions first (C17 6.3.1.8).
 pub fn common(a: IntType, b: IntType) -> IntType
-    ensures { result ≡ common_of a b }
+    ensures value { result ≡ common_of a b }
+    ensures promoted { promoted result ≡ result }
 {
     match (promote(a), promote(b)) {
         (IntType::ULong, _) => IntType::ULong,
