@@ -2,10 +2,14 @@
 --
 -- A text is cut from the left: white space is passed, and then the longest piece that has the shape of a token is
 -- taken, whatever follows (C17 6.4 paragraph 4). Each piece must then be a token of the language.
-use Rattle.std.specs.Prelude.{◌≡◌, ℕ, zero, suc, ◌+◌, ◌-◌, ◌*◌, ◌^◌, ◌<◌, ◌≤◌, List, [], ◌∷◌, ◌++◌, Option, Some, None, Bool, true, false, ◌&&◌, ◌||◌, ◌==◌, nat_lt, nat_le, if◌then◌else◌, length, codes}
+use Rattle.std.specs.Prelude.{◌≡◌, ℕ, zero, suc, ◌+◌, ◌-◌, ◌*◌, ◌^◌, ◌<◌, ◌≤◌, List, [], ◌∷◌, ◌++◌, Option, Some, None, Bool, true, false, ◌&&◌, ◌||◌, ◌==◌, nat_lt, nat_le, if◌then◌else◌, length, map, codes, Vec, Result, Ok, Err}
 use Rattle.std.specs.List.{list_all}
 use Rattle.std.specs.Str.{bytes_eq}
+use Rattle.std.specs.declared.alloc.Global.{Global}
 use Rattle.c_lexer.specs.declared.token.Lexeme.{Lexeme}
+use Rattle.c_lexer.specs.declared.token.Token.{Token}
+use Rattle.c_lexer.specs.declared.token.LexErr.{LexErr}
+use Rattle.c_lexer.specs.declared.token.LexErr.TheVariants.{BadByte, BadLiteral, Unclosed, BadDirective, NameTooLong, OutOfMemory}
 use Rattle.c_lexer.specs.declared.token.Lexeme.TheVariants as L
 
 abbrev pub is_between : ℕ → ℕ → ℕ → Bool
@@ -165,3 +169,16 @@ pub data Divides : List ℕ → List Lexeme → Type 0 where
   at_end : Divides [] (L.EndOfText ∷ [])
   space : (byte : ℕ) (text : List ℕ) (tokens : List Lexeme) → is_space byte ≡ true → Divides text tokens → Divides (byte ∷ text) tokens
   token : (text piece rest : List ℕ) (lexeme : Lexeme) (tokens : List Lexeme) → text ≡ piece ++ rest → IsLongest piece rest → token_of piece ≡ Some lexeme → Divides rest tokens → Divides text (lexeme ∷ tokens)
+
+abbrev pub lexemes_of : List Token → List Lexeme
+lexemes_of tokens = map (λ (token : Token). token.lexeme) tokens
+
+-- What was found is these, unless memory ran out.
+abbrev pub IsFoundUnlessMemory : Result (Vec Token Global) LexErr → List Lexeme → Type 0
+IsFoundUnlessMemory (Ok tokens) lexemes = lexemes_of tokens.items ≡ lexemes
+IsFoundUnlessMemory (Err OutOfMemory) lexemes = Unit {0}
+IsFoundUnlessMemory (Err (BadByte place)) lexemes = ⊥
+IsFoundUnlessMemory (Err (BadLiteral place)) lexemes = ⊥
+IsFoundUnlessMemory (Err (Unclosed place)) lexemes = ⊥
+IsFoundUnlessMemory (Err (BadDirective place)) lexemes = ⊥
+IsFoundUnlessMemory (Err (NameTooLong place)) lexemes = ⊥

@@ -1,0 +1,4 @@
+pub mod Dividing
+pub mod Longest
+pub mod Quoted
+pub mod Values
