@@ -1,10 +1,10 @@
 -- What the division of a text into tokens is, from the left: it is the only one.
-use Rattle.std.proofs.Common.{◌≡◌, ◌⊎◌, inl, inr, ℕ, ◌≤◌, ◌==◌, List, [], ◌∷◌, ◌++◌, Some, None, Bool, true, false, cond, length, take, drop, sym, refl, ap, ◌∙◌, subst, append_assoc, append-nil, arith, take-append-drop}
+use Rattle.std.proofs.Common.{◌≡◌, ◌⊎◌, inl, inr, ℕ, List, [], ◌∷◌, ◌++◌, Some, true, false, take, drop, sym, refl, ap, ◌∙◌, subst, append_assoc, append-nil, arith, take-append-drop}
 use Rattle.std.proofs.lemmas.Bool.{false≢true, both_ways}
 use Rattle.std.proofs.lemmas.Bool.Decides.{nat_tests}
 use Rattle.c_lexer.specs.declared.token.Lexeme.{Lexeme}
 use Rattle.c_lexer.specs.declared.token.Lexeme.TheVariants as L
-use Rattle.c_lexer.specs.Tokens.{is_space, is_letter, is_digit, is_punctuator, has_shape, token_of, IsLongest, Divides, at_end, space, token}
+use Rattle.c_lexer.specs.Tokens.{is_space, has_shape, token_of, IsLongest, Divides, at_end, space, token}
 use Rattle.c_lexer.specs.Pieces.{IsFirstToken, HasNoToken}
 
 -- of two fronts of one list, one begins the other
@@ -70,23 +70,25 @@ cut_space text found rest byte others begins blank cut = record {
   splits = λ lexemes d. (let s = cut.splits lexemes d in (s.0, s.1, without_space byte others s.0 blank (subst (λ t. Divides t s.0) begins s.2)));
 }
 
-pub cut_token : (text : List ℕ) (found : List Lexeme) (rest : List ℕ) (byte : ℕ) (others : List ℕ) (count : ℕ) (lexeme : Lexeme) → rest ≡ byte ∷ others → is_space byte ≡ false → IsFirstToken rest count lexeme → IsCutBefore text found rest → IsCutBefore text (found ++ lexeme ∷ []) (drop count rest)
-cut_token text found rest byte others count lexeme begins dark first cut =
-    let whole : rest ≡ take count rest ++ drop count rest = sym (take-append-drop count rest) in
+pub cut_token : (text : List ℕ) (found found' : List Lexeme) (rest rest' : List ℕ) (byte : ℕ) (others : List ℕ) (count : ℕ) (lexeme : Lexeme) → found' ≡ found ++ lexeme ∷ [] → rest' ≡ drop count rest → rest ≡ byte ∷ others → is_space byte ≡ false → IsFirstToken rest count lexeme → IsCutBefore text found rest → IsCutBefore text found' rest'
+cut_token text found found' rest rest' byte others count lexeme pushed after begins dark first cut =
+    let whole : rest ≡ take count rest ++ rest' = sym (take-append-drop count rest) ∙ ap (λ r. take count rest ++ r) (sym after) in
+    let longest : IsLongest (take count rest) rest' = subst (IsLongest (take count rest)) (sym after) first.longest in
+    let regrouped = λ (more : List Lexeme). ap (λ front. front ++ more) pushed ∙ append_assoc found (lexeme ∷ []) more in
     record {
-      joins = λ more d. subst (λ ls. Divides text ls) (sym (append_assoc found (lexeme ∷ []) more)) (cut.joins (lexeme ∷ more) (token rest (take count rest) (drop count rest) lexeme more whole first.longest first.is d));
+      joins = λ more d. subst (Divides text) (sym (regrouped more)) (cut.joins (lexeme ∷ more) (token rest (take count rest) rest' lexeme more whole longest first.is d));
       splits = λ lexemes d. (let s = cut.splits lexemes d in
-        let t = split_token byte others (take count rest) (drop count rest) lexeme s.0 dark (sym begins ∙ whole) first.longest first.is (subst (λ t. Divides t s.0) begins s.2) in
-        (t.0, s.1 ∙ ap (λ ls. found ++ ls) t.1 ∙ sym (append_assoc found (lexeme ∷ []) t.0), t.2));
+        let t = split_token byte others (take count rest) rest' lexeme s.0 dark (sym begins ∙ whole) longest first.is (subst (λ t. Divides t s.0) begins s.2) in
+        (t.0, s.1 ∙ ap (λ ls. found ++ ls) t.1 ∙ sym (regrouped t.0), t.2));
     }
 
-pub cut_end : (text : List ℕ) (found : List Lexeme) (rest : List ℕ) → rest ≡ [] → IsCutBefore text found rest → Divides text (found ++ L.EndOfText ∷ [])
-cut_end text found rest ends cut = cut.joins (L.EndOfText ∷ []) (subst (λ t. Divides t (L.EndOfText ∷ [])) (sym ends) at_end)
+pub cut_end : (text : List ℕ) (found found' : List Lexeme) (rest : List ℕ) → found' ≡ found ++ L.EndOfText ∷ [] → rest ≡ [] → IsCutBefore text found rest → Divides text found'
+cut_end text found found' rest pushed ends cut = subst (Divides text) (sym pushed) (cut.joins (L.EndOfText ∷ []) (subst (λ t. Divides t (L.EndOfText ∷ [])) (sym ends) at_end))
 
-pub cut_end_only : (text : List ℕ) (found : List Lexeme) (rest : List ℕ) → rest ≡ [] → IsCutBefore text found rest → (lexemes : List Lexeme) → Divides text lexemes → found ++ L.EndOfText ∷ [] ≡ lexemes
-cut_end_only text found rest ends cut lexemes d =
+pub cut_end_only : (text : List ℕ) (found found' : List Lexeme) (rest : List ℕ) → found' ≡ found ++ L.EndOfText ∷ [] → rest ≡ [] → IsCutBefore text found rest → (lexemes : List Lexeme) → Divides text lexemes → found' ≡ lexemes
+cut_end_only text found found' rest pushed ends cut lexemes d =
     let s = cut.splits lexemes d in
-    sym (s.1 ∙ ap (λ ls. found ++ ls) (at_end_only s.0 (subst (λ t. Divides t s.0) ends s.2)))
+    pushed ∙ sym (s.1 ∙ ap (λ ls. found ++ ls) (at_end_only s.0 (subst (λ t. Divides t s.0) ends s.2)))
 
 pub cut_refused : (text : List ℕ) (found : List Lexeme) (rest : List ℕ) (byte : ℕ) (others : List ℕ) → rest ≡ byte ∷ others → is_space byte ≡ false → HasNoToken rest → IsCutBefore text found rest → (lexemes : List Lexeme) → Divides text lexemes → ⊥
 cut_refused text found rest byte others begins dark none cut lexemes d =

@@ -2,3 +2,4 @@ pub mod Dividing
 pub mod Longest
 pub mod Quoted
 pub mod Values
+pub mod Spans

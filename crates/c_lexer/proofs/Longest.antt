@@ -1,15 +1,13 @@
 -- Where the longest piece at the front of a text ends.
-use Rattle.std.proofs.Common.{◌≡◌, ◌⊎◌, inl, inr, ⊎_elim, ℕ, suc, ◌+◌, ◌-◌, ◌*◌, ◌^◌, ◌≤◌, ◌<◌, ◌==◌, List, [], ◌∷◌, ◌++◌, Option, Some, None, Bool, true, false, cond, ◌&&◌, ◌||◌, eqb, leb, length, take, drop, get_or, sym, refl, ap, ◌∙◌, subst, append_assoc, append-nil, arith, take-append-drop, length-take-le, le-leb, eqb-true}
-use Rattle.std.proofs.lemmas.Bool.{false≢true, both_ways, and_parts, and_left, or_parts, or_from, cases_Bool, cond-true, cond-false, lt-leb}
+use Rattle.std.proofs.Common.{◌≡◌, ℕ, ◌+◌, ◌≤◌, ◌<◌, List, [], ◌∷◌, ◌++◌, Some, None, Bool, true, false, ◌&&◌, leb, length, take, drop, get_or, sym, refl, ap, ◌∙◌, append_assoc, append-nil, arith, take-append-drop, length-take-le, le-leb}
+use Rattle.std.proofs.lemmas.Bool.{false≢true, both_ways, and_parts, and_left, or_parts, cond-true, cond-false, lt-leb}
 use Rattle.std.proofs.lemmas.Bool.Decides.{nat_tests}
 use Rattle.std.proofs.lemmas.List.{take_more, at_drop_more, at_drop_all}
 use Rattle.std.proofs.lemmas.List.Folds.{list_all-append}
 use Rattle.std.specs.List.{list_all}
-use Rattle.c_lexer.specs.declared.token.Lexeme.{Lexeme}
-use Rattle.c_lexer.specs.declared.token.Lexeme.TheVariants as L
-use Rattle.c_lexer.specs.Tokens.{is_letter, is_digit, is_word_byte, is_punctuator, punctuator_token, is_exponent_sign, goes_on_number, closes_character, has_shape, token_of, word_token, word_lexeme, IsLongest}
-use Rattle.c_lexer.specs.Pieces.{begins_with, goes_on, IsFirstToken, HasNoShape, HasNoToken}
-use Rattle.c_lexer.proofs.Dividing.{fronts, longest_is_one}
+use Rattle.c_lexer.specs.Tokens.{is_letter, is_digit, is_word_byte, goes_on_number, has_shape, token_of, word_token, word_lexeme, IsLongest}
+use Rattle.c_lexer.specs.Pieces.{begins_with, goes_on, HasNoShape, HasNoToken}
+use Rattle.c_lexer.proofs.Dividing.{longest_is_one}
 
 -- A piece is the longest where the text stops what it accepts behind itself.
 pub stops_longest : (accepts : List ℕ → Bool) (piece rest : List ℕ) → ((more : List ℕ) → has_shape (piece ++ more) ≡ accepts more) → accepts [] ≡ true → ((byte : ℕ) (more behind : List ℕ) → rest ≡ byte ∷ (more ++ behind) → accepts (byte ∷ more) ≡ false) → IsLongest piece rest
@@ -60,19 +58,27 @@ word_longest_parts (byte ∷ piece) rest letter all stop =
 pub word_longest : (text : List ℕ) (count : ℕ) → begins_with is_letter text ≡ true → list_all is_word_byte (take count text) ≡ true → begins_with is_word_byte (drop count text) ≡ false → IsLongest (take count text) (drop count text)
 word_longest text count letter = word_longest_parts (take count text) (drop count text) (ap (begins_with is_letter) (take-append-drop count text) ∙ letter)
 
+-- a piece begins as its text does
+piece_begins : (test : ℕ → Bool) (piece rest : List ℕ) → begins_with test (piece ++ rest) ≡ true → has_shape piece ≡ true → begins_with test piece ≡ true
+piece_begins test [] rest begins shape = absurd (false≢true shape)
+piece_begins test (byte ∷ piece) rest begins shape = begins
+
+pub front_begins : (test : ℕ → Bool) (text : List ℕ) (count : ℕ) → begins_with test text ≡ true → has_shape (take count text) ≡ true → begins_with test (take count text) ≡ true
+front_begins test text count begins = piece_begins test (take count text) (drop count text) (ap (begins_with test) (take-append-drop count text) ∙ begins)
+
 -- what a word is, by its length
-word_token_is : (piece rest : List ℕ) → begins_with is_letter (piece ++ rest) ≡ true → has_shape piece ≡ true → token_of piece ≡ word_token piece
-word_token_is [] rest letter shape = absurd (false≢true shape)
-word_token_is (byte ∷ piece) rest letter shape = cond-true (is_letter byte) _ _ letter
+word_token_is : (piece : List ℕ) → begins_with is_letter piece ≡ true → token_of piece ≡ word_token piece
+word_token_is [] letter = absurd (false≢true letter)
+word_token_is (byte ∷ piece) letter = cond-true (is_letter byte) _ _ letter
 
 pub word_too_long : (text : List ℕ) (count : ℕ) → begins_with is_letter text ≡ true → IsLongest (take count text) (drop count text) → count ≤ length text → 255 < count → token_of (take count text) ≡ None
 word_too_long text count letter longest within long =
-    word_token_is (take count text) (drop count text) (ap (begins_with is_letter) (take-append-drop count text) ∙ letter) longest.shape
+    word_token_is (take count text) (front_begins is_letter text count letter longest.shape)
     ∙ cond-false (leb (length (take count text)) 255) _ _ (lt-leb _ 255 (omega (arith, length-take-le count text within)))
 
 pub word_is : (text : List ℕ) (count : ℕ) → begins_with is_letter text ≡ true → IsLongest (take count text) (drop count text) → count ≤ length text → count ≤ 255 → token_of (take count text) ≡ Some (word_lexeme (take count text))
 word_is text count letter longest within short =
-    word_token_is (take count text) (drop count text) (ap (begins_with is_letter) (take-append-drop count text) ∙ letter) longest.shape
+    word_token_is (take count text) (front_begins is_letter text count letter longest.shape)
     ∙ cond-true (leb (length (take count text)) 255) _ _ (le-leb _ 255 (omega (arith, length-take-le count text within)))
 
 -- what is still to come of a number is as behind its last byte

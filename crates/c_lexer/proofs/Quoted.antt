@@ -1,8 +1,8 @@
 -- Where a character constant closes.
-use Rattle.std.proofs.Common.{◌≡◌, ◌⊎◌, inl, inr, ℕ, suc, ◌+◌, ◌-◌, ◌≤◌, ◌<◌, ◌==◌, List, [], ◌∷◌, ◌++◌, Option, Some, None, Bool, true, false, cond, ◌&&◌, ◌||◌, eqb, length, take, drop, get_or, sym, refl, ap, ◌∙◌, subst, append_assoc, append-nil, arith, take-append-drop, eqb-true}
-use Rattle.std.proofs.lemmas.Bool.{false≢true, both_ways, or_parts, cases_Bool, cond-true, cond-false, false_from_ne_true}
+use Rattle.std.proofs.Common.{◌≡◌, ◌⊎◌, inl, inr, ℕ, ◌+◌, ◌<◌, ◌==◌, List, [], ◌∷◌, ◌++◌, Bool, true, false, cond, ◌||◌, length, take, drop, get_or, sym, refl, ap, ◌∙◌, subst, append_assoc, arith, take-append-drop, eqb-true}
+use Rattle.std.proofs.lemmas.Bool.{false≢true, both_ways, cond-false, false_from_ne_true}
 use Rattle.std.proofs.lemmas.Bool.Decides.{nat_tests}
-use Rattle.c_lexer.specs.Tokens.{is_letter, is_digit, closes_character, has_shape, token_of, IsLongest}
+use Rattle.c_lexer.specs.Tokens.{closes_character, has_shape, IsLongest}
 use Rattle.c_lexer.specs.Pieces.{begins_with, HasNoShape}
 use Rattle.c_lexer.proofs.Dividing.{fronts}
 use Rattle.c_lexer.proofs.Longest.{stops_longest, front_more}

@@ -1,13 +1,11 @@
 -- The values of constants.
-use Rattle.std.proofs.Common.{◌≡◌, ◌⊎◌, inl, inr, ℕ, zero, suc, ◌+◌, ◌-◌, ◌*◌, ◌^◌, ◌≤◌, ◌<◌, ◌==◌, List, [], ◌∷◌, ◌++◌, Option, Some, None, Bool, true, false, cond, ◌&&◌, ◌||◌, eqb, leb, ltb, length, take, drop, get_or, sym, refl, ap, ◌∙◌, subst, append_assoc, append-nil, arith, take-append-drop, eqb-true, le-ltb, lt-ltb, le-leb, ne_eqb, eq-eqb}
-use Rattle.std.proofs.lemmas.Bool.{false≢true, both_ways, and_left, or_parts, cases_Bool, cond-true, cond-false, cond_both, false_from_ne_true}
-use Rattle.std.proofs.lemmas.Bool.Decides.{nat_tests}
+use Rattle.std.proofs.Common.{◌≡◌, ◌⊎◌, inl, inr, ℕ, zero, suc, ◌+◌, ◌-◌, ◌*◌, ◌^◌, ◌≤◌, ◌<◌, ◌==◌, List, [], ◌∷◌, Option, Some, None, Bool, true, false, cond, ◌&&◌, eqb, ltb, length, take, drop, get_or, sym, refl, ap, ◌∙◌, subst, arith, eqb-true, le-ltb, lt-ltb, le-leb, ne_eqb}
+use Rattle.std.proofs.lemmas.Bool.{false≢true, cases_Bool, cond-true, cond-false, cond_both, false_from_ne_true}
 use Rattle.std.proofs.lemmas.List.{at_drop_more, at_drop_all}
 use Rattle.std.specs.List.{list_all}
-use Rattle.c_lexer.specs.declared.token.Lexeme.{Lexeme}
 use Rattle.c_lexer.specs.declared.token.Lexeme.TheVariants as L
-use Rattle.c_lexer.specs.Tokens.{is_letter, is_digit, is_octal_digit, is_hexadecimal_digit, decimal_from, fitting_int, fitting_byte, digits_from, hexadecimal_value, number_token, token_of, character_value, without_last, as_character, escape_value}
-use Rattle.c_lexer.specs.Pieces.{begins_with}
+use Rattle.c_lexer.specs.Tokens.{is_letter, is_digit, is_octal_digit, is_hexadecimal_digit, decimal_from, fitting_int, fitting_byte, digits_from, hexadecimal_value, number_token, token_of, character_value, without_last, as_character}
+use Rattle.c_lexer.specs.Pieces.{begins_with, octal_byte, hexadecimal_byte, hexadecimal_digit}
 use Rattle.c_lexer.proofs.Longest.{digit_no_letter}
 use Rattle.c_lexer.proofs.Quoted.{is_quote}
 
@@ -32,12 +30,12 @@ one_digit first = elim (cases_Bool (first == 48)) [
   ]
 
 -- what a number is, by its digits
-pub decimal_token : (number : List ℕ) → begins_with is_digit number ≡ true → (get_or number 0 0 ≡ 48 → length number ≤ 1) → token_of number ≡ fitting_int (decimal_from 0 number)
+pub decimal_token : (number : List ℕ) → begins_with is_digit number ≡ true → ((get_or number 0 0 ≡ 48) × (length number ≤ 1)) ⊎ (get_or number 0 0 ≡ 48 → ⊥) → token_of number ≡ fitting_int (decimal_from 0 number)
 decimal_token [] digit single = absurd (false≢true digit)
 decimal_token (first ∷ []) digit single = as_number first [] digit ∙ one_digit first ∙ ap fitting_int (sym (from_first first [] digit))
 decimal_token (first ∷ next ∷ rest) digit single =
     as_number first (next ∷ rest) digit
-    ∙ cond-false (first == 48) _ _ (ne_eqb first 48 (λ same. (let short = single same in absurd (omega arith))))
+    ∙ cond-false (first == 48) _ _ (ne_eqb first 48 (λ same. elim single [ inl short ↦ absurd (omega arith) | inr other ↦ other same ]))
     ∙ ap fitting_int (sym (from_first first (next ∷ rest) digit))
 
 pub leading_zero : (number : List ℕ) → get_or number 0 0 ≡ 48 → 1 < length number → token_of number ≡ None
@@ -109,3 +107,19 @@ character_token (first ∷ others) (suc (suc count)) quote two within =
     subst (λ f. token_of (f ∷ take (suc count) others) ≡ as_character (character_value (without_last (take (suc count) others)))) (sym (eqb-true first 39 quote)) refl
     ∙ ap (λ content. as_character (character_value content)) (without_last-take count others (omega arith))
     ∙ ap (λ n. as_character (character_value (take n others))) (sym rest)
+
+pub octal_is : (digits : List ℕ) → length digits ≤ 3 → octal_byte digits ≡ byte_from is_octal_digit (λ digit. digit - 48) 8 0 digits
+octal_is digits short = ap (λ b. cond (b && list_all is_octal_digit digits) (fitting_byte (digits_from (λ digit. digit - 48) 8 0 digits)) None) (le-leb (length digits) 3 short)
+
+pub hexadecimal_is : (digits : List ℕ) → 0 < length digits → hexadecimal_byte digits ≡ byte_from is_hexadecimal_digit hexadecimal_value 16 0 digits
+hexadecimal_is digits some = ap (λ b. cond (b && list_all is_hexadecimal_digit digits) (fitting_byte (digits_from hexadecimal_value 16 0 digits)) None) (lt-ltb 0 (length digits) some)
+
+pub hexadecimal_digit_some : (byte value : ℕ) → Some value ≡ hexadecimal_digit byte → (is_hexadecimal_digit byte ≡ true) × (value ≡ hexadecimal_value byte)
+hexadecimal_digit_some byte value is = elim (cases_Bool (is_hexadecimal_digit byte)) [
+    inl digit ↦ (let same : Some value ≡ Some (hexadecimal_value byte) = is ∙ cond-true (is_hexadecimal_digit byte) _ _ digit in (digit, cc))
+  | inr other ↦ (let some_is_none : Some value ≡ None = is ∙ cond-false (is_hexadecimal_digit byte) _ _ other in cc)
+  ]
+
+pub hexadecimal_digit_none : (byte : ℕ) → None ≡ hexadecimal_digit byte → is_hexadecimal_digit byte ≡ false
+hexadecimal_digit_none byte is = false_from_ne_true (is_hexadecimal_digit byte) (λ digit.
+    (let none_is_some : None ≡ Some (hexadecimal_value byte) = is ∙ cond-true (is_hexadecimal_digit byte) _ _ digit in cc))

@@ -2,7 +2,7 @@
 --
 -- A text is cut from the left: white space is passed, and then the longest piece that has the shape of a token is
 -- taken, whatever follows (C17 6.4 paragraph 4). Each piece must then be a token of the language.
-use Rattle.std.specs.Prelude.{◌≡◌, ℕ, zero, suc, ◌+◌, ◌-◌, ◌*◌, ◌^◌, ◌<◌, ◌≤◌, List, [], ◌∷◌, ◌++◌, Option, Some, None, Bool, true, false, ◌&&◌, ◌||◌, ◌==◌, nat_lt, nat_le, if◌then◌else◌, length, map, codes, Vec, Result, Ok, Err}
+use Rattle.std.specs.Prelude.{◌≡◌, ℕ, ◌+◌, ◌-◌, ◌*◌, ◌^◌, ◌≤◌, List, [], ◌∷◌, ◌++◌, Option, Some, None, Bool, true, false, ◌&&◌, ◌||◌, ◌==◌, nat_lt, nat_le, if◌then◌else◌, length, map, slice_range, codes, Vec, Result, Ok, Err}
 use Rattle.std.specs.List.{list_all}
 use Rattle.std.specs.Str.{bytes_eq}
 use Rattle.std.specs.declared.alloc.Global.{Global}
@@ -172,6 +172,18 @@ pub data Divides : List ℕ → List Lexeme → Type 0 where
 
 abbrev pub lexemes_of : List Token → List Lexeme
 lexemes_of tokens = map (λ (token : Token). token.lexeme) tokens
+
+-- The bytes of a text spell this token; none spell its end.
+abbrev pub Spells : List ℕ → Lexeme → Type 0
+Spells [] lexeme = lexeme ≡ L.EndOfText
+Spells (byte ∷ bytes) lexeme = token_of (byte ∷ bytes) ≡ Some lexeme
+
+-- From a place of the text on, each token stands within the text and behind the one before it, and is spelled by
+-- its bytes.
+abbrev pub StandFrom : List ℕ → ℕ → List Token → Type 0
+StandFrom text from [] = Unit {0}
+StandFrom text from (first ∷ tokens) =
+    (from ≤ first.start) × (first.start ≤ first.end) × (first.end ≤ length text) × Spells (slice_range text first.start first.end) first.lexeme × StandFrom text first.end tokens
 
 -- What was found is these, unless memory ran out.
 abbrev pub IsFoundUnlessMemory : Result (Vec Token Global) LexErr → List Lexeme → Type 0

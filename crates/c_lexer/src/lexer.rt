@@ -2,7 +2,7 @@
 
 ghost use Rattle.std.specs.Prelude.{◌≡◌, List, IfOk};
 ghost use Rattle.c_lexer.specs.declared.token.Lexeme.{Lexeme};
-ghost use Rattle.c_lexer.specs.Tokens.{Divides, lexemes_of, IsFoundUnlessMemory};
+ghost use Rattle.c_lexer.specs.Tokens.{Divides, lexemes_of, StandFrom, IsFoundUnlessMemory};
 
 use crate::classes::is_space;
 use crate::pieces::first_token;
@@ -13,6 +13,7 @@ use std::alloc::Global;
 /// The tokens of a text, the last one the end of the text.
 pub fn tokens(alloc: Global, text: &[u8]) -> Result<Vec<Token>, LexErr>
     ensures found { IfOk result (λ tokens. Divides text.now (lexemes_of tokens.items)) }
+    ensures spans { IfOk result (λ tokens. StandFrom text.now 0 tokens.items) }
     // no other: whatever the text divides into is what was found, or memory ran out
     ensures only { (lexemes : List Lexeme) → Divides text.now lexemes → IsFoundUnlessMemory result lexemes }
 {
