@@ -20,8 +20,8 @@ fronts {X} (x ∷ p) (y ∷ q) r s same =
 pub longest_is_one : (p q r s : List ℕ) → p ++ r ≡ q ++ s → IsLongest p r → IsLongest q s → (p ≡ q) × (r ≡ s)
 longest_is_one p q r s same longest longest' =
     elim (fronts p q r s same) [
-      inl w ↦ (let none = longest.longest w.0 s w.2 (ap has_shape (sym w.1) ∙ longest'.shape) in (sym (w.1 ∙ ap (λ more. p ++ more) none ∙ append-nil p), w.2 ∙ ap (λ more. more ++ s) none))
-    | inr w ↦ (let none = longest'.longest w.0 r w.2 (ap has_shape (sym w.1) ∙ longest.shape) in (w.1 ∙ ap (λ more. q ++ more) none ∙ append-nil q, sym (w.2 ∙ ap (λ more. more ++ r) none)))
+      | inl w ↦ (let none = longest.longest w.0 s w.2 (ap has_shape (sym w.1) ∙ longest'.shape) in (sym (w.1 ∙ ap (λ more. p ++ more) none ∙ append-nil p), w.2 ∙ ap (λ more. more ++ s) none))
+      | inr w ↦ (let none = longest'.longest w.0 r w.2 (ap has_shape (sym w.1) ∙ longest.shape) in (w.1 ∙ ap (λ more. q ++ more) none ∙ append-nil q, sym (w.2 ∙ ap (λ more. more ++ r) none)))
     ]
 
 -- white space begins no token
@@ -78,8 +78,8 @@ cut_token text found found' rest rest' byte others count lexeme pushed after beg
     record {
       joins = λ more d. subst (Divides text) (sym (regrouped more)) (cut.joins (lexeme ∷ more) (token rest (take count rest) rest' lexeme more whole longest first.is d));
       splits = λ lexemes d. (let s = cut.splits lexemes d in
-        let t = split_token byte others (take count rest) rest' lexeme s.0 dark (sym begins ∙ whole) longest first.is (subst (λ t. Divides t s.0) begins s.2) in
-        (t.0, s.1 ∙ ap (λ ls. found ++ ls) t.1 ∙ sym (regrouped t.0), t.2));
+          let t = split_token byte others (take count rest) rest' lexeme s.0 dark (sym begins ∙ whole) longest first.is (subst (λ t. Divides t s.0) begins s.2) in
+          (t.0, s.1 ∙ ap (λ ls. found ++ ls) t.1 ∙ sym (regrouped t.0), t.2));
     }
 
 pub cut_end : (text : List ℕ) (found found' : List Lexeme) (rest : List ℕ) → found' ≡ found ++ L.EndOfText ∷ [] → rest ≡ [] → IsCutBefore text found rest → Divides text found'

@@ -24,9 +24,9 @@ stops_longest accepts piece rest front done stops = record {
 pub no_token : (text : List ℕ) (count : ℕ) → IsLongest (take count text) (drop count text) → token_of (take count text) ≡ None → HasNoToken text
 no_token text count longest isn't = record {
   none = λ piece rest lexeme whole longest' is.
-    (let one = longest_is_one (take count text) piece (drop count text) rest (take-append-drop count text ∙ whole) longest longest' in
-    let none_is_some : None ≡ Some lexeme = sym isn't ∙ ap token_of one.0 ∙ is in
-    cc);
+      (let one = longest_is_one (take count text) piece (drop count text) rest (take-append-drop count text ∙ whole) longest longest' in
+      let none_is_some : None ≡ Some lexeme = sym isn't ∙ ap token_of one.0 ∙ is in
+      cc);
 }
 
 pub no_token_from_shape : (text : List ℕ) → HasNoShape text → HasNoToken text

@@ -3,12 +3,9 @@ use Rattle.std.proofs.Common.{◌≡◌, ◌⊎◌, inl, inr, ℕ, ◌+◌, ◌<
 use Rattle.std.proofs.lemmas.Bool.{false≢true, both_ways, cond-false, false_from_ne_true}
 use Rattle.std.proofs.lemmas.Bool.Decides.{nat_tests}
 use Rattle.c_lexer.specs.Tokens.{closes_character, has_shape, IsLongest}
-use Rattle.c_lexer.specs.Pieces.{begins_with, HasNoShape}
+use Rattle.c_lexer.specs.Pieces.{begins_with, is_quote, HasNoShape}
 use Rattle.c_lexer.proofs.Dividing.{fronts}
 use Rattle.c_lexer.proofs.Longest.{stops_longest, front_more}
-
-abbrev pub is_quote : ℕ → Bool
-is_quote byte = byte == 39
 
 -- what closes a character constant, behind a backslash that takes the next byte along or not
 abbrev pub closes_behind : Bool → List ℕ → Bool
@@ -62,8 +59,8 @@ closed_stops (first ∷ []) [] closed again = refl
 closed_stops (first ∷ []) (byte ∷ after) closed again = absurd (false≢true (subst (λ f. closes_character (f ∷ byte ∷ after) ≡ true) (eqb-true first 39 closed) again))
 closed_stops (first ∷ next ∷ bytes) after closed again =
     elim (same_way (first == 92) (next == 10) (first == 39 || first == 10) (closes_character bytes) (closes_character (next ∷ bytes)) (closes_character (bytes ++ after)) (closes_character (next ∷ (bytes ++ after))) closed again) [
-      inl w ↦ closed_stops bytes after w.0 w.1
-    | inr w ↦ closed_stops (next ∷ bytes) after w.0 w.1
+      | inl w ↦ closed_stops bytes after w.0 w.1
+      | inr w ↦ closed_stops (next ∷ bytes) after w.0 w.1
     ]
 
 -- nothing is left of the line
@@ -105,8 +102,8 @@ no_shape_before text (byte ∷ piece) rest more count escaped quote before whole
 pub open_no_shape : (text : List ℕ) (count : ℕ) (escaped : Bool) → begins_with is_quote text ≡ true → IsOpenBefore text count escaped → ends_line (drop count text) ≡ true → HasNoShape text
 open_no_shape text count escaped quote before ends = record {
   none = λ piece rest whole. false_from_ne_true (has_shape piece) (λ shape.
-    elim (fronts (take count text) piece (drop count text) rest (take-append-drop count text ∙ whole)) [
-      inl w ↦ both_ways (closes_behind escaped w.0) (no_close escaped w.0 rest (ap ends_line (sym w.2) ∙ ends)) (sym (before.goes w.0) ∙ ap has_shape (sym w.1) ∙ shape)
-    | inr w ↦ no_shape_before text piece rest w.0 count escaped quote before whole w.1 shape
-    ]);
+      elim (fronts (take count text) piece (drop count text) rest (take-append-drop count text ∙ whole)) [
+        | inl w ↦ both_ways (closes_behind escaped w.0) (no_close escaped w.0 rest (ap ends_line (sym w.2) ∙ ends)) (sym (before.goes w.0) ∙ ap has_shape (sym w.1) ∙ shape)
+        | inr w ↦ no_shape_before text piece rest w.0 count escaped quote before whole w.1 shape
+      ]);
 }

@@ -5,9 +5,8 @@ use Rattle.std.proofs.lemmas.List.{at_drop_more, at_drop_all}
 use Rattle.std.specs.List.{list_all}
 use Rattle.c_lexer.specs.declared.token.Lexeme.TheVariants as L
 use Rattle.c_lexer.specs.Tokens.{is_letter, is_digit, is_octal_digit, is_hexadecimal_digit, decimal_from, fitting_int, fitting_byte, digits_from, hexadecimal_value, number_token, token_of, character_value, without_last, as_character}
-use Rattle.c_lexer.specs.Pieces.{begins_with, octal_byte, hexadecimal_byte, hexadecimal_digit}
+use Rattle.c_lexer.specs.Pieces.{begins_with, is_quote, octal_byte, hexadecimal_byte, hexadecimal_digit}
 use Rattle.c_lexer.proofs.Longest.{digit_no_letter}
-use Rattle.c_lexer.proofs.Quoted.{is_quote}
 
 -- a value past the greatest int stays past it
 pub large_decimal : (value : ℕ) (digits : List ℕ) → 2 ^ 31 ≤ value → fitting_int (decimal_from value digits) ≡ None
@@ -25,9 +24,9 @@ from_first first rest digit =
 
 one_digit : (first : ℕ) → number_token first [] ≡ fitting_int (decimal_from (first - 48) [])
 one_digit first = elim (cases_Bool (first == 48)) [
-    inl same ↦ subst (λ f. number_token f [] ≡ fitting_int (decimal_from (f - 48) [])) (sym (eqb-true first 48 same)) refl
+  | inl same ↦ subst (λ f. number_token f [] ≡ fitting_int (decimal_from (f - 48) [])) (sym (eqb-true first 48 same)) refl
   | inr other ↦ cond-false (first == 48) _ _ other
-  ]
+]
 
 -- what a number is, by its digits
 pub decimal_token : (number : List ℕ) → begins_with is_digit number ≡ true → ((get_or number 0 0 ≡ 48) × (length number ≤ 1)) ⊎ (get_or number 0 0 ≡ 48 → ⊥) → token_of number ≡ fitting_int (decimal_from 0 number)
@@ -116,9 +115,9 @@ hexadecimal_is digits some = ap (λ b. cond (b && list_all is_hexadecimal_digit 
 
 pub hexadecimal_digit_some : (byte value : ℕ) → Some value ≡ hexadecimal_digit byte → (is_hexadecimal_digit byte ≡ true) × (value ≡ hexadecimal_value byte)
 hexadecimal_digit_some byte value is = elim (cases_Bool (is_hexadecimal_digit byte)) [
-    inl digit ↦ (let same : Some value ≡ Some (hexadecimal_value byte) = is ∙ cond-true (is_hexadecimal_digit byte) _ _ digit in (digit, cc))
+  | inl digit ↦ (let same : Some value ≡ Some (hexadecimal_value byte) = is ∙ cond-true (is_hexadecimal_digit byte) _ _ digit in (digit, cc))
   | inr other ↦ (let some_is_none : Some value ≡ None = is ∙ cond-false (is_hexadecimal_digit byte) _ _ other in cc)
-  ]
+]
 
 pub hexadecimal_digit_none : (byte : ℕ) → None ≡ hexadecimal_digit byte → is_hexadecimal_digit byte ≡ false
 hexadecimal_digit_none byte is = false_from_ne_true (is_hexadecimal_digit byte) (λ digit.

@@ -9,6 +9,9 @@ abbrev pub begins_with : (ℕ → Bool) → List ℕ → Bool
 begins_with test [] = false
 begins_with test (byte ∷ bytes) = test byte
 
+abbrev pub is_quote : ℕ → Bool
+is_quote byte = byte == 39
+
 -- a number goes on with the byte behind the one before it (C17 6.4.8)
 abbrev pub goes_on : ℕ → ℕ → Bool
 goes_on before byte = is_word_byte byte || byte == 46 || is_exponent_sign before byte

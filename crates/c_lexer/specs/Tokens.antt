@@ -111,9 +111,9 @@ abbrev pub escape_value : List ℕ → Option ℕ
 escape_value [] = None
 escape_value (first ∷ rest) =
     if is_octal_digit first then
-      (if nat_le (length rest) 2 && list_all is_octal_digit rest then fitting_byte (digits_from (λ digit. digit - 48) 8 0 (first ∷ rest)) else None)
+    (if nat_le (length rest) 2 && list_all is_octal_digit rest then fitting_byte (digits_from (λ digit. digit - 48) 8 0 (first ∷ rest)) else None)
     else if first == 120 then
-      (if nat_lt 0 (length rest) && list_all is_hexadecimal_digit rest then fitting_byte (digits_from hexadecimal_value 16 0 rest) else None)
+    (if nat_lt 0 (length rest) && list_all is_hexadecimal_digit rest then fitting_byte (digits_from hexadecimal_value 16 0 rest) else None)
     else if length rest == 0 then simple_escape first else None
 
 -- the byte of a character constant, from what stands between its quotes: one byte, or one escape

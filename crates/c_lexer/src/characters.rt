@@ -1,8 +1,8 @@
 // Character constants (C17 6.4.4.4).
 
-ghost use Rattle.std.specs.Prelude.{◌≡◌, ◌≤◌, ◌==◌, length, take, drop, IsTrue, MatchResult, IfSome, IfNone};
+ghost use Rattle.std.specs.Prelude.{◌≡◌, ◌≤◌, length, take, drop, IsTrue, MatchResult, IfSome, IfNone};
 ghost use Rattle.c_lexer.specs.Tokens.{character_value, escape_value, simple_escape, IsLongest};
-ghost use Rattle.c_lexer.specs.Pieces.{begins_with, octal_byte, hexadecimal_byte, hexadecimal_digit, IsFirstToken, HasNoShape, HasNoToken};
+ghost use Rattle.c_lexer.specs.Pieces.{begins_with, is_quote, octal_byte, hexadecimal_byte, hexadecimal_digit, IsFirstToken, HasNoShape, HasNoToken};
 
 use crate::classes::is_octal_digit;
 use crate::pieces::Piece;
@@ -11,7 +11,7 @@ use run_theory::Pos;
 
 /// The character constant that begins a text, which stands at `place`.
 pub(crate) fn character(text: &[u8], place: Pos) -> Result<Piece, LexErr>
-    requires { IsTrue (begins_with (λ byte. byte == 39) text.now) }
+    requires { IsTrue (begins_with is_quote text.now) }
     ensures { MatchResult result (λ piece. IsFirstToken text.now piece.length piece.lexeme) (λ _. HasNoToken text.now) }
 {
     let Some(length) = character_length(text) else {
@@ -28,7 +28,7 @@ pub(crate) fn character(text: &[u8], place: Pos) -> Result<Piece, LexErr>
 
 /// How long the character constant at the front of a text is, where it is closed on its line.
 fn character_length(text: &[u8]) -> Option<usize>
-    requires { IsTrue (begins_with (λ byte. byte == 39) text.now) }
+    requires { IsTrue (begins_with is_quote text.now) }
     ensures within { IfSome result (λ n. (2 ≤ n) × (n ≤ length text.now)) }
     ensures closed { IfSome result (λ n. IsLongest (take n text.now) (drop n text.now)) }
     ensures open { IfNone result (HasNoShape text.now) }
@@ -108,7 +108,9 @@ fn hexadecimal_byte(digits: &[u8]) -> Option<u8>
     }
     let mut value: u8 = 0;
     for digit in digits {
-        value = value.checked_mul(16)?.checked_add(hexadecimal_digit(*digit)?)?;
+        value = value
+            .checked_mul(16)?
+            .checked_add(hexadecimal_digit(*digit)?)?;
     }
     Some(value)
 }
@@ -168,8 +170,16 @@ fn escape_length(text: &[u8]) -> usize
 {
     match text {
         [] | [b'\n', ..] => 0,
-        [b'x', digits @ ..] => 1 + digits.iter().take_while(|digit| hexadecimal_digit(**digit).is_some()).count(),
-        [first, ..] if is_octal_digit(*first) => text.iter().take(3).take_while(|digit| is_octal_digit(**digit)).count(),
+        [b'x', digits @ ..] => 1
+            + digits
+                .iter()
+                .take_while(|digit| hexadecimal_digit(**digit).is_some())
+                .count(),
+        [first, ..] if is_octal_digit(*first) => text
+            .iter()
+            .take(3)
+            .take_while(|digit| is_octal_digit(**digit))
+            .count(),
         _ => 1,
     }
 }

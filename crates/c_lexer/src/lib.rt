@@ -6,11 +6,10 @@ mod classes;
 mod lexer;
 mod numbers;
 mod pieces;
-mod token;
-mod words;
-
 #[cfg(test)]
 mod tests;
+mod token;
+mod words;
 
 pub use lexer::tokens;
 pub use token::{LexErr, Lexeme, Token};

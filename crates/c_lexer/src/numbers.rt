@@ -10,7 +10,7 @@ use crate::token::{LexErr, Lexeme};
 use run_theory::Pos;
 
 /// The greatest value of `int`.
-const INT_MAX: u64 = 0x7FFF_FFFF;
+const INT_MAX: u64 = 2_147_483_647;
 
 /// The number that begins a text, which stands at `place`.
 pub(crate) fn number(text: &[u8], place: Pos) -> Result<Piece, LexErr>

@@ -2,12 +2,12 @@
 
 use super::*;
 use run_theory::Pos;
-use std::alloc::Global;
+use std::alloc::{AllocError, Global};
 use std::test::Fail;
 
 /// The kind and place of a refusal; `None` where the text has tokens.
-fn refusal(alloc: Global, text: &str) -> Option<(&'static str, u32, u32)> {
-    match tokens(alloc, text.as_bytes()) {
+fn refusal(alloc: Global, text: &[u8]) -> Option<(&'static str, u32, u32)> {
+    match tokens(alloc, text) {
         Ok(_) => None,
         Err(LexErr::BadByte(Pos { line, column })) => Some(("BadByte", line, column)),
         Err(LexErr::BadLiteral(Pos { line, column })) => Some(("BadLiteral", line, column)),
@@ -68,7 +68,11 @@ fn refuses_the_first_fault(rt: HostRuntime) {
         ("0 08 # '", "BadLiteral", 1, 3),
     ];
     for (text, kind, line, column) in rows {
-        assert_eq!(rt; refusal(rt.alloc(), text), Some((kind, line, column)), "{text:?}");
+        assert_eq!(rt;
+            refusal(rt.alloc(), text.as_bytes()),
+            Some((kind, line, column)),
+            "{text:?}"
+        );
     }
 }
 
@@ -133,5 +137,75 @@ fn finds_each_token(rt: HostRuntime) -> Result<(), Fail> {
         };
         assert_eq!(rt; found.as_slice(), [first, last].as_slice(), "{text:?}");
     }
+    Ok(())
+}
+
+/// A text, and then another again and again.
+fn repeated(alloc: Global, first: &[u8], then: &[u8], times: usize) -> Result<Vec<u8>, AllocError> {
+    let mut text = Vec::from_slice(alloc, first)?;
+    for _ in 0..times {
+        text.extend_from_slice(then)?;
+    }
+    Ok(text)
+}
+
+#[test]
+fn refuses_long_tokens(rt: HostRuntime) -> Result<(), Fail> {
+    let rows = [
+        ("", "a", 255, None),
+        ("", "a", 256, Some(("NameTooLong", 1, 1))),
+        ("int\n ", "_", 1_000_000, Some(("NameTooLong", 2, 2))),
+        ("", "1", 1_000_000, Some(("BadLiteral", 1, 1))),
+        ("0x", "e+", 500_000, Some(("BadLiteral", 1, 1))),
+        ("'", "a", 1_000_000, Some(("Unclosed", 1, 1))),
+        ("'", "\\'", 500_000, Some(("Unclosed", 1, 1))),
+        ("'\\x", "0", 1_000_000, Some(("Unclosed", 1, 1))),
+        ("'\\x", "1", 1_000_000, Some(("BadLiteral", 1, 1))),
+        (" ", "\n", 1_000_000, None),
+        ("\n", " ", 1_000_000, None),
+    ];
+    for (first, then, times, expected) in rows {
+        let text = repeated(rt.alloc(), first.as_bytes(), then.as_bytes(), times)?;
+        assert_eq!(rt;
+            refusal(rt.alloc(), text.as_slice()),
+            expected,
+            "{first:?} {then:?}"
+        );
+    }
+    Ok(())
+}
+
+#[test]
+fn reads_a_mebibyte(rt: HostRuntime) -> Result<(), Fail> {
+    // lines of 32 bytes and 10 tokens
+    let text = repeated(
+        rt.alloc(),
+        b"",
+        b"int _a9('x') { '\\x41'; 12345 } \n",
+        32_768,
+    )?;
+    assert_eq!(rt; text.len(), 1_048_576);
+    let found = tokens(rt.alloc(), text.as_slice())?;
+    assert_eq!(rt; found.len(), 327_681);
+    let end = Token {
+        lexeme: Lexeme::EndOfText,
+        start: 1_048_576,
+        end: 1_048_576,
+        place: Pos {
+            line: 32_769,
+            column: 1,
+        },
+    };
+    assert_eq!(rt; found[327_680], end);
+    let number = Token {
+        lexeme: Lexeme::Decimal(12345),
+        start: 1_048_567,
+        end: 1_048_572,
+        place: Pos {
+            line: 32_768,
+            column: 24,
+        },
+    };
+    assert_eq!(rt; found[327_678], number);
     Ok(())
 }

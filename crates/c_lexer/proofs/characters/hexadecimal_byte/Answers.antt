@@ -18,8 +18,8 @@ loop-digit-preserved c =
     record {
       small = omega (arith, c.in_ok-value.ensures);
       from = c.loop-digit.invariant.from
-        ∙ byte_more is_hexadecimal_digit hexadecimal_value 16 (lit≤ tt) digits i c.loop-digit.value c.loop-digit-test.true digit.0
-        ∙ ap (λ v. byte_from is_hexadecimal_digit hexadecimal_value 16 v (drop (i + 1) digits)) value;
+          ∙ byte_more is_hexadecimal_digit hexadecimal_value 16 (lit≤ tt) digits i c.loop-digit.value c.loop-digit-test.true digit.0
+          ∙ ap (λ v. byte_from is_hexadecimal_digit hexadecimal_value 16 v (drop (i + 1) digits)) value;
     }
 
 pub returns : goal.returns
