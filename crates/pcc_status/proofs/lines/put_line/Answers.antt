@@ -23,7 +23,7 @@ returns-in_err-write_all-2-clause-puts g c =
 pub loop-piece-preserved : goal.loop-piece-preserved
 loop-piece-preserved g c = record {
   before = AddsBefore-piece _ _ _ _ c.as_bytes.result.now (line_of (drop (c.loop-piece.piece-index + 1) c.args.pieces.now))
-    (AddsBefore-at _ _ _ c.args.pieces.now c.loop-piece.piece-index _ _ c.loop-piece-test.true c.as_bytes.ensures.value c.loop-piece.invariant.before) c.in_ok-write_all-2.ensures.all;
+      (AddsBefore-at _ _ _ c.args.pieces.now c.loop-piece.piece-index _ _ c.loop-piece-test.true c.as_bytes.ensures.value c.loop-piece.invariant.before) c.in_ok-write_all-2.ensures.all;
   counted = omega (arith, c.in_ok-write_all-2.ensures.counted);
 }
 

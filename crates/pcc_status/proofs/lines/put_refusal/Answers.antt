@@ -11,10 +11,10 @@ pub returns-in-TypeRule-clause-puts : goal.returns-in-TypeRule-clause-puts
 returns-in-TypeRule-clause-puts g c = rw c.in-TypeRule.is (rw c.name-in-TypeRule.ensures at c.put_at_place-in-TypeRule.ensures.puts)
 
 pub returns-in-Limit-clause-puts : goal.returns-in-Limit-clause-puts
-returns-in-Limit-clause-puts g c = rw c.in-Limit.is (simp append_assoc (rw (c.name-in-Limit.ensures, c.format.ensures.text) at c.put_line.ensures.puts))
+returns-in-Limit-clause-puts g c = rw c.in-Limit.is (simp append_assoc (rw (c.name-in-Limit.ensures, c.format-count.ensures.text) at c.put_line.ensures.puts))
 
 pub returns-in-Graph-clause-puts : goal.returns-in-Graph-clause-puts
 returns-in-Graph-clause-puts g c = rw c.in-Graph.is c.put_number.ensures.puts
 
 pub returns-in-Pools-clause-puts : goal.returns-in-Pools-clause-puts
-returns-in-Pools-clause-puts g c = rw c.in-Pools.is (simp append_assoc (rw (c.format-in-Pools.ensures.text, c.format-in-Pools-2.ensures.text) at c.put_line-in-Pools.ensures.puts))
+returns-in-Pools-clause-puts g c = rw c.in-Pools.is (simp append_assoc (rw (c.format-function.ensures.text, c.format-pools.ensures.text) at c.put_line-in-Pools.ensures.puts))
