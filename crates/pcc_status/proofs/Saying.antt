@@ -1,11 +1,11 @@
 -- What a caller learns from the line of an answer.
-use Rattle.std.proofs.Common.{◌≡◌, ℕ, ◌+◌, ◌<◌, ◌⊎◌, inl, inr, List, [], ◌++◌, length, Option, Some, None, refl, ap, sym, ◌∙◌, length-append, arith}
+use Rattle.std.proofs.Common.{◌≡◌, ℕ, ◌⊎◌, inl, inr, List, [], length, Option, Some, None, refl, ap, sym, ◌∙◌, length-append, arith}
 use Rattle.std.proofs.lemmas.List.{append-nil}
 use Rattle.pcc_outside.specs.Outside.{Rose, Adds, AddsPart}
 use Rattle.pcc_status.specs.declared.status.Status.{Status}
 use Rattle.pcc_status.specs.declared.status.Status.TheVariants as S
 use Rattle.pcc_status.specs.Texts.{error_text}
-use Rattle.pcc_status.specs.Said.{after_failed_line, IsSaid, IsCutOff, Said}
+use Rattle.pcc_status.specs.Said.{after_failed_line, Said}
 
 after_failed_line-cases : (status : Status) → (after_failed_line status ≡ status) ⊎ (after_failed_line status ≡ S.WriteFault)
 after_failed_line-cases S.ReadFault = inl refl

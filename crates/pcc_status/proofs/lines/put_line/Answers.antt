@@ -1,4 +1,4 @@
-use Rattle.std.proofs.Common.{◌≡◌, ◌∷◌, ◌++◌, [], codes, ◌+◌, drop, arith}
+use Rattle.std.proofs.Common.{codes, ◌+◌, drop, arith}
 use Rattle.pcc_outside.proofs.Writing.{AddsBefore-start}
 use Rattle.pcc_status.specs.Said.{line_of}
 use Rattle.pcc_status.proofs.Pieces.{AddsBefore-piece, AddsBefore-at, AddsBefore-end, Puts-failed, Puts-last}
