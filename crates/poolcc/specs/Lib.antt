@@ -1,3 +1,4 @@
 pub mod Command
 pub mod Compiled
+pub mod Refused
 pub mod Seen
