@@ -1,1 +1,7 @@
+//! The machine: it runs an image on a source of input and a sink of output.
 #![tactic(auto)]
+
+mod activation;
+mod ends;
+
+pub use ends::RunEnd;

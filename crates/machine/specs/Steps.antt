@@ -1,0 +1,71 @@
+-- What one step of the machine does, and what holds of the activations throughout.
+use Rattle.std.specs.Prelude.{◌≡◌, ℕ, ◌+◌, ◌*◌, ◌^◌, ◌≤◌, List, [], ◌∷◌, ◌++◌, length, Option, Some}
+use Rattle.run_theory.specs.Runs as runs
+use Rattle.run_theory.specs.Runs.{Trace, output_of, Move, To, Halt, Final}
+use Rattle.pool_isa.specs.Machine.{Activation, State, next_start}
+use Rattle.machine.specs.declared.ends.RunEnd.{RunEnd}
+use Rattle.machine.specs.declared.ends.RunEnd.TheVariants as ends
+use Rattle.machine.specs.declared.ends.Step.{Step}
+use Rattle.machine.specs.declared.ends.Step.TheVariants.{On, Over}
+
+-- the state of these activations, with this input left and this trace
+abbrev pub standing : List Activation → List ℕ → Trace → State
+standing activations input trace = record { activations = activations; input = input; trace = trace }
+
+-- the left input and the written bytes, where a source and a sink tell them, are those of the state
+abbrev pub IsLeftAt : List ℕ → State → Option (List ℕ) → Option (List ℕ) → Type 0
+IsLeftAt base state left written = (left ≡ Some state.input) × (written ≡ Some (base ++ output_of state.trace))
+
+-- The move that the machine's meaning makes from a state is the one that a step made, which touched neither input nor
+-- output and left these activations.
+abbrev pub Leads : Move State → State → Step → List Activation → Type 0
+Leads move old On new = move ≡ To (record old { activations = new })
+Leads move old (Over (ends.Ended status)) new = move ≡ Halt (runs.Ended status) old
+Leads move old (Over ends.Depth) new = move ≡ Halt runs.DepthReached old
+Leads move old (Over ends.HeapExhausted) new = move ≡ Halt runs.HeapExhausted old
+Leads move old (Over ends.IndexExhausted) new = move ≡ Halt runs.IndexExhausted old
+Leads move old (Over (ends.Trapped kind)) new = move ≡ Halt (runs.Trapped kind) old
+Leads move old (Over ends.OutOfMemory) new = new ≡ old.activations
+Leads move old (Over ends.StepsSpent) new = ⊥
+Leads move old (Over ends.ReadFault) new = ⊥
+Leads move old (Over ends.WriteFault) new = ⊥
+
+-- the same of a step in the innermost activation alone, whatever the others, the input and the trace are
+abbrev pub LeadsIn : (List Activation → State → Move State) → Activation → Step → Activation → Type 0
+LeadsIn go old result new =
+    (callers : List Activation) (input : List ℕ) (trace : Trace) → Leads (go callers (standing (old ∷ callers) input trace)) (standing (old ∷ callers) input trace) result (new ∷ callers)
+
+-- the machine halts there, with what is left and written
+pub record Halts (move : Move State) (final : Final) (base : List ℕ) (old : State) (left written : Option (List ℕ)) : Type 0 where
+  pub halts : move ≡ Halt final old
+  pub left_at : IsLeftAt base old left written
+
+-- the step could not be made, and nothing has changed
+pub record IsUndone (base : List ℕ) (old : State) (new : List Activation) (left written : Option (List ℕ)) : Type 0 where
+  pub same : new ≡ old.activations
+  pub left_at : IsLeftAt base old left written
+
+-- the machine goes on there
+pub record GoesOn (move : Move State) (base : List ℕ) (new : List Activation) (left written : Option (List ℕ)) : Type 0 where
+  pub next : State
+  pub goes : move ≡ To next
+  pub same : next.activations ≡ new
+  pub left_at : IsLeftAt base next left written
+
+-- The move from a state is the one that a step made, with what is left of the input and what is written after it.
+abbrev pub Gives : Move State → List ℕ → State → Step → List Activation → Option (List ℕ) → Option (List ℕ) → Type 0
+Gives move base old On new left written = GoesOn move base new left written
+Gives move base old (Over (ends.Ended status)) new left written = Halts move (runs.Ended status) base old left written
+Gives move base old (Over ends.Depth) new left written = Halts move runs.DepthReached base old left written
+Gives move base old (Over ends.HeapExhausted) new left written = Halts move runs.HeapExhausted base old left written
+Gives move base old (Over ends.IndexExhausted) new left written = Halts move runs.IndexExhausted base old left written
+Gives move base old (Over (ends.Trapped kind)) new left written = Halts move (runs.Trapped kind) base old left written
+Gives move base old (Over ends.ReadFault) new left written = IsUndone base old new left written
+Gives move base old (Over ends.WriteFault) new left written = IsUndone base old new left written
+Gives move base old (Over ends.OutOfMemory) new left written = IsUndone base old new left written
+Gives move base old (Over ends.StepsSpent) new left written = ⊥
+
+-- each frame ends where the depth allows: a function's parameters and extra bytes are below 2 ^ 36
+abbrev pub IsRoomy : List Activation → Type 0
+IsRoomy [] = Unit {0}
+IsRoomy (frame ∷ frames) = (next_start frame ≤ 2 ^ 40 + 2 ^ 36 * (length frames + 1)) × IsRoomy frames
