@@ -2,7 +2,8 @@
 use Rattle.std.specs.Prelude.{◌≡◌, ℕ, ◌+◌, ◌*◌, ◌^◌, ◌≤◌, List, [], ◌∷◌, ◌++◌, length, Option, Some}
 use Rattle.run_theory.specs.Runs as runs
 use Rattle.run_theory.specs.Runs.{Trace, output_of, Move, To, Halt, Final}
-use Rattle.pool_isa.specs.Machine.{Activation, State, next_start}
+use Rattle.pool_isa.specs.declared.instr.Instr.{Instr}
+use Rattle.pool_isa.specs.Machine.{Function, Activation, State, next_start, perform}
 use Rattle.machine.specs.declared.ends.RunEnd.{RunEnd}
 use Rattle.machine.specs.declared.ends.RunEnd.TheVariants as ends
 use Rattle.machine.specs.declared.ends.Step.{Step}
@@ -30,10 +31,23 @@ Leads move old (Over ends.StepsSpent) new = ⊥
 Leads move old (Over ends.ReadFault) new = ⊥
 Leads move old (Over ends.WriteFault) new = ⊥
 
--- the same of a step in the innermost activation alone, whatever the others, the input and the trace are
-abbrev pub LeadsIn : (List Activation → State → Move State) → Activation → Step → Activation → Type 0
-LeadsIn go old result new =
-    (callers : List Activation) (input : List ℕ) (trace : Trace) → Leads (go callers (standing (old ∷ callers) input trace)) (standing (old ∷ callers) input trace) result (new ∷ callers)
+-- the activations of a machine: there is always an innermost one
+pub record CallStack : Type 0 where
+  pub innermost : Activation
+  pub callers : List Activation
+
+abbrev pub activations_of : CallStack → List Activation
+activations_of calls = calls.innermost ∷ calls.callers
+
+-- An instruction, which touches neither input nor output, was performed as the machine's meaning says.
+abbrev pub Performs : List Function → Function → Instr → CallStack → Step → CallStack → Type 0
+Performs functions function instr old result new =
+    (input : List ℕ) (trace : Trace) → Leads (perform (Some instr) functions function old.innermost old.callers (standing (activations_of old) input trace)) (standing (activations_of old) input trace) result (activations_of new)
+
+-- the same of one that changes the innermost activation alone, whatever the others are
+abbrev pub PerformsIn : List Function → Function → Instr → Activation → Step → Activation → Type 0
+PerformsIn functions function instr old result new =
+    (callers : List Activation) → Performs functions function instr (record { innermost = old; callers = callers }) result (record { innermost = new; callers = callers })
 
 -- the machine halts there, with what is left and written
 pub record Halts (move : Move State) (final : Final) (base : List ℕ) (old : State) (left written : Option (List ℕ)) : Type 0 where

@@ -2,6 +2,7 @@
 #![tactic(auto)]
 
 mod activation;
+mod calls;
 mod ends;
 
 pub use ends::RunEnd;
