@@ -44,11 +44,6 @@ abbrev pub Performs : List Function → Function → Instr → CallStack → Ste
 Performs functions function instr old result new =
     (input : List ℕ) (trace : Trace) → Leads (perform (Some instr) functions function old.innermost old.callers (standing (activations_of old) input trace)) (standing (activations_of old) input trace) result (activations_of new)
 
--- the same of one that changes the innermost activation alone, whatever the others are
-abbrev pub PerformsIn : List Function → Function → Instr → Activation → Step → Activation → Type 0
-PerformsIn functions function instr old result new =
-    (callers : List Activation) → Performs functions function instr (record { innermost = old; callers = callers }) result (record { innermost = new; callers = callers })
-
 -- the machine halts there, with what is left and written
 pub record Halts (move : Move State) (final : Final) (base : List ℕ) (old : State) (left written : Option (List ℕ)) : Type 0 where
   pub halts : move ≡ Halt final old

@@ -7,9 +7,16 @@ ghost use Rattle.pool_isa.specs.Machine.{advanced, bytes_at, with_bytes_at};
 
 use crate::activation::Activation;
 use crate::ends::{RunEnd, Step};
+use crate::memory::{read_from, write_to};
+use image_form::Function;
+use pool_isa::{Instr, Width};
 use run_theory::TrapKind;
 use std::alloc::{AllocError, Global};
 use std::marker::Model;
+use std::mem;
+
+/// How deep calls may be nested: `start` has depth 0.
+const MAX_DEPTH: usize = 10_000;
 
 /// The functions that were called and have not returned.
 #[derive(Drop)]
@@ -30,30 +37,52 @@ impl Model for Calls {
     ghost invariant = { λ c. IsRoomy (c.innermost ∷ reverse c.callers.items) };
 }
 
-/// The number in the `size` bytes from `address` on, if they lie in the frame of a caller.
-fn read_from(callers: &[Activation], address: u64, size: usize) -> Option<u64>
-    requires low { 1 ≤ size }
-    requires high { size ≤ 8 }
-    ensures { result ≡ option_map (little_number size) (bytes_at (reverse callers.now) address size) }
-{
-    for index in (0..callers.len()).rev() {
-        let number = callers[index].read(address, size);
-        if number.is_some() {
-            return number;
-        }
-    }
-    None
-}
+impl Calls {
+    ghost use Rattle.image_form.specs.Form.{function_of};
+    ghost use Rattle.pool_isa.specs.Machine as machine;
+    ghost use Rattle.machine.specs.Steps.{activations_of, Performs};
 
-/// Writes the lowest `size` bytes of a word from `address` on, if they lie in the frame of a caller.
-fn write_to(callers: &mut [Activation], address: u64, word: u64, size: usize) -> bool
-    requires { size ≤ 8 }
-    ensures { MatchBool result (with_bytes_at (reverse callers.old) address (little_bytes size word) ≡ Some (reverse callers.new)) (with_bytes_at (reverse callers.old) address (little_bytes size word) ≡ None) }
-{
-    for index in (0..callers.len()).rev() {
-        if callers[index].write(address, word, size) {
-            return true;
+    /// Pushes a word, where the function may hold one more operand.
+    fn push(&mut self, word: u64, height: u32) -> Step
+        requires { self.old.innermost.place + 1 < 2 ^ 64 }
+        ensures { (functions : List machine.Function) (function : machine.Function) → function.height ≡ height → Performs functions function (Instr.Constant word) self.old result self.new }
+    {
+        if self.innermost.height() >= height as usize {
+            return Step::trap(TrapKind::StackFull);
+        }
+        match self.innermost.push(word) {
+            Ok(()) => Step::On,
+            Err(_) => Step::Over(RunEnd::OutOfMemory),
         }
     }
-    false
+
+    /// Drops the last operand.
+    fn discard(&mut self) -> Step
+        requires { self.old.innermost.place + 1 < 2 ^ 64 }
+        ensures { (functions : List machine.Function) (function : machine.Function) → Performs functions function Instr.Discard self.old result self.new }
+    {
+        if self.innermost.height() == 0 {
+            return Step::trap(TrapKind::StackEmpty);
+        }
+        self.innermost.discard(1);
+        Step::On
+    }
+
+    /// Goes on at another instruction.
+    fn jump(&mut self, target: u64) -> Step
+        ensures { (functions : List machine.Function) (function : machine.Function) → Performs functions function (Instr.Jump target) self.old result self.new }
+    {
+        self.innermost.jump(target as usize);
+        Step::On
+    }
+
+    /// Ends the run with the last operand, modulo 256.
+    fn exit(&self) -> Step
+        ensures { (functions : List machine.Function) (function : machine.Function) → Performs functions function Instr.Exit self.now result self.now }
+    {
+        match self.innermost.last() {
+            Some(word) => Step::Over(RunEnd::Ended((word % 256) as u8)),
+            None => Step::trap(TrapKind::StackEmpty),
+        }
+    }
 }

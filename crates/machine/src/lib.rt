@@ -4,5 +4,6 @@
 mod activation;
 mod calls;
 mod ends;
+mod memory;
 
 pub use ends::RunEnd;

@@ -3,7 +3,7 @@ use Rattle.std.specs.Option.{option_map}
 use Rattle.byteorder.specs.Endian.{little_bytes}
 use Rattle.pool_isa.specs.Machine.{Activation, with_bytes_at}
 use Rattle.machine.proofs.Frames.{behind}
-use Rattle.machine.proofs.calls.write_to.Given as goal
+use Rattle.machine.proofs.memory.write_to.Given as goal
 
 abbrev pub invariant-loop-index : goal.invariant-loop-index
 invariant-loop-index l = record {

@@ -4,7 +4,7 @@ use Rattle.byteorder.specs.Endian.{little_bytes}
 use Rattle.byteorder.specs.Numbers.{length-bytes_low_first}
 use Rattle.pool_isa.specs.Machine.{Activation, covers, with_bytes_at}
 use Rattle.machine.proofs.Frames.{behind, write_found, write_on, after_found, after_missed}
-use Rattle.machine.proofs.calls.write_to.Goals as goal
+use Rattle.machine.proofs.memory.write_to.Goals as goal
 
 pub returns-then-write : goal.returns-then-write
 returns-then-write c =
