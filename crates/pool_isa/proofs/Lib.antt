@@ -1,1 +1,4 @@
 mod Rows
+pub mod Faults
+pub mod Numbers
+pub mod Instrs

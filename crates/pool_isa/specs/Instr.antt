@@ -9,8 +9,8 @@ use Rattle.pool_isa.specs.declared.head.TypeForm.{TypeForm}
 use Rattle.pool_isa.specs.declared.head.TypeForm.TheVariants as types
 use Rattle.pool_isa.specs.declared.head.Head.{Head}
 use Rattle.pool_isa.specs.declared.head.Head.TheVariants as heads
-use Rattle.pool_isa.specs.declared.head.Operand.{Operand}
-use Rattle.pool_isa.specs.declared.head.Operand.TheVariants.{Nothing, Number, Typed}
+use Rattle.pool_isa.specs.declared.code.Operand.{Operand}
+use Rattle.pool_isa.specs.declared.code.Operand.TheVariants.{Nothing, Number, Typed}
 use Rattle.pool_isa.specs.Code.{type_code, width_code, operator_code, comparison_code}
 use Rattle.pool_isa.specs.Number.{number_bytes}
 

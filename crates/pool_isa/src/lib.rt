@@ -1,6 +1,19 @@
+//! The machine's instructions, and the one spelling of each as bytes.
 #![tactic(auto)]
 
+mod code;
 mod head;
 mod instr;
+mod laws;
+mod number;
+mod reading;
+mod writing;
 
 pub use instr::{Comparison, Instr, Width};
+pub use laws::{no_instruction_begins_another, no_number_begins_another, number_grammar};
+pub use number::{BadNumber, append_number, decode_number};
+pub use reading::{BadInstr, decode_one};
+pub use writing::{append, encode};
+
+#[cfg(test)]
+mod tests;
