@@ -5,5 +5,6 @@ mod activation;
 mod calls;
 mod ends;
 mod memory;
+mod words;
 
 pub use ends::RunEnd;
