@@ -83,12 +83,12 @@ impl Activation {
         self.operands.last().copied()
     }
 
-    /// The last operand, and the one before it.
+    /// The last two operands, in the order in which they were pushed.
     pub(crate) fn last_two(&self) -> Option<(u64, u64)>
-        ensures { MatchOption result (length self.now.operands < 2) (λ two. self.now.operands ≡ two.0 ∷ two.1 ∷ drop 2 self.now.operands) }
+        ensures { MatchOption result (length self.now.operands < 2) (λ two. self.now.operands ≡ two.1 ∷ two.0 ∷ drop 2 self.now.operands) }
     {
         match self.operands.as_slice() {
-            [.., first, last] => Some((*last, *first)),
+            [.., first, last] => Some((*first, *last)),
             _ => None,
         }
     }

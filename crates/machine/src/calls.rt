@@ -8,6 +8,8 @@ ghost use Rattle.pool_isa.specs.Machine.{advanced, bytes_at, with_bytes_at};
 use crate::activation::Activation;
 use crate::ends::{RunEnd, Step};
 use crate::memory::{read_from, write_to};
+use crate::words::{bytes_in, size_of, word};
+use c_num::IntType;
 use image_form::Function;
 use pool_isa::{Instr, Width};
 use run_theory::TrapKind;
@@ -83,6 +85,58 @@ impl Calls {
         match self.innermost.last() {
             Some(word) => Step::Over(RunEnd::Ended((word % 256) as u8)),
             None => Step::trap(TrapKind::StackEmpty),
+        }
+    }
+
+    /// The number in the `size` bytes from `address` on, if they lie in one living frame.
+    fn read(&self, address: u64, size: usize) -> Option<u64>
+        requires low { 1 ≤ size }
+        requires high { size ≤ 8 }
+        ensures { result ≡ option_map (little_number size) (bytes_at (activations_of self.now) address size) }
+    {
+        let number = self.innermost.read(address, size);
+        if number.is_some() {
+            return number;
+        }
+        read_from(&self.callers, address, size)
+    }
+
+    /// Writes the lowest `size` bytes of a word from `address` on, if they lie in one living frame, and says whether they do.
+    fn write(&mut self, address: u64, word: u64, size: usize) -> bool
+        requires { size ≤ 8 }
+        ensures { MatchBool result (with_bytes_at (activations_of self.old) address (little_bytes size word) ≡ Some (activations_of self.new)) (with_bytes_at (activations_of self.old) address (little_bytes size word) ≡ None) }
+    {
+        self.innermost.write(address, word, size) || write_to(&mut self.callers, address, word, size)
+    }
+
+    /// Loads a value in the place of its address.
+    fn load(&mut self, int_type: IntType) -> Step
+        requires { self.old.innermost.place + 1 < 2 ^ 64 }
+        ensures { (functions : List machine.Function) (function : machine.Function) → Performs functions function (Instr.Load int_type) self.old result self.new }
+    {
+        let Some(address) = self.innermost.last() else {
+            return Step::trap(TrapKind::StackEmpty);
+        };
+        let Some(number) = self.read(address, size_of(int_type)) else {
+            return Step::trap(TrapKind::BadAccess);
+        };
+        self.innermost.replace(word(number, int_type));
+        Step::On
+    }
+
+    /// Stores the last operand at the address before it.
+    fn store(&mut self, width: Width) -> Step
+        requires { self.old.innermost.place + 1 < 2 ^ 64 }
+        ensures { (functions : List machine.Function) (function : machine.Function) → Performs functions function (Instr.Store width) self.old result self.new }
+    {
+        let Some((address, word)) = self.innermost.last_two() else {
+            return Step::trap(TrapKind::StackEmpty);
+        };
+        self.innermost.discard(2);
+        if self.write(address, word, bytes_in(width)) {
+            Step::On
+        } else {
+            Step::trap(TrapKind::BadAccess)
         }
     }
 }

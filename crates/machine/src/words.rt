@@ -34,8 +34,8 @@ pub(crate) fn bytes_in(width: Width) -> usize
     }
 }
 
-#[tactic(auto, using(crate::proofs::Values::wide_word), unfolding(c_num::specs::Conversion::word_of, c_num::specs::Conversion::convert_to))]
 /// The word of the value of type `int_type` whose bits are the lowest ones of a number.
+#[tactic(auto, using(crate::proofs::Values::wide_word), unfolding(c_num::specs::Conversion::word_of, c_num::specs::Conversion::convert_to))]
 pub(crate) fn word(number: u64, int_type: IntType) -> u64
     ensures { result ≡ word_of int_type (pos number) }
 {

@@ -6,8 +6,8 @@ use Rattle.pool_isa.specs.Machine.{Activation, covers, with_bytes_at}
 use Rattle.machine.proofs.Frames.{behind, write_found, write_on, after_found, after_missed}
 use Rattle.machine.proofs.memory.write_to.Goals as goal
 
-pub returns-then-write : goal.returns-then-write
-returns-then-write c =
+pub returns-then-write-clause-written : goal.returns-then-write-clause-written
+returns-then-write-clause-written c =
     let xs = c.loop-index.callers in
     let i = c.loop-index.index in
     let k = i - 1 in
