@@ -1,9 +1,10 @@
 // The functions that were called and have not returned, and the instructions that change them.
 
-ghost use Rattle.std.specs.Prelude.{◌≡◌, ℕ, ◌+◌, ◌^◌, ◌<◌, ◌≤◌, List, [], ◌∷◌, ◌++◌, length, take, drop, reverse, replicate, Some, None, IfOk, OnOk, OnErr, MatchBool, if◌then◌else◌};
+ghost use Rattle.std.specs.Prelude.{◌≡◌, ℕ, ◌+◌, ◌^◌, ◌<◌, ◌≤◌, List, [], ◌∷◌, ◌++◌, length, take, drop, reverse, replicate, Some, None, OnOk, OnErr, map, MatchBool, if◌then◌else◌};
+ghost use Rattle.std.specs.List.{flat_map};
 ghost use Rattle.std.specs.Option.{option_map};
 ghost use Rattle.byteorder.specs.Endian.{little_bytes, little_number};
-ghost use Rattle.pool_isa.specs.Machine.{advanced, bytes_at, with_bytes_at};
+ghost use Rattle.pool_isa.specs.Machine.{advanced, bytes_at, next_start, with_bytes_at};
 
 use crate::activation::Activation;
 use crate::ends::{RunEnd, Step};
@@ -137,6 +138,59 @@ impl Calls {
             Step::On
         } else {
             Step::trap(TrapKind::BadAccess)
+        }
+    }
+
+    /// Calls a function, which takes its parameters.
+    fn call(&mut self, alloc: Global, functions: &[Function], callee: u64) -> Step
+        requires { self.old.innermost.place + 1 < 2 ^ 64 }
+        ensures { (function : machine.Function) → Performs (map function_of functions.now) function (Instr.Call callee) self.old result self.new }
+    {
+        let Some(function) = functions.get(callee as usize) else {
+            return Step::trap(TrapKind::BadCall);
+        };
+        if self.innermost.height() < function.parameters as usize {
+            return Step::trap(TrapKind::StackEmpty);
+        }
+        if self.callers.len() >= MAX_DEPTH {
+            return Step::Over(RunEnd::Depth);
+        }
+        match self.enter(alloc, callee as usize, function) {
+            Ok(()) => Step::On,
+            Err(_) => Step::Over(RunEnd::OutOfMemory),
+        }
+    }
+
+    /// Lets a function that is called take its parameters.
+    fn enter(&mut self, alloc: Global, callee: usize, function: &Function) -> Result<(), AllocError>
+        requires next { self.old.innermost.place + 1 < 2 ^ 64 }
+        requires there { function.now.parameters ≤ length self.old.innermost.operands }
+        requires depth { length self.old.callers < 10000 }
+        ensures callee { OnOk result (self.new.innermost ≡ record { function = callee; place = 0; operands = []; start = next_start self.old.innermost; bytes = flat_map (little_bytes 8) (reverse (take function.now.parameters self.old.innermost.operands)) ++ replicate function.now.extra 0 }) }
+        ensures callers { OnOk result (self.new.callers ≡ advanced self.old.innermost (drop function.now.parameters self.old.innermost.operands) ∷ self.old.callers) }
+        ensures err { OnErr result (self.new ≡ self.old) }
+    {
+        self.callers.reserve(1)?;
+        let start = self.innermost.next_start();
+        let count = function.parameters as usize;
+        let parameters = self.innermost.parameters(count);
+        let entered = Activation::enter(alloc, callee, start, parameters, function.extra)?;
+        self.innermost.discard(count);
+        let caller = mem::replace(&mut self.innermost, entered);
+        self.callers.push(caller).unwrap();
+        Ok(())
+    }
+
+    /// Returns to the caller. `start` has none: its return ends the run.
+    fn finish(&mut self) -> Step
+        ensures { (functions : List machine.Function) (function : machine.Function) → Performs functions function Instr.Return self.old result self.new }
+    {
+        match self.callers.pop() {
+            Some(caller) => {
+                self.innermost = caller;
+                Step::On
+            }
+            None => Step::Over(RunEnd::Ended(0)),
         }
     }
 }
