@@ -2,3 +2,4 @@ pub mod Lists
 pub mod Frames
 pub mod Values
 pub mod Entry
+pub mod Returning

@@ -181,16 +181,49 @@ impl Calls {
         Ok(())
     }
 
+    /// Goes back to the caller.
+    fn leave(&mut self)
+        requires { 0 < length self.old.callers }
+        ensures { self.old.callers ≡ activations_of self.new }
+    {
+        self.innermost = self.callers.pop().unwrap();
+    }
+
     /// Returns to the caller. `start` has none: its return ends the run.
     fn finish(&mut self) -> Step
         ensures { (functions : List machine.Function) (function : machine.Function) → Performs functions function Instr.Return self.old result self.new }
     {
-        match self.callers.pop() {
-            Some(caller) => {
-                self.innermost = caller;
+        if self.callers.is_empty() {
+            return Step::Over(RunEnd::Ended(0));
+        }
+        self.leave();
+        Step::On
+    }
+
+    /// Returns the last operand to the caller. At the return of `start` it ends the run, modulo 256.
+    fn finish_with_value(&mut self, functions: &[Function]) -> Step
+        ensures { (function : machine.Function) → Performs (map function_of functions.now) function Instr.ReturnValue self.old result self.new }
+    {
+        let Some(word) = self.innermost.last() else {
+            return Step::trap(TrapKind::StackEmpty);
+        };
+        if self.callers.is_empty() {
+            return Step::Over(RunEnd::Ended((word % 256) as u8));
+        }
+        let last = self.callers.len() - 1;
+        let caller = &mut self.callers[last];
+        let Some(function) = functions.get(caller.function()) else {
+            return Step::trap(TrapKind::Reached);
+        };
+        if caller.height() >= function.height as usize {
+            return Step::trap(TrapKind::StackFull);
+        }
+        match caller.give(word) {
+            Ok(()) => {
+                self.leave();
                 Step::On
             }
-            None => Step::Over(RunEnd::Ended(0)),
+            Err(_) => Step::Over(RunEnd::OutOfMemory),
         }
     }
 }
