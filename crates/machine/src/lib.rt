@@ -5,6 +5,7 @@ mod activation;
 mod calls;
 mod ends;
 mod memory;
+mod outside;
 mod words;
 
 pub use ends::RunEnd;
