@@ -3,7 +3,7 @@ use Rattle.std.specs.Prelude.{◌≡◌, ℕ, ◌+◌, ◌*◌, ◌^◌, ◌≤�
 use Rattle.run_theory.specs.Runs as runs
 use Rattle.run_theory.specs.Runs.{Trace, output_of, Move, To, Halt, Final}
 use Rattle.pool_isa.specs.declared.instr.Instr.{Instr}
-use Rattle.pool_isa.specs.Machine.{Function, Activation, State, next_start, perform}
+use Rattle.pool_isa.specs.Machine.{Function, Activation, State, advanced, input_word, after_next, next_start, perform}
 use Rattle.machine.specs.declared.ends.RunEnd.{RunEnd}
 use Rattle.machine.specs.declared.ends.RunEnd.TheVariants as ends
 use Rattle.machine.specs.declared.ends.Step.{Step}
@@ -73,6 +73,13 @@ Gives move base old (Over ends.ReadFault) new left written = IsUndone base old n
 Gives move base old (Over ends.WriteFault) new left written = IsUndone base old new left written
 Gives move base old (Over ends.OutOfMemory) new left written = IsUndone base old new left written
 Gives move base old (Over ends.StepsSpent) new left written = ⊥
+
+-- A step that reads has pushed the word of what was left, or it could not be made, and nothing has changed.
+abbrev pub PushesNext : Step → Activation → Option (List ℕ) → Activation → Option (List ℕ) → Type 0
+PushesNext On old left new left' = (input : List ℕ) → left ≡ Some input → (new ≡ advanced old (input_word input ∷ old.operands)) × (left' ≡ Some (after_next input))
+PushesNext (Over ends.ReadFault) old left new left' = (new ≡ old) × (left' ≡ left)
+PushesNext (Over ends.OutOfMemory) old left new left' = (new ≡ old) × (left' ≡ left)
+PushesNext (Over _) old left new left' = ⊥
 
 -- each frame ends where the depth allows: a function's parameters and extra bytes are below 2 ^ 36
 abbrev pub IsRoomy : List Activation → Type 0

@@ -4,9 +4,13 @@ ghost use Rattle.std.specs.Prelude.{◌≡◌, ℕ, ◌+◌, ◌*◌, ◌-◌, �
 ghost use Rattle.std.specs.List.{flat_map};
 ghost use Rattle.std.specs.Option.{option_map};
 ghost use Rattle.byteorder.specs.Endian.{little_bytes, little_number};
+ghost use Rattle.pcc_outside.specs.Outside.{Rose};
 ghost use Rattle.pool_isa.specs.Machine.{advanced, covers, spliced, next_start};
 
+use crate::ends::{RunEnd, Step};
+use crate::outside::next_word;
 use byteorder::{ByteOrder, LittleEndian};
+use pcc_outside::Source;
 use std::alloc::{AllocError, Global};
 use std::marker::Model;
 
@@ -35,6 +39,8 @@ impl Model for Activation {
 }
 
 impl Activation {
+    ghost use Rattle.machine.specs.Steps.{PushesNext};
+
     /// A function at its entry: the frame holds the parameters and `extra` zeros.
     pub(crate) fn enter(alloc: Global, function: usize, start: u64, parameters: &[u64], extra: u32) -> Result<Activation, AllocError>
         ensures { IfOk result (λ a. a ≡ record { function = function; place = 0; operands = []; start = start; bytes = flat_map (little_bytes 8) parameters.now ++ replicate extra 0 }) }
@@ -102,6 +108,26 @@ impl Activation {
         self.operands.push(word)?;
         self.place += 1;
         Ok(())
+    }
+
+    /// Pushes the word that `getchar` gives, and goes to the next instruction. There is room for it before a byte is read.
+    pub(crate) fn push_next<I: Source>(&mut self, input: &mut I) -> Step
+        requires { self.old.place + 1 < 2 ^ 64 }
+        ensures pushed { PushesNext result self.old (I.left input.old) self.new (I.left input.new) }
+        ensures fault { result ≡ Step.Over RunEnd.ReadFault → Rose (I.faults input.old) (I.faults input.new) }
+        ensures counted { I.faults input.old ≤ I.faults input.new }
+    {
+        if self.operands.reserve(1).is_err() {
+            return Step::Over(RunEnd::OutOfMemory);
+        }
+        match next_word(input) {
+            Ok(word) => {
+                self.operands.push(word).unwrap();
+                self.place += 1;
+                Step::On
+            }
+            Err(_) => Step::Over(RunEnd::ReadFault),
+        }
     }
 
     /// Puts an operand in the place of the last one, and goes to the next instruction.
