@@ -3,3 +3,4 @@ pub mod Frames
 pub mod Values
 pub mod Entry
 pub mod Returning
+pub mod Written

@@ -74,6 +74,12 @@ Gives move base old (Over ends.WriteFault) new left written = IsUndone base old 
 Gives move base old (Over ends.OutOfMemory) new left written = IsUndone base old new left written
 Gives move base old (Over ends.StepsSpent) new left written = ⊥
 
+-- An instruction was performed as the machine's meaning says: from what was left of the input and what was written
+-- before it, where they are told, to what is left and written after it.
+abbrev pub Does : List Function → Function → Instr → CallStack → Option (List ℕ) → Option (List ℕ) → Step → CallStack → Option (List ℕ) → Option (List ℕ) → Type 0
+Does functions function instr old left written result new left' written' =
+    (input base : List ℕ) (trace : Trace) → left ≡ Some input → written ≡ Some (base ++ output_of trace) → Gives (perform (Some instr) functions function old.innermost old.callers (standing (activations_of old) input trace)) base (standing (activations_of old) input trace) result (activations_of new) left' written'
+
 -- A step that reads has pushed the word of what was left, or it could not be made, and nothing has changed.
 abbrev pub PushesNext : Step → Activation → Option (List ℕ) → Activation → Option (List ℕ) → Type 0
 PushesNext On old left new left' = (input : List ℕ) → left ≡ Some input → (new ≡ advanced old (input_word input ∷ old.operands)) × (left' ≡ Some (after_next input))

@@ -114,6 +114,7 @@ impl Activation {
     pub(crate) fn push_next<I: Source>(&mut self, input: &mut I) -> Step
         requires { self.old.place + 1 < 2 ^ 64 }
         ensures pushed { PushesNext result self.old (I.left input.old) self.new (I.left input.new) }
+        ensures frame { next_start self.new ≡ next_start self.old }
         ensures fault { result ≡ Step.Over RunEnd.ReadFault → Rose (I.faults input.old) (I.faults input.new) }
         ensures counted { I.faults input.old ≤ I.faults input.new }
     {

@@ -1,17 +1,20 @@
 // The functions that were called and have not returned, and the instructions that change them.
 
-ghost use Rattle.std.specs.Prelude.{◌≡◌, ℕ, ◌+◌, ◌^◌, ◌<◌, ◌≤◌, List, [], ◌∷◌, ◌++◌, length, take, drop, reverse, replicate, Some, None, OnOk, OnErr, map, MatchBool, if◌then◌else◌};
+ghost use Rattle.std.specs.Prelude.{◌≡◌, ℕ, ◌+◌, ◌^◌, ◌<◌, ◌≤◌, List, [], ◌∷◌, ◌++◌, length, take, drop, reverse, replicate, Option, Some, None, OnOk, OnErr, map, MatchBool, if◌then◌else◌};
 ghost use Rattle.std.specs.List.{flat_map};
 ghost use Rattle.std.specs.Option.{option_map};
 ghost use Rattle.byteorder.specs.Endian.{little_bytes, little_number};
+ghost use Rattle.pcc_outside.specs.Outside.{Rose};
 ghost use Rattle.pool_isa.specs.Machine.{advanced, bytes_at, next_start, with_bytes_at};
 
 use crate::activation::Activation;
 use crate::ends::{RunEnd, Step};
 use crate::memory::{read_from, write_to};
+use crate::outside::write_byte;
 use crate::words::{bytes_in, size_of, word};
 use c_num::IntType;
 use image_form::Function;
+use pcc_outside::{Sink, Source};
 use pool_isa::{Instr, Width};
 use run_theory::TrapKind;
 use std::alloc::{AllocError, Global};
@@ -43,7 +46,7 @@ impl Model for Calls {
 impl Calls {
     ghost use Rattle.image_form.specs.Form.{function_of};
     ghost use Rattle.pool_isa.specs.Machine as machine;
-    ghost use Rattle.machine.specs.Steps.{activations_of, Performs};
+    ghost use Rattle.machine.specs.Steps.{activations_of, Performs, Does};
 
     /// Pushes a word, where the function may hold one more operand.
     fn push(&mut self, word: u64, height: u32) -> Step
@@ -224,6 +227,39 @@ impl Calls {
                 Step::On
             }
             Err(_) => Step::Over(RunEnd::OutOfMemory),
+        }
+    }
+
+    /// Reads a byte, where the function may hold one more operand.
+    fn get_char<I: Source>(&mut self, input: &mut I, height: u32) -> Step
+        requires { self.old.innermost.place + 1 < 2 ^ 64 }
+        ensures does { (functions : List machine.Function) (function : machine.Function) (written : Option (List ℕ)) → function.height ≡ height → Does functions function Instr.GetChar self.old (I.left input.old) written result self.new (I.left input.new) written }
+        ensures fault { result ≡ Step.Over RunEnd.ReadFault → Rose (I.faults input.old) (I.faults input.new) }
+        ensures counted { I.faults input.old ≤ I.faults input.new }
+    {
+        if self.innermost.height() >= height as usize {
+            return Step::trap(TrapKind::StackFull);
+        }
+        self.innermost.push_next(input)
+    }
+
+    /// Writes the low byte of the last operand, and leaves that byte in its place.
+    fn put_char<O: Sink>(&mut self, out: &mut O) -> Step
+        requires { self.old.innermost.place + 1 < 2 ^ 64 }
+        ensures does { (functions : List machine.Function) (function : machine.Function) (left : Option (List ℕ)) → Does functions function Instr.PutChar self.old left (O.written out.old) result self.new left (O.written out.new) }
+        ensures fault { result ≡ Step.Over RunEnd.WriteFault → Rose (O.faults out.old) (O.faults out.new) }
+        ensures counted { O.faults out.old ≤ O.faults out.new }
+    {
+        let Some(word) = self.innermost.last() else {
+            return Step::trap(TrapKind::StackEmpty);
+        };
+        let byte = (word % 256) as u8;
+        match write_byte(out, byte) {
+            Ok(()) => {
+                self.innermost.replace(u64::from(byte));
+                Step::On
+            }
+            Err(_) => Step::Over(RunEnd::WriteFault),
         }
     }
 }
