@@ -4,3 +4,4 @@ pub mod Values
 pub mod Entry
 pub mod Returning
 pub mod Written
+pub mod Performing

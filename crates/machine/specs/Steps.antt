@@ -3,6 +3,7 @@ use Rattle.std.specs.Prelude.{◌≡◌, ℕ, ◌+◌, ◌*◌, ◌^◌, ◌≤�
 use Rattle.run_theory.specs.Runs as runs
 use Rattle.run_theory.specs.Runs.{Trace, output_of, Move, To, Halt, Final}
 use Rattle.pool_isa.specs.declared.instr.Instr.{Instr}
+use Rattle.pool_isa.specs.declared.instr.Instr.TheVariants as instrs
 use Rattle.pool_isa.specs.Machine.{Function, Activation, State, advanced, input_word, after_next, next_start, perform}
 use Rattle.machine.specs.declared.ends.RunEnd.{RunEnd}
 use Rattle.machine.specs.declared.ends.RunEnd.TheVariants as ends
@@ -38,6 +39,12 @@ pub record CallStack : Type 0 where
 
 abbrev pub activations_of : CallStack → List Activation
 activations_of calls = calls.innermost ∷ calls.callers
+
+-- an instruction that touches neither input nor output
+abbrev pub IsInside : Instr → Type 0
+IsInside instrs.GetChar = ⊥
+IsInside instrs.PutChar = ⊥
+IsInside _ = Unit {0}
 
 -- An instruction, which touches neither input nor output, was performed as the machine's meaning says.
 abbrev pub Performs : List Function → Function → Instr → CallStack → Step → CallStack → Type 0

@@ -1,6 +1,6 @@
 // A function that was called and has not returned: its place, its operands and its frame.
 
-ghost use Rattle.std.specs.Prelude.{◌≡◌, ℕ, ◌+◌, ◌*◌, ◌-◌, ◌/◌, ◌%◌, ◌^◌, ◌<◌, ◌≤◌, List, [], ◌∷◌, ◌++◌, length, take, drop, reverse, replicate, Some, None, IfOk, OnOk, OnErr, MatchOption, if◌then◌else◌};
+ghost use Rattle.std.specs.Prelude.{◌≡◌, ◌≢◌, ℕ, ◌+◌, ◌*◌, ◌-◌, ◌/◌, ◌%◌, ◌^◌, ◌<◌, ◌≤◌, List, [], ◌∷◌, ◌++◌, length, take, drop, reverse, replicate, Some, None, IfOk, OnOk, OnErr, MatchOption, if◌then◌else◌};
 ghost use Rattle.std.specs.List.{flat_map};
 ghost use Rattle.std.specs.Option.{option_map};
 ghost use Rattle.byteorder.specs.Endian.{little_bytes, little_number};
@@ -116,6 +116,7 @@ impl Activation {
         ensures pushed { PushesNext result self.old (I.left input.old) self.new (I.left input.new) }
         ensures frame { next_start self.new ≡ next_start self.old }
         ensures fault { result ≡ Step.Over RunEnd.ReadFault → Rose (I.faults input.old) (I.faults input.new) }
+        ensures other { result ≢ Step.Over RunEnd.WriteFault }
         ensures counted { I.faults input.old ≤ I.faults input.new }
     {
         if self.operands.reserve(1).is_err() {

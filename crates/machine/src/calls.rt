@@ -1,6 +1,6 @@
 // The functions that were called and have not returned, and the instructions that change them.
 
-ghost use Rattle.std.specs.Prelude.{◌≡◌, ℕ, ◌+◌, ◌^◌, ◌<◌, ◌≤◌, List, [], ◌∷◌, ◌++◌, length, take, drop, reverse, replicate, Option, Some, None, OnOk, OnErr, map, MatchBool, if◌then◌else◌};
+ghost use Rattle.std.specs.Prelude.{◌≡◌, ◌≢◌, ℕ, ◌+◌, ◌^◌, ◌<◌, ◌≤◌, List, [], ◌∷◌, ◌++◌, length, take, drop, reverse, replicate, Option, Some, None, OnOk, OnErr, map, MatchBool, if◌then◌else◌};
 ghost use Rattle.std.specs.List.{flat_map};
 ghost use Rattle.std.specs.Option.{option_map};
 ghost use Rattle.byteorder.specs.Endian.{little_bytes, little_number};
@@ -46,7 +46,7 @@ impl Model for Calls {
 impl Calls {
     ghost use Rattle.image_form.specs.Form.{function_of};
     ghost use Rattle.pool_isa.specs.Machine as machine;
-    ghost use Rattle.machine.specs.Steps.{activations_of, Performs, Does};
+    ghost use Rattle.machine.specs.Steps.{activations_of, IsInside, Performs, Does};
 
     /// Pushes a word, where the function may hold one more operand.
     fn push(&mut self, word: u64, height: u32) -> Step
@@ -235,6 +235,7 @@ impl Calls {
         requires { self.old.innermost.place + 1 < 2 ^ 64 }
         ensures does { (functions : List machine.Function) (function : machine.Function) (written : Option (List ℕ)) → function.height ≡ height → Does functions function Instr.GetChar self.old (I.left input.old) written result self.new (I.left input.new) written }
         ensures fault { result ≡ Step.Over RunEnd.ReadFault → Rose (I.faults input.old) (I.faults input.new) }
+        ensures other { result ≢ Step.Over RunEnd.WriteFault }
         ensures counted { I.faults input.old ≤ I.faults input.new }
     {
         if self.innermost.height() >= height as usize {
@@ -248,6 +249,7 @@ impl Calls {
         requires { self.old.innermost.place + 1 < 2 ^ 64 }
         ensures does { (functions : List machine.Function) (function : machine.Function) (left : Option (List ℕ)) → Does functions function Instr.PutChar self.old left (O.written out.old) result self.new left (O.written out.new) }
         ensures fault { result ≡ Step.Over RunEnd.WriteFault → Rose (O.faults out.old) (O.faults out.new) }
+        ensures other { result ≢ Step.Over RunEnd.ReadFault }
         ensures counted { O.faults out.old ≤ O.faults out.new }
     {
         let Some(word) = self.innermost.last() else {
@@ -260,6 +262,55 @@ impl Calls {
                 Step::On
             }
             Err(_) => Step::Over(RunEnd::WriteFault),
+        }
+    }
+
+    /// Performs an instruction that neither reads nor writes.
+    fn perform_inside(&mut self, alloc: Global, functions: &[Function], height: u32, instr: Instr) -> Step
+        requires next { self.old.innermost.place + 1 < 2 ^ 64 }
+        requires inside { IsInside instr }
+        ensures { (function : machine.Function) → function.height ≡ height → Performs (map function_of functions.now) function instr self.old result self.new }
+    {
+        match instr {
+            Instr::Constant(word) => self.push(word, height),
+            Instr::Local(offset) => {
+                let address = self.innermost.address(offset);
+                self.push(address, height)
+            }
+            Instr::Discard => self.discard(),
+            Instr::Load(int_type) => self.load(int_type),
+            Instr::Store(width) => self.store(width),
+            Instr::Jump(target) => self.jump(target),
+            Instr::Call(callee) => self.call(alloc, functions, callee),
+            Instr::Return => self.finish(),
+            Instr::ReturnValue => self.finish_with_value(functions),
+            Instr::Exit => self.exit(),
+            // The forms that are compiled need no other instruction.
+            _ => Step::trap(TrapKind::Reached),
+        }
+    }
+
+    /// Performs an instruction of a function that may hold `height` operands.
+    pub(crate) fn perform<I: Source, O: Sink>(
+        &mut self,
+        alloc: Global,
+        functions: &[Function],
+        height: u32,
+        instr: Instr,
+        input: &mut I,
+        out: &mut O,
+    ) -> Step
+        requires { self.old.innermost.place + 1 < 2 ^ 64 }
+        ensures does { (function : machine.Function) → function.height ≡ height → Does (map function_of functions.now) function instr self.old (I.left input.old) (O.written out.old) result self.new (I.left input.new) (O.written out.new) }
+        ensures read_cause { result ≡ Step.Over RunEnd.ReadFault → Rose (I.faults input.old) (I.faults input.new) }
+        ensures write_cause { result ≡ Step.Over RunEnd.WriteFault → Rose (O.faults out.old) (O.faults out.new) }
+        ensures reads_counted { I.faults input.old ≤ I.faults input.new }
+        ensures writes_counted { O.faults out.old ≤ O.faults out.new }
+    {
+        match instr {
+            Instr::GetChar => self.get_char(input, height),
+            Instr::PutChar => self.put_char(out),
+            _ => self.perform_inside(alloc, functions, height, instr),
         }
     }
 }
