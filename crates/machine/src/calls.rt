@@ -1,6 +1,6 @@
 // The functions that were called and have not returned, and the instructions that change them.
 
-ghost use Rattle.std.specs.Prelude.{◌≡◌, ◌≢◌, ℕ, ◌+◌, ◌^◌, ◌<◌, ◌≤◌, List, [], ◌∷◌, ◌++◌, length, take, drop, reverse, replicate, Option, Some, None, OnOk, OnErr, map, MatchBool, if◌then◌else◌};
+ghost use Rattle.std.specs.Prelude.{◌≡◌, ◌≢◌, ℕ, ◌+◌, ◌^◌, ◌<◌, ◌≤◌, List, [], ◌∷◌, ◌++◌, length, take, drop, reverse, replicate, Option, Some, None, OnOk, OnErr, map, IfOk, MatchBool, if◌then◌else◌};
 ghost use Rattle.std.specs.List.{flat_map};
 ghost use Rattle.std.specs.Option.{option_map};
 ghost use Rattle.byteorder.specs.Endian.{little_bytes, little_number};
@@ -23,6 +23,9 @@ use std::mem;
 
 /// How deep calls may be nested: `start` has depth 0.
 const MAX_DEPTH: usize = 10_000;
+
+/// The address of the first frame.
+const FIRST_FRAME: u64 = 1 << 40;
 
 /// The functions that were called and have not returned.
 #[derive(Drop)]
@@ -47,6 +50,23 @@ impl Calls {
     ghost use Rattle.image_form.specs.Form.{function_of};
     ghost use Rattle.pool_isa.specs.Machine as machine;
     ghost use Rattle.machine.specs.Steps.{activations_of, IsInside, Performs, Does};
+
+    /// `start` at its entry.
+    pub(crate) fn new(alloc: Global, extra: u32) -> Result<Calls, AllocError>
+        ensures { IfOk result (λ calls. calls ≡ record { innermost = record { function = 0; place = 0; operands = []; start = 2 ^ 40; bytes = replicate extra 0 }; callers = [] }) }
+    {
+        Ok(Calls {
+            innermost: Activation::enter(alloc, 0, FIRST_FRAME, &[], extra)?,
+            callers: Vec::new(alloc),
+        })
+    }
+
+    /// The innermost one.
+    pub(crate) fn innermost(&self) -> &Activation
+        ensures { result.now ≡ self.now.innermost }
+    {
+        &self.innermost
+    }
 
     /// Pushes a word, where the function may hold one more operand.
     fn push(&mut self, word: u64, height: u32) -> Step

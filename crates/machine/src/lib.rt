@@ -4,8 +4,10 @@
 mod activation;
 mod calls;
 mod ends;
+mod loaded;
 mod memory;
 mod outside;
 mod words;
 
 pub use ends::RunEnd;
+pub use loaded::Machine;
