@@ -5,3 +5,5 @@ pub mod Entry
 pub mod Returning
 pub mod Written
 pub mod Performing
+pub mod Moves
+pub mod Running

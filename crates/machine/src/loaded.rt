@@ -35,6 +35,7 @@ impl<'a> Model for Machine<'a> {
 
 impl<'a> Machine<'a> {
     ghost use Rattle.machine.specs.Steps.{standing, Gives};
+    ghost use Rattle.machine.specs.Run.{RunGives};
 
     /// A machine that stands before the first step of the image.
     pub fn load(alloc: Global, image: &'a Image, limits: MachineLimits) -> Result<Machine<'a>, AllocError>
@@ -70,5 +71,24 @@ impl<'a> Machine<'a> {
         };
         self.calls
             .perform(self.alloc, &image.functions, function.height, *instr, input, out)
+    }
+
+    /// Runs at most so many steps. Bytes of the input that the program did not take stay unread.
+    pub fn run<I: Source, O: Sink>(mut self, input: &mut I, out: &mut O, steps: u64) -> RunEnd
+        // For told bytes: what is left, what was written and the answer are those of the machine's meaning.
+        ensures meaning { (left base : List ℕ) (trace : Trace) → I.left input.old ≡ Some left → O.written out.old ≡ Some (base ++ output_of trace) → RunGives self.entry.functions (standing self.entry.activations left trace) base steps result (I.left input.new) (O.written out.new) }
+
+        ensures read_cause { result ≡ RunEnd.ReadFault → Rose (I.faults input.old) (I.faults input.new) }
+        ensures write_cause { result ≡ RunEnd.WriteFault → Rose (O.faults out.old) (O.faults out.new) }
+        ensures reads_counted { I.faults input.old ≤ I.faults input.new }
+        ensures writes_counted { O.faults out.old ≤ O.faults out.new }
+    {
+        for _turn in 0..steps {
+            match self.step(input, out) {
+                Step::On => {}
+                Step::Over(end) => return end,
+            }
+        }
+        RunEnd::StepsSpent
     }
 }
