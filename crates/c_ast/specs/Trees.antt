@@ -1,5 +1,5 @@
 -- Trees as plain data, and the views that lead to them from the trees that the reader makes.
-use Rattle.std.specs.Prelude.{ℕ, List, map}
+use Rattle.std.specs.Prelude.{ℕ, ◌+◌, List, [], ◌∷◌, map}
 use Rattle.c_ast.specs.declared.Expr.{Expr}
 use Rattle.c_ast.specs.declared.Expr.TheVariants as E
 use Rattle.c_ast.specs.declared.Stmt.{Stmt}
@@ -40,3 +40,25 @@ stmt_tree (S.Return value) = Return (expr_tree value)
 
 abbrev pub program_tree : Program → ProgramTree
 program_tree program = record { body = map stmt_tree program.body.items }
+
+-- How many nodes a tree has: each expression and each statement is one, the body of main (a block) too. A name that is
+-- called is not counted.
+abbrev pub expr_size : ExprTree → ℕ
+expr_size (Decimal value) = 1
+expr_size (Character byte) = 1
+expr_size EndOfFile = 1
+expr_size GetChar = 1
+expr_size (PutChar value) = expr_size value + 1
+expr_size (Parenthesized inner) = expr_size inner + 1
+
+abbrev pub stmt_size : StmtTree → ℕ
+stmt_size Empty = 1
+stmt_size (Expression value) = expr_size value + 1
+stmt_size (Return value) = expr_size value + 1
+
+abbrev pub body_size : List StmtTree → ℕ
+body_size [] = 0
+body_size (stmt ∷ stmts) = stmt_size stmt + body_size stmts
+
+abbrev pub program_size : ProgramTree → ℕ
+program_size program = body_size program.body + 1

@@ -2,10 +2,14 @@
 --
 -- A text is cut from the left: white space is passed, and then the longest piece that has the shape of a token is
 -- taken, whatever follows (C17 6.4 paragraph 4). Each piece must then be a token of the language.
-use Rattle.std.specs.Prelude.{◌≡◌, ℕ, zero, suc, ◌+◌, ◌-◌, ◌*◌, ◌^◌, ◌<◌, ◌≤◌, List, [], ◌∷◌, ◌++◌, Option, Some, None, Bool, true, false, ◌&&◌, ◌||◌, ◌==◌, nat_lt, nat_le, if◌then◌else◌, length, codes}
+use Rattle.std.specs.Prelude.{◌≡◌, ℕ, ◌+◌, ◌-◌, ◌*◌, ◌^◌, ◌≤◌, List, [], ◌∷◌, ◌++◌, Option, Some, None, Bool, true, false, ◌&&◌, ◌||◌, ◌==◌, nat_lt, nat_le, if◌then◌else◌, length, map, slice_range, codes, Vec, Result, Ok, Err}
 use Rattle.std.specs.List.{list_all}
 use Rattle.std.specs.Str.{bytes_eq}
+use Rattle.std.specs.declared.alloc.Global.{Global}
 use Rattle.c_lexer.specs.declared.token.Lexeme.{Lexeme}
+use Rattle.c_lexer.specs.declared.token.Token.{Token}
+use Rattle.c_lexer.specs.declared.token.LexErr.{LexErr}
+use Rattle.c_lexer.specs.declared.token.LexErr.TheVariants.{BadByte, BadLiteral, Unclosed, BadDirective, NameTooLong, OutOfMemory}
 use Rattle.c_lexer.specs.declared.token.Lexeme.TheVariants as L
 
 abbrev pub is_between : ℕ → ℕ → ℕ → Bool
@@ -107,9 +111,9 @@ abbrev pub escape_value : List ℕ → Option ℕ
 escape_value [] = None
 escape_value (first ∷ rest) =
     if is_octal_digit first then
-      (if nat_le (length rest) 2 && list_all is_octal_digit rest then fitting_byte (digits_from (λ digit. digit - 48) 8 0 (first ∷ rest)) else None)
+    (if nat_le (length rest) 2 && list_all is_octal_digit rest then fitting_byte (digits_from (λ digit. digit - 48) 8 0 (first ∷ rest)) else None)
     else if first == 120 then
-      (if nat_lt 0 (length rest) && list_all is_hexadecimal_digit rest then fitting_byte (digits_from hexadecimal_value 16 0 rest) else None)
+    (if nat_lt 0 (length rest) && list_all is_hexadecimal_digit rest then fitting_byte (digits_from hexadecimal_value 16 0 rest) else None)
     else if length rest == 0 then simple_escape first else None
 
 -- the byte of a character constant, from what stands between its quotes: one byte, or one escape
@@ -165,3 +169,28 @@ pub data Divides : List ℕ → List Lexeme → Type 0 where
   at_end : Divides [] (L.EndOfText ∷ [])
   space : (byte : ℕ) (text : List ℕ) (tokens : List Lexeme) → is_space byte ≡ true → Divides text tokens → Divides (byte ∷ text) tokens
   token : (text piece rest : List ℕ) (lexeme : Lexeme) (tokens : List Lexeme) → text ≡ piece ++ rest → IsLongest piece rest → token_of piece ≡ Some lexeme → Divides rest tokens → Divides text (lexeme ∷ tokens)
+
+abbrev pub lexemes_of : List Token → List Lexeme
+lexemes_of tokens = map (λ (token : Token). token.lexeme) tokens
+
+-- The bytes of a text spell this token; none spell its end.
+abbrev pub Spells : List ℕ → Lexeme → Type 0
+Spells [] lexeme = lexeme ≡ L.EndOfText
+Spells (byte ∷ bytes) lexeme = token_of (byte ∷ bytes) ≡ Some lexeme
+
+-- From a place of the text on, each token stands within the text and behind the one before it, and is spelled by
+-- its bytes.
+abbrev pub StandFrom : List ℕ → ℕ → List Token → Type 0
+StandFrom text from [] = Unit {0}
+StandFrom text from (first ∷ tokens) =
+    (from ≤ first.start) × (first.start ≤ first.end) × (first.end ≤ length text) × Spells (slice_range text first.start first.end) first.lexeme × StandFrom text first.end tokens
+
+-- What was found is these, unless memory ran out.
+abbrev pub IsFoundUnlessMemory : Result (Vec Token Global) LexErr → List Lexeme → Type 0
+IsFoundUnlessMemory (Ok tokens) lexemes = lexemes_of tokens.items ≡ lexemes
+IsFoundUnlessMemory (Err OutOfMemory) lexemes = Unit {0}
+IsFoundUnlessMemory (Err (BadByte place)) lexemes = ⊥
+IsFoundUnlessMemory (Err (BadLiteral place)) lexemes = ⊥
+IsFoundUnlessMemory (Err (Unclosed place)) lexemes = ⊥
+IsFoundUnlessMemory (Err (BadDirective place)) lexemes = ⊥
+IsFoundUnlessMemory (Err (NameTooLong place)) lexemes = ⊥

@@ -1,6 +1,15 @@
 //! Tokens of a source text (C17 6.4).
 #![tactic(auto)]
 
+mod characters;
+mod classes;
+mod lexer;
+mod numbers;
+mod pieces;
+#[cfg(test)]
+mod tests;
 mod token;
+mod words;
 
+pub use lexer::tokens;
 pub use token::{LexErr, Lexeme, Token};

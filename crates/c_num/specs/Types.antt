@@ -76,16 +76,16 @@ unsigned_of ULong = ULong
 -- last of them never comes.
 abbrev pub common_of_signs : IntType → IntType → IntType
 common_of_signs signed unsigned =
-  if nat_le (rank_of signed) (rank_of unsigned) then unsigned
-  else if int_le (greatest_of unsigned) (greatest_of signed) then signed
-  else unsigned_of signed
+    if nat_le (rank_of signed) (rank_of unsigned) then unsigned
+    else if int_le (greatest_of unsigned) (greatest_of signed) then signed
+    else unsigned_of signed
 
 -- the common type of two promoted types (C17 6.3.1.8 paragraph 1)
 abbrev pub common_of_promoted : IntType → IntType → IntType
 common_of_promoted a b =
-  if beq (is_signed a) (is_signed b) then if nat_lt (rank_of a) (rank_of b) then b else a
-  else if is_signed a then common_of_signs a b
-  else common_of_signs b a
+    if beq (is_signed a) (is_signed b) then if nat_lt (rank_of a) (rank_of b) then b else a
+    else if is_signed a then common_of_signs a b
+    else common_of_signs b a
 
 -- the usual arithmetic conversions
 abbrev pub common_of : IntType → IntType → IntType

@@ -1,6 +1,10 @@
 // Why tokens are no program.
 
+ghost use Rattle.std.specs.Prelude.{◌≡◌};
+ghost use Rattle.c_reader.specs.declared.syntax_err.SyntaxErr.TheVariants.{OutOfMemory};
+
 use run_theory::Pos;
+use std::alloc::AllocFailed;
 use thiserror::Error;
 
 /// Why tokens are no program.
@@ -14,4 +18,12 @@ pub enum SyntaxErr {
     TooDeep(Pos),
     #[error("out of memory")]
     OutOfMemory,
+}
+
+impl<T: Drop> From<AllocFailed<T>> for SyntaxErr {
+    ghost from_gives = { λ _ e. e ≡ OutOfMemory };
+
+    fn from(_failed: AllocFailed<T>) -> SyntaxErr {
+        SyntaxErr::OutOfMemory
+    }
 }

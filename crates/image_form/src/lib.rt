@@ -2,5 +2,9 @@
 #![tactic(auto)]
 
 mod image;
+mod reading;
+mod writing;
 
 pub use image::{Function, Globals, Image, ImageErr, MachineLimits, PoolKind};
+pub use reading::from_bytes;
+pub use writing::to_bytes;

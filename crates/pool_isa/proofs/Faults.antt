@@ -2,7 +2,13 @@
 use Rattle.std.proofs.Common.{◌≡◌, ℕ, suc, ◌+◌, ◌-◌, ◌≤◌, List, [], ◌∷◌, ◌++◌, length, get_or, take, drop, refl, sym, ap, subst, ◌∙◌, append_assoc, add-one, arith, inl, inr, Result, Ok}
 use Rattle.std.proofs.lemmas.Bool.{cases_lt}
 use Rattle.std.proofs.lemmas.List.{append-nil, length-append, length-take, length-drop, take-append-drop, take-append-le, take-take, take_at, take_rest, drop_at, drop-drop}
-use Rattle.pool_isa.specs.Spelling.{StandsAt, Begins, IsCutShort, IsFault, IsFaultAt, IsPrefixFree}
+use Rattle.pool_isa.specs.Spelling.{StandsAt, Begins, IsCutShort, IsFault, IsFaultAt}
+
+-- no spelling begins another
+abbrev pub IsPrefixFree : (List ℕ → Type 0) → Type 0
+IsPrefixFree IsSpelling = (a b x y : List ℕ) → IsSpelling a → IsSpelling b → a ++ x ≡ b ++ y → a ≡ b
+
+-- ---- one fault
 
 pub fault_at_end : (S : List ℕ → Type 0) → IsCutShort S [] → IsFault S [] 0
 fault_at_end S cut = record { within = omega arith; begun = cut; wrong = λ lt b. absurd (omega (arith, lt)) }

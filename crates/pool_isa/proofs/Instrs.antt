@@ -17,11 +17,12 @@ use Rattle.pool_isa.specs.declared.head.Head.{Head}
 use Rattle.pool_isa.specs.declared.head.Head.TheVariants.{Alone, Numbered, Typed}
 use Rattle.pool_isa.specs.declared.code.Operand.{Operand}
 use Rattle.pool_isa.specs.declared.code.Operand.TheVariants as operands
-use Rattle.pool_isa.specs.Spelling.{IsCutShort, IsFault, IsPrefixFree}
-use Rattle.pool_isa.specs.Code.{type_code}
+use Rattle.pool_isa.specs.Spelling.{IsCutShort, IsFault}
+use Rattle.pool_isa.specs.Code.{type_code, IsTypeSpelling}
 use Rattle.pool_isa.specs.Number.{number_bytes, IsNumberSpelling}
-use Rattle.pool_isa.specs.Instr.{code_of, operand_of, operand_bytes, spelling, FitsOperand, IsInstrSpelling, IsTypeSpelling, with_number, with_type, HasCode}
-use Rattle.pool_isa.proofs.Faults.{fault_at_end, fault_here, fault_behind}
+use Rattle.pool_isa.specs.Instr.{code_of, operand_of, operand_bytes, spelling, FitsOperand, IsInstrSpelling}
+use Rattle.pool_isa.specs.Head.{with_number, with_type, HasCode}
+use Rattle.pool_isa.proofs.Faults.{IsPrefixFree, fault_at_end, fault_here, fault_behind}
 use Rattle.pool_isa.proofs.Numbers.{same_number}
 
 -- ---- heads

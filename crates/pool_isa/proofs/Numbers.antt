@@ -4,8 +4,8 @@ use Rattle.std.proofs.lemmas.Bool.{cases_lt, ltb-false, le-ltb, lt-ltb}
 use Rattle.std.proofs.Math.Nat.{one-le-pow, pow-succ', pow-le-pow_right}
 use Rattle.std.proofs.lemmas.List.{append_cancel_left, length-take, take-append-le}
 use Rattle.std.specs.Prelude.{◌↔◌}
-use Rattle.pool_isa.specs.Spelling.{IsCutShort, IsFault, IsPrefixFree}
-use Rattle.pool_isa.proofs.Faults.{fault_at_end, fault_here, fault_behind}
+use Rattle.pool_isa.specs.Spelling.{IsCutShort, IsFault}
+use Rattle.pool_isa.proofs.Faults.{IsPrefixFree, fault_at_end, fault_here, fault_behind}
 use Rattle.pool_isa.specs.Number.{number_digits, number_bytes, IsNumber, IsNumberSpelling, IsHighSpelling}
 
 -- more depth than the number gives the same bytes
@@ -33,6 +33,14 @@ unfolding number_bytes
 number_bytes-large zero le = absurd (omega (arith, le))
 number_bytes-large (suc m) le =
     rw (le-ltb (suc m) 128 le) (ap (λ (bs : List ℕ). (128 + suc m % 128) ∷ bs) (digits_enough m (suc m / 128) (nat_lt (suc m / 128) 128) (suc m / 128) refl (omega arith) (omega arith)))
+
+-- a number has a byte
+pub some_byte : (n : ℕ) → 0 < length (number_bytes n)
+some_byte n =
+    elim (cases_lt n 128) [
+      | inl small ↦ rw (number_bytes-small n small) (omega arith)
+      | inr large ↦ rw (number_bytes-large n large) (omega arith)
+    ]
 
 -- the low seven bits before the rest
 pub number_bytes-more : (b high : ℕ) → 128 ≤ b → b < 256 → 0 < high → number_bytes (b - 128 + 128 * high) ≡ b ∷ number_bytes high

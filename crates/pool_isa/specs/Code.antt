@@ -1,5 +1,5 @@
 -- The codes of types, widths and operators.
-use Rattle.std.specs.Prelude.{ℕ}
+use Rattle.std.specs.Prelude.{◌≡◌, ℕ, List, [], ◌∷◌}
 use Rattle.c_num.specs.declared.IntType.{IntType}
 use Rattle.c_num.specs.declared.IntType.TheVariants.{Char, UChar, Short, UShort, Int, UInt, Long, ULong}
 use Rattle.c_num.specs.declared.BinOp.{BinOp}
@@ -18,6 +18,10 @@ type_code Int = 4
 type_code UInt = 5
 type_code Long = 6
 type_code ULong = 7
+
+-- the byte of a type
+abbrev pub IsTypeSpelling : List ℕ → Type 0
+IsTypeSpelling bytes = (t : IntType) × (bytes ≡ type_code t ∷ [])
 
 abbrev pub width_code : Width → ℕ
 width_code One = 0

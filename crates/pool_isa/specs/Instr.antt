@@ -1,19 +1,13 @@
 -- The spelling of an instruction: a byte that is its code, and then its operand, a number or the byte of a type.
 use Rattle.std.specs.Prelude.{◌≡◌, ℕ, ◌+◌, ◌^◌, ◌<◌, List, [], ◌∷◌}
-use Rattle.c_num.specs.declared.IntType.{IntType}
 use Rattle.pool_isa.specs.declared.instr.Instr.{Instr}
 use Rattle.pool_isa.specs.declared.instr.Instr.TheVariants.{Constant, Discard, Duplicate, Swap, Local, Load, Store, LoadLink, StoreLink, Jump, JumpIfZero, JumpIfNotZero, Call, CallIndirect, Return, ReturnValue, Exit, Trap, Binary, Negate, Complement, Compare, Convert, PoolInit, PoolDestroy, PoolAlloc, PoolFree, GetChar, PutChar}
-use Rattle.pool_isa.specs.declared.head.NumberForm.{NumberForm}
-use Rattle.pool_isa.specs.declared.head.NumberForm.TheVariants as numbers
-use Rattle.pool_isa.specs.declared.head.TypeForm.{TypeForm}
-use Rattle.pool_isa.specs.declared.head.TypeForm.TheVariants as types
-use Rattle.pool_isa.specs.declared.head.Head.{Head}
-use Rattle.pool_isa.specs.declared.head.Head.TheVariants as heads
 use Rattle.pool_isa.specs.declared.code.Operand.{Operand}
 use Rattle.pool_isa.specs.declared.code.Operand.TheVariants.{Nothing, Number, Typed}
 use Rattle.pool_isa.specs.Code.{type_code, width_code, operator_code, comparison_code}
 use Rattle.pool_isa.specs.Number.{number_bytes}
 
+-- the byte that an instruction begins with
 abbrev pub code_of : Instr → ℕ
 code_of (Constant n) = 0x01
 code_of Discard = 0x02
@@ -82,32 +76,3 @@ Fits instr = FitsOperand (operand_of instr)
 
 abbrev pub IsInstrSpelling : List ℕ → Type 0
 IsInstrSpelling bytes = (instr : Instr) × Fits instr × (bytes ≡ spelling instr)
-
--- the instruction of a form with its number
-abbrev pub with_number : NumberForm → ℕ → Instr
-with_number numbers.Constant n = Constant n
-with_number numbers.Local n = Local n
-with_number numbers.Jump n = Jump n
-with_number numbers.JumpIfZero n = JumpIfZero n
-with_number numbers.JumpIfNotZero n = JumpIfNotZero n
-with_number numbers.Call n = Call n
-with_number numbers.CallIndirect n = CallIndirect n
-with_number numbers.PoolInit n = PoolInit n
-
--- the instruction of a form with its type
-abbrev pub with_type : TypeForm → IntType → Instr
-with_type (types.Binary op) t = Binary op t
-with_type types.Negate t = Negate t
-with_type types.Complement t = Complement t
-with_type (types.Compare c) t = Compare c t
-with_type types.Convert t = Convert t
-
--- every instruction that a head leads to has this code
-abbrev pub HasCode : Head → ℕ → Type 0
-HasCode (heads.Alone instr) code = (code_of instr ≡ code) × (operand_of instr ≡ Nothing)
-HasCode (heads.Numbered form) code = (n : ℕ) → code_of (with_number form n) ≡ code
-HasCode (heads.Typed form) code = (t : IntType) → code_of (with_type form t) ≡ code
-
--- the byte of a type
-abbrev pub IsTypeSpelling : List ℕ → Type 0
-IsTypeSpelling bytes = (t : IntType) × (bytes ≡ type_code t ∷ [])

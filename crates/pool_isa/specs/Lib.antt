@@ -2,4 +2,6 @@ pub mod Spelling
 pub mod Number
 pub mod Code
 pub mod Instr
+pub mod Head
 pub mod Machine
+pub mod Ranges

@@ -26,7 +26,3 @@ pub record IsFault (IsSpelling : List ℕ → Type 0) (bytes : List ℕ) (good :
 pub record IsFaultAt (IsSpelling : List ℕ → Type 0) (bytes : List ℕ) (at place : ℕ) : Type 0 where
   pub from : at ≤ place
   pub fault : IsFault IsSpelling (drop at bytes) (place - at)
-
--- no spelling is a beginning of another
-abbrev pub IsPrefixFree : (List ℕ → Type 0) → Type 0
-IsPrefixFree IsSpelling = (a b x y : List ℕ) → IsSpelling a → IsSpelling b → a ++ x ≡ b ++ y → a ≡ b

@@ -7,7 +7,8 @@ ghost use Rattle.pool_isa.specs.declared.instr.Comparison.{Comparison as ACompar
 ghost use Rattle.pool_isa.specs.declared.instr.Instr.{Instr as AnInstr};
 ghost use Rattle.pool_isa.specs.declared.instr.Width.{Width as AWidth};
 ghost use Rattle.pool_isa.specs.Code.{type_code, width_code, operator_code, comparison_code};
-ghost use Rattle.pool_isa.specs.Instr.{code_of, with_number, with_type, HasCode};
+ghost use Rattle.pool_isa.specs.Instr.{code_of};
+ghost use Rattle.pool_isa.specs.Head.{with_number, with_type, HasCode};
 
 use crate::instr::{Comparison, Instr, Width};
 use c_num::{BinOp, IntType};

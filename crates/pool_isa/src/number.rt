@@ -38,8 +38,8 @@ pub fn append_number(code: &mut Vec<u8>, number: u64) -> Result<(), AllocError>
     pushed
 }
 
-// The number at the front, which isn't 0 and has at most so many bytes and one, with what follows it;
-// otherwise how many bytes are good.
+// The high part of a number, which isn't 0 and has at most `more + 1` bytes. Gives it with what follows it, or how
+// many bytes are good.
 fn high_digits(bytes: &[u8], more: u32) -> Result<(u64, &[u8]), usize>
     requires { more ≤ 8 }
     ensures parts { IfOk result (λ r. bytes.now ≡ number_bytes r.0 ++ r.1.now) }
@@ -66,7 +66,7 @@ fn high_digits(bytes: &[u8], more: u32) -> Result<(u64, &[u8]), usize>
     }
 }
 
-// The number at the front, with what follows it; otherwise how many bytes are good.
+// Gives the number at the front with what follows it, or how many bytes are good. It has at most ten bytes.
 pub(crate) fn number_front(bytes: &[u8]) -> Result<(u64, &[u8]), usize>
     ensures parts { IfOk result (λ r. bytes.now ≡ number_bytes r.0 ++ r.1.now) }
     ensures bound { IfOk result (λ r. r.0 < 2 ^ 64) }
@@ -91,8 +91,10 @@ pub fn decode_number(bytes: &[u8], at: usize) -> Result<(u64, usize), BadNumber>
     // What is found stands there.
     ensures found { IfOk result (λ r. StandsAt bytes.now at r.1 (number_bytes r.0)) }
     ensures bound { IfOk result (λ r. r.0 < 2 ^ 64) }
+    ensures later { IfOk result (λ r. at < r.1) }
     // What stands there is found.
-    ensures only { (n : ℕ) (rest : List ℕ) → n < 2 ^ 64 → drop at bytes.now ≡ number_bytes n ++ rest → result ≡ Ok (n, at + length (number_bytes n)) }
+    ensures only { (n : ℕ) (rest : List ℕ) → n < 2 ^ 64 → drop at bytes.now ≡ number_bytes n ++ rest
+        → result ≡ Ok (n, at + length (number_bytes n)) }
     // The place is that of the first byte with which no number begins, or the end.
     ensures fault { IfErr result (λ bad. IsFaultAt IsNumberSpelling bytes.now at bad.0) }
 {

@@ -1,9 +1,9 @@
 // Instructions from bytes.
 
-ghost use Rattle.std.specs.Prelude.{◌≡◌, ℕ, ◌+◌, ◌≤◌, List, ◌∷◌, ◌++◌, length, drop, Ok, IfOk, IfErr};
+ghost use Rattle.std.specs.Prelude.{◌≡◌, ℕ, ◌+◌, ◌<◌, ◌≤◌, List, ◌∷◌, ◌++◌, length, drop, Ok, IfOk, IfErr};
 ghost use Rattle.pool_isa.specs.Spelling.{StandsAt, IsFault, IsFaultAt};
-ghost use Rattle.pool_isa.specs.Code.{type_code};
-ghost use Rattle.pool_isa.specs.Instr.{spelling, Fits, IsInstrSpelling, IsTypeSpelling};
+ghost use Rattle.pool_isa.specs.Code.{type_code, IsTypeSpelling};
+ghost use Rattle.pool_isa.specs.Instr.{spelling, Fits, IsInstrSpelling};
 ghost use Rattle.pool_isa.specs.declared.instr.Instr.{Instr as AnInstr};
 
 use crate::head::{Head, head_of, type_of};
@@ -17,7 +17,7 @@ use thiserror::Error;
 #[error("no instruction: the byte at {0} is wrong or missing")]
 pub struct BadInstr(pub usize);
 
-// The type at the front, with what follows it; otherwise how many bytes are good.
+// Gives the type at the front with what follows it, or how many bytes are good.
 fn type_front(bytes: &[u8]) -> Result<(IntType, &[u8]), usize>
     ensures parts { IfOk result (λ r. bytes.now ≡ type_code r.0 ∷ r.1.now) }
     ensures fault { IfErr result (λ good. IsFault IsTypeSpelling bytes.now good) }
@@ -31,7 +31,7 @@ fn type_front(bytes: &[u8]) -> Result<(IntType, &[u8]), usize>
     }
 }
 
-// The instruction at the front, with what follows it; otherwise how many bytes are good.
+// Gives the instruction at the front with what follows it, or how many bytes are good.
 fn instr_front(bytes: &[u8]) -> Result<(Instr, &[u8]), usize>
     ensures parts { IfOk result (λ r. bytes.now ≡ spelling r.0 ++ r.1.now) }
     ensures fits { IfOk result (λ r. Fits r.0) }
@@ -60,8 +60,10 @@ pub fn decode_one(bytes: &[u8], at: usize) -> Result<(Instr, usize), BadInstr>
     // What is found stands there.
     ensures found { IfOk result (λ r. StandsAt bytes.now at r.1 (spelling r.0)) }
     ensures fits { IfOk result (λ r. Fits r.0) }
+    ensures later { IfOk result (λ r. at < r.1) }
     // What stands there is found.
-    ensures only { (i : AnInstr) (rest : List ℕ) → Fits i → drop at bytes.now ≡ spelling i ++ rest → result ≡ Ok (i, at + length (spelling i)) }
+    ensures only { (i : AnInstr) (rest : List ℕ) → Fits i → drop at bytes.now ≡ spelling i ++ rest
+        → result ≡ Ok (i, at + length (spelling i)) }
     // The place is that of the first byte with which no instruction begins, or the end.
     ensures fault { IfErr result (λ bad. IsFaultAt IsInstrSpelling bytes.now at bad.0) }
 {

@@ -12,10 +12,10 @@ use Rattle.image_form.specs.Form.{Form, IsImage, ImageOf}
 use Rattle.machine.specs.declared.RunEnd.{RunEnd}
 use Rattle.machine.specs.declared.RunEnd.TheVariants as E
 use Rattle.machine.specs.Running.{RunGives}
-use Rattle.poolcc.specs.declared.status.Status.{Status}
-use Rattle.poolcc.specs.declared.status.Status.TheVariants as S
-use Rattle.poolcc.specs.declared.status.Refusal.{Refusal}
-use Rattle.poolcc.specs.declared.status.Refusal.TheVariants as R
+use Rattle.pcc_status.specs.declared.status.Status.{Status}
+use Rattle.pcc_status.specs.declared.status.Status.TheVariants as S
+use Rattle.pcc_status.specs.declared.status.Refusal.{Refusal}
+use Rattle.pcc_status.specs.declared.status.Refusal.TheVariants as R
 
 -- The run of an image on an input, within limits: no instruction that is there takes memory of the heap, so that no
 -- limit is reached yet.

@@ -1,1 +1,5 @@
 pub mod Emission
+pub mod Fits
+pub mod Laws
+pub mod Places
+pub mod Units

@@ -1,6 +1,6 @@
 -- When three-address code is the code of a program: a relation by recursion on the tree, in the manner of the
 -- specification of RTL generation in CompCert (Leroy, CACM 2009). An empty statement and parentheses have no point.
-use Rattle.std.specs.Prelude.{◌≡◌, ℕ, ◌<◌, ℤ, pos, negsuc, List, [], ◌∷◌, Some, slice_get}
+use Rattle.std.specs.Prelude.{◌≡◌, ℕ, ◌<◌, pos, negsuc, List, [], ◌∷◌, Some, slice_get}
 use Rattle.c_ast.specs.Trees.{ExprTree, Decimal, Character, EndOfFile, GetChar, PutChar, Parenthesized, StmtTree, Empty, Expression, Return, ProgramTree}
 use Rattle.c_ast.specs.Values.{char_of}
 use Rattle.tac_ir.specs.declared.Op.{Op}

@@ -19,7 +19,7 @@ pub enum Op {
     /// Writes a value to a register.
     Constant {
         to: Register,
-        value: i32,
+        value: i64,
         next: PointId,
     },
     /// Writes what `getchar` gives to a register.

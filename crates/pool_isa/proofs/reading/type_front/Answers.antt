@@ -1,7 +1,7 @@
 use Rattle.std.proofs.Common.{◌-◌, ℕ, List, length, get_or, take, drop, refl, sym, subst, arith}
 use Rattle.std.proofs.lemmas.List.{nil_from_length}
 use Rattle.pool_isa.specs.Spelling.{IsFault}
-use Rattle.pool_isa.specs.Instr.{IsTypeSpelling}
+use Rattle.pool_isa.specs.Code.{IsTypeSpelling}
 use Rattle.pool_isa.proofs.Faults.{first_and_rest}
 use Rattle.pool_isa.proofs.Instrs.{type_at_end, type_unknown}
 use Rattle.pool_isa.proofs.reading.type_front.Goals as goal

@@ -1,7 +1,7 @@
 // What the program answers.
 
 ghost use Rattle.std.specs.Prelude.{◌≡◌};
-ghost use Rattle.poolcc.specs.Status.{exit_status_of};
+ghost use Rattle.pcc_status.specs.Status.{exit_status_of};
 
 use run_theory::{Pos, TrapKind, UbKind};
 

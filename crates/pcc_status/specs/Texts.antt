@@ -3,18 +3,18 @@ use Rattle.std.specs.Prelude.{ℕ, List, [], ◌∷◌, ◌++◌, codes, decimal
 use Rattle.run_theory.specs.declared.ends.Pos.{Pos}
 use Rattle.run_theory.specs.Places.{place_text}
 use Rattle.run_theory.specs.Names.{undefined_name, trap_name}
-use Rattle.poolcc.specs.declared.status.Status.{Status}
-use Rattle.poolcc.specs.declared.status.Status.TheVariants as S
-use Rattle.poolcc.specs.declared.status.Refusal.{Refusal}
-use Rattle.poolcc.specs.declared.status.Refusal.TheVariants as R
-use Rattle.poolcc.specs.declared.status.LexKind.{LexKind}
-use Rattle.poolcc.specs.declared.status.LexKind.TheVariants.{BadByte, BadLiteral, Unclosed, BadDirective, NameTooLong}
-use Rattle.poolcc.specs.declared.status.SyntaxKind.{SyntaxKind}
-use Rattle.poolcc.specs.declared.status.SyntaxKind.TheVariants.{At, TooDeep}
-use Rattle.poolcc.specs.declared.status.TypeRule.{TypeRule}
-use Rattle.poolcc.specs.declared.status.TypeRule.TheVariants.{T01, T02, T03, T04, T05, T06, T07, T08, T09, T10, T11, T12, T13, T14, T15, T16, T17, T18, T19, T20, T21, T22, T23, T24}
-use Rattle.poolcc.specs.declared.status.LimitKind.{LimitKind}
-use Rattle.poolcc.specs.declared.status.LimitKind.TheVariants.{L1, L2, L3, L4, L5, L6}
+use Rattle.pcc_status.specs.declared.status.Status.{Status}
+use Rattle.pcc_status.specs.declared.status.Status.TheVariants as S
+use Rattle.pcc_status.specs.declared.status.Refusal.{Refusal}
+use Rattle.pcc_status.specs.declared.status.Refusal.TheVariants as R
+use Rattle.pcc_status.specs.declared.status.LexKind.{LexKind}
+use Rattle.pcc_status.specs.declared.status.LexKind.TheVariants.{BadByte, BadLiteral, Unclosed, BadDirective, NameTooLong}
+use Rattle.pcc_status.specs.declared.status.SyntaxKind.{SyntaxKind}
+use Rattle.pcc_status.specs.declared.status.SyntaxKind.TheVariants.{At, TooDeep}
+use Rattle.pcc_status.specs.declared.status.TypeRule.{TypeRule}
+use Rattle.pcc_status.specs.declared.status.TypeRule.TheVariants.{T01, T02, T03, T04, T05, T06, T07, T08, T09, T10, T11, T12, T13, T14, T15, T16, T17, T18, T19, T20, T21, T22, T23, T24}
+use Rattle.pcc_status.specs.declared.status.LimitKind.{LimitKind}
+use Rattle.pcc_status.specs.declared.status.LimitKind.TheVariants.{L1, L2, L3, L4, L5, L6}
 
 abbrev pub lex_name : LexKind → List ℕ
 lex_name BadByte = codes "BadByte"

@@ -1,7 +1,7 @@
 -- The exit status of the program for each answer.
 use Rattle.std.specs.Prelude.{ℕ}
-use Rattle.poolcc.specs.declared.status.Status.{Status}
-use Rattle.poolcc.specs.declared.status.Status.TheVariants as S
+use Rattle.pcc_status.specs.declared.status.Status.{Status}
+use Rattle.pcc_status.specs.declared.status.Status.TheVariants as S
 
 abbrev pub exit_status_of : Status → ℕ
 exit_status_of (S.Program status) = status

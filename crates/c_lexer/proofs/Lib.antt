@@ -1,0 +1,5 @@
+pub mod Dividing
+pub mod Longest
+pub mod Quoted
+pub mod Values
+pub mod Spans

@@ -1,0 +1,17 @@
+use Rattle.std.proofs.Common.{◌+◌, ◌-◌, ◌*◌, get_or, drop, sym, ◌∙◌, arith}
+use Rattle.c_lexer.proofs.Values.{decimal_token, decimal_more, decimal_done, large_decimal}
+use Rattle.c_lexer.proofs.numbers.decimal.Goals as goal
+
+pub returns-then-value-gt-INT_MAX : goal.returns-then-value-gt-INT_MAX
+returns-then-value-gt-INT_MAX c =
+    let number = c.args.number.now in
+    let i = c.loop-digit.digit-index in
+    let value = c.loop-digit.value in
+    decimal_token number c.requires c.else-number-eq48.either ∙ c.loop-digit.invariant.from
+    ∙ decimal_more number i value c.loop-digit-test.true (sym c.is_digit.ensures ∙ c.if-not-is_digit.false)
+    ∙ large_decimal (10 * value + (get_or number i 0 - 48)) (drop (i + 1) number) (omega arith)
+
+pub returns : goal.returns
+returns c =
+    decimal_token c.args.number.now c.requires c.else-number-eq48.either ∙ c.loop-digit.invariant.from
+    ∙ decimal_done _ _ _ c.loop-digit-test.false c.loop-digit.invariant.small

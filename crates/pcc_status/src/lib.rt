@@ -1,0 +1,6 @@
+//! What a command comes to, and what is said of it: the program's answers, their exit statuses and their lines.
+#![tactic(auto)]
+
+mod status;
+
+pub use status::{FuncId, LexKind, LimitKind, Refusal, Status, SyntaxKind, TypeRule, UsageKind};

@@ -1,0 +1,24 @@
+-- Three-address code that the machine can hold: what it names is there, and its registers fit in a frame.
+use Rattle.std.specs.Prelude.{ℕ, ◌^◌, ◌<◌, ◌≤◌, length}
+use Rattle.std.specs.List.{AllByRecursion}
+use Rattle.tac_ir.specs.declared.Op.{Op}
+use Rattle.tac_ir.specs.declared.Op.TheVariants as O
+use Rattle.tac_ir.specs.declared.Func.{Func}
+use Rattle.tac_ir.specs.declared.Tac.{Tac}
+
+-- the registers of the operation, and the point that follows, are among so many
+abbrev pub NamesBelow : ℕ → ℕ → Op → Type 0
+NamesBelow registers points (O.Constant to value next) = (to.0 < registers) × (next.0 < points)
+NamesBelow registers points (O.GetChar to next) = (to.0 < registers) × (next.0 < points)
+NamesBelow registers points (O.PutChar from to next) = (from.0 < registers) × (to.0 < registers) × (next.0 < points)
+NamesBelow registers points (O.Return from) = from.0 < registers
+
+-- A frame has at most 2 ^ 26 bytes, 8 for each register, and a function fewer than 2 ^ 32 instructions.
+pub record FitsFunction (function : Func) : Type 0 where
+  pub entry : function.entry.0 < length function.points.items
+  pub operations : AllByRecursion (NamesBelow function.registers (length function.points.items)) function.points.items
+  pub registers : function.registers ≤ 8388608
+  pub points : length function.points.items ≤ 2 ^ 28
+
+abbrev pub FitsFrame : Tac → Type 0
+FitsFrame tac = FitsFunction tac.main
