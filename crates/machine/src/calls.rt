@@ -11,7 +11,7 @@ use crate::activation::Activation;
 use crate::ends::{RunEnd, Step};
 use crate::memory::{read_from, write_to};
 use crate::outside::write_byte;
-use crate::words::{bytes_in, size_of, word};
+use crate::words::{bytes_in, loaded_word, size_of};
 use c_num::IntType;
 use image_form::Function;
 use pcc_outside::{Sink, Source};
@@ -144,7 +144,7 @@ impl Calls {
         let Some(number) = self.read(address, size_of(int_type)) else {
             return Step::trap(TrapKind::BadAccess);
         };
-        self.innermost.replace(word(number, int_type));
+        self.innermost.replace(loaded_word(number, int_type));
         Step::On
     }
 

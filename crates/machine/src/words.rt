@@ -1,7 +1,7 @@
-// Words of memory: the sizes of types, and the words that their values have.
+// Words of memory: the sizes of types, and the words of loaded values.
 
-ghost use Rattle.std.specs.Prelude.{◌≡◌, ◌/◌, ◌%◌, ◌^◌, ◌<◌, ◌≤◌, nat_le, if◌then◌else◌, pos, ◌-ℤ◌};
-ghost use Rattle.c_num.specs.Conversion.{modulo, word_of};
+ghost use Rattle.std.specs.Prelude.{◌≡◌, ◌≤◌, pos};
+ghost use Rattle.c_num.specs.Conversion.{word_of};
 ghost use Rattle.pool_isa.specs.Machine.{size_of, bytes_in};
 
 use c_num::IntType;
@@ -36,29 +36,12 @@ pub(crate) fn bytes_in(width: Width) -> usize
 
 /// The word of the value of type `int_type` whose bits are the lowest ones of a number.
 #[tactic(auto, using(crate::proofs::Values::wide_word), unfolding(c_num::specs::Conversion::word_of, c_num::specs::Conversion::convert_to))]
-pub(crate) fn word(number: u64, int_type: IntType) -> u64
+pub(crate) fn loaded_word(number: u64, int_type: IntType) -> u64
     ensures { result ≡ word_of int_type (pos number) }
 {
     match int_type {
-        IntType::Char => extended(number % 0x100, 0x100),
-        IntType::UChar => number % 0x100,
-        IntType::Short => extended(number % 0x1_0000, 0x1_0000),
-        IntType::UShort => number % 0x1_0000,
-        IntType::Int => extended(number % 0x1_0000_0000, 0x1_0000_0000),
-        IntType::UInt => number % 0x1_0000_0000,
+        // A word is the bits of its value.
         IntType::Long | IntType::ULong => number,
-    }
-}
-
-/// The bits of a signed type of `modulus` values, with the sign in all higher bits.
-fn extended(bits: u64, modulus: u64) -> u64
-    requires below { bits < modulus }
-    requires even { modulus % 2 ≡ 0 }
-    ensures { result ≡ modulo (if nat_le (modulus / 2) bits then pos bits -ℤ pos modulus else pos bits) (2 ^ 64) }
-{
-    if bits < modulus / 2 {
-        bits
-    } else {
-        u64::MAX - (modulus - 1 - bits)
+        _ => c_num::word(i128::from(number), int_type),
     }
 }
