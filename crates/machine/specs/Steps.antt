@@ -1,0 +1,100 @@
+-- What one step of the machine does, and what holds of the activations throughout.
+use Rattle.std.specs.Prelude.{◌≡◌, ℕ, ◌+◌, ◌*◌, ◌^◌, ◌≤◌, List, [], ◌∷◌, ◌++◌, length, Option, Some}
+use Rattle.run_theory.specs.Runs as runs
+use Rattle.run_theory.specs.Runs.{Trace, output_of, Move, To, Halt, Final}
+use Rattle.pool_isa.specs.declared.instr.Instr.{Instr}
+use Rattle.pool_isa.specs.declared.instr.Instr.TheVariants as instrs
+use Rattle.pool_isa.specs.Machine.{Function, Activation, State, advanced, input_word, after_next, next_start, perform}
+use Rattle.machine.specs.declared.ends.RunEnd.{RunEnd}
+use Rattle.machine.specs.declared.ends.RunEnd.TheVariants as ends
+use Rattle.machine.specs.declared.ends.Step.{Step}
+use Rattle.machine.specs.declared.ends.Step.TheVariants.{On, Over}
+
+-- the state of these activations, with this input left and this trace
+abbrev pub standing : List Activation → List ℕ → Trace → State
+standing activations input trace = record { activations = activations; input = input; trace = trace }
+
+-- the left input and the written bytes, where a source and a sink tell them, are those of the state
+abbrev pub IsLeftAt : List ℕ → State → Option (List ℕ) → Option (List ℕ) → Type 0
+IsLeftAt base state left written = (left ≡ Some state.input) × (written ≡ Some (base ++ output_of state.trace))
+
+-- The move that the machine's meaning makes from a state is the one that a step made, which touched neither input nor
+-- output and left these activations.
+abbrev pub Leads : Move State → State → Step → List Activation → Type 0
+Leads move old On new = move ≡ To (record old { activations = new })
+Leads move old (Over (ends.Ended status)) new = move ≡ Halt (runs.Ended status) old
+Leads move old (Over ends.Depth) new = move ≡ Halt runs.DepthReached old
+Leads move old (Over ends.HeapExhausted) new = move ≡ Halt runs.HeapExhausted old
+Leads move old (Over ends.IndexExhausted) new = move ≡ Halt runs.IndexExhausted old
+Leads move old (Over (ends.Trapped kind)) new = move ≡ Halt (runs.Trapped kind) old
+Leads move old (Over ends.OutOfMemory) new = new ≡ old.activations
+Leads move old (Over ends.StepsSpent) new = ⊥
+Leads move old (Over ends.ReadFault) new = ⊥
+Leads move old (Over ends.WriteFault) new = ⊥
+
+-- the activations of a machine: there is always an innermost one
+pub record CallStack : Type 0 where
+  pub innermost : Activation
+  pub callers : List Activation
+
+abbrev pub activations_of : CallStack → List Activation
+activations_of calls = calls.innermost ∷ calls.callers
+
+-- an instruction that touches neither input nor output
+abbrev pub IsInside : Instr → Type 0
+IsInside instrs.GetChar = ⊥
+IsInside instrs.PutChar = ⊥
+IsInside _ = Unit {0}
+
+-- An instruction, which touches neither input nor output, was performed as the machine's meaning says.
+abbrev pub Performs : List Function → Function → Instr → CallStack → Step → CallStack → Type 0
+Performs functions function instr old result new =
+    (input : List ℕ) (trace : Trace) → Leads (perform (Some instr) functions function old.innermost old.callers (standing (activations_of old) input trace)) (standing (activations_of old) input trace) result (activations_of new)
+
+-- the machine halts there, with what is left and written
+pub record Halts (move : Move State) (final : Final) (base : List ℕ) (old : State) (left written : Option (List ℕ)) : Type 0 where
+  pub halts : move ≡ Halt final old
+  pub left_at : IsLeftAt base old left written
+
+-- the step could not be made, and nothing has changed
+pub record IsUndone (base : List ℕ) (old : State) (new : List Activation) (left written : Option (List ℕ)) : Type 0 where
+  pub same : new ≡ old.activations
+  pub left_at : IsLeftAt base old left written
+
+-- the machine goes on there
+pub record GoesOn (move : Move State) (base : List ℕ) (new : List Activation) (left written : Option (List ℕ)) : Type 0 where
+  pub next : State
+  pub goes : move ≡ To next
+  pub same : next.activations ≡ new
+  pub left_at : IsLeftAt base next left written
+
+-- The move from a state is the one that a step made, with what is left of the input and what is written after it.
+abbrev pub Gives : Move State → List ℕ → State → Step → List Activation → Option (List ℕ) → Option (List ℕ) → Type 0
+Gives move base old On new left written = GoesOn move base new left written
+Gives move base old (Over (ends.Ended status)) new left written = Halts move (runs.Ended status) base old left written
+Gives move base old (Over ends.Depth) new left written = Halts move runs.DepthReached base old left written
+Gives move base old (Over ends.HeapExhausted) new left written = Halts move runs.HeapExhausted base old left written
+Gives move base old (Over ends.IndexExhausted) new left written = Halts move runs.IndexExhausted base old left written
+Gives move base old (Over (ends.Trapped kind)) new left written = Halts move (runs.Trapped kind) base old left written
+Gives move base old (Over ends.ReadFault) new left written = IsUndone base old new left written
+Gives move base old (Over ends.WriteFault) new left written = IsUndone base old new left written
+Gives move base old (Over ends.OutOfMemory) new left written = IsUndone base old new left written
+Gives move base old (Over ends.StepsSpent) new left written = ⊥
+
+-- An instruction was performed as the machine's meaning says: from what was left of the input and what was written
+-- before it, where they are told, to what is left and written after it.
+abbrev pub Does : List Function → Function → Instr → CallStack → Option (List ℕ) → Option (List ℕ) → Step → CallStack → Option (List ℕ) → Option (List ℕ) → Type 0
+Does functions function instr old left written result new left' written' =
+    (input base : List ℕ) (trace : Trace) → left ≡ Some input → written ≡ Some (base ++ output_of trace) → Gives (perform (Some instr) functions function old.innermost old.callers (standing (activations_of old) input trace)) base (standing (activations_of old) input trace) result (activations_of new) left' written'
+
+-- A step that reads has pushed the word of what was left, or it could not be made, and nothing has changed.
+abbrev pub PushesNext : Step → Activation → Option (List ℕ) → Activation → Option (List ℕ) → Type 0
+PushesNext On old left new left' = (input : List ℕ) → left ≡ Some input → (new ≡ advanced old (input_word input ∷ old.operands)) × (left' ≡ Some (after_next input))
+PushesNext (Over ends.ReadFault) old left new left' = (new ≡ old) × (left' ≡ left)
+PushesNext (Over ends.OutOfMemory) old left new left' = (new ≡ old) × (left' ≡ left)
+PushesNext (Over _) old left new left' = ⊥
+
+-- each frame ends where the depth allows: a function's parameters and extra bytes are below 2 ^ 36
+abbrev pub IsRoomy : List Activation → Type 0
+IsRoomy [] = Unit {0}
+IsRoomy (frame ∷ frames) = (next_start frame ≤ 2 ^ 40 + 2 ^ 36 * (length frames + 1)) × IsRoomy frames

@@ -1,0 +1,248 @@
+// A function that was called and has not returned: its place, its operands and its frame.
+
+ghost use Rattle.std.specs.Prelude.{◌≡◌, ◌≢◌, ℕ, ◌+◌, ◌*◌, ◌-◌, ◌/◌, ◌%◌, ◌^◌, ◌<◌, ◌≤◌, List, [], ◌∷◌, ◌++◌, length, take, drop, reverse, replicate, Some, None, IfOk, OnOk, OnErr, MatchOption, if◌then◌else◌};
+ghost use Rattle.std.specs.List.{flat_map};
+ghost use Rattle.std.specs.Option.{option_map};
+ghost use Rattle.byteorder.specs.Endian.{little_bytes, little_number};
+ghost use Rattle.pcc_outside.specs.Outside.{Rose};
+ghost use Rattle.pool_isa.specs.Machine.{advanced, covers, spliced, next_start};
+
+use crate::ends::{RunEnd, Step};
+use crate::outside::next_word;
+use byteorder::{ByteOrder, LittleEndian};
+use pcc_outside::Source;
+use std::alloc::{AllocError, Global};
+use std::marker::Model;
+
+/// A function that was called and has not returned.
+#[derive(Drop)]
+pub(crate) struct Activation {
+    /// The function's number.
+    function: usize,
+    /// The instruction that comes next.
+    place: usize,
+    /// The operands, the last one at the end.
+    operands: Vec<u64>,
+    /// The address of the frame.
+    start: u64,
+    /// The frame.
+    bytes: Vec<u8>,
+}
+
+impl Model for Activation {
+    ghost use Rattle.std.specs.Prelude.{reverse};
+    ghost use Rattle.pool_isa.specs.Machine as machine;
+
+    ghost Value = { machine.Activation };
+
+    ghost view = { λ a. record { function = a.function; place = a.place; operands = reverse a.operands.items; start = a.start; bytes = a.bytes.items } };
+}
+
+impl Activation {
+    ghost use Rattle.machine.specs.Steps.{PushesNext};
+
+    /// A function at its entry: the frame holds the parameters and `extra` zeros.
+    pub(crate) fn enter(alloc: Global, function: usize, start: u64, parameters: &[u64], extra: u32) -> Result<Activation, AllocError>
+        ensures { IfOk result (λ a. a ≡ record { function = function; place = 0; operands = []; start = start; bytes = flat_map (little_bytes 8) parameters.now ++ replicate extra 0 }) }
+    {
+        let mut bytes = Vec::new(alloc);
+        let mut word_bytes = [0u8; 8];
+        for word in parameters {
+            LittleEndian::write_u64(&mut word_bytes, *word);
+            bytes.extend_from_slice(&word_bytes)?;
+        }
+        bytes.resize(bytes.len() + extra as usize, 0)?;
+        Ok(Activation {
+            function,
+            place: 0,
+            operands: Vec::new(alloc),
+            start,
+            bytes,
+        })
+    }
+
+    /// The function's number.
+    pub(crate) fn function(&self) -> usize
+        ensures { result ≡ self.now.function }
+    {
+        self.function
+    }
+
+    /// The instruction that comes next.
+    pub(crate) fn place(&self) -> usize
+        ensures { result ≡ self.now.place }
+    {
+        self.place
+    }
+
+    /// How many operands there are.
+    pub(crate) fn height(&self) -> usize
+        ensures { result ≡ length self.now.operands }
+    {
+        self.operands.len()
+    }
+
+    /// The last operand.
+    pub(crate) fn last(&self) -> Option<u64>
+        ensures { MatchOption result (self.now.operands ≡ []) (λ word. self.now.operands ≡ word ∷ drop 1 self.now.operands) }
+    {
+        self.operands.last().copied()
+    }
+
+    /// The last two operands, in the order in which they were pushed.
+    pub(crate) fn last_two(&self) -> Option<(u64, u64)>
+        ensures { MatchOption result (length self.now.operands < 2) (λ two. self.now.operands ≡ two.1 ∷ two.0 ∷ drop 2 self.now.operands) }
+    {
+        match self.operands.as_slice() {
+            [.., first, last] => Some((*first, *last)),
+            _ => None,
+        }
+    }
+
+    /// Pushes an operand, and goes to the next instruction.
+    pub(crate) fn push(&mut self, word: u64) -> Result<(), AllocError>
+        requires { self.old.place + 1 < 2 ^ 64 }
+        ensures ok { OnOk result (self.new ≡ advanced self.old (word ∷ self.old.operands)) }
+        ensures err { OnErr result (self.new ≡ self.old) }
+    {
+        self.operands.push(word)?;
+        self.place += 1;
+        Ok(())
+    }
+
+    /// Pushes the word that `getchar` gives, and goes to the next instruction. There is room for it before a byte is read.
+    pub(crate) fn push_next<I: Source>(&mut self, input: &mut I) -> Step
+        requires { self.old.place + 1 < 2 ^ 64 }
+        ensures pushed { PushesNext result self.old (I.left input.old) self.new (I.left input.new) }
+        ensures frame { next_start self.new ≡ next_start self.old }
+        ensures fault { result ≡ Step.Over RunEnd.ReadFault → Rose (I.faults input.old) (I.faults input.new) }
+        ensures other { result ≢ Step.Over RunEnd.WriteFault }
+        ensures counted { I.faults input.old ≤ I.faults input.new }
+    {
+        if self.operands.reserve(1).is_err() {
+            return Step::Over(RunEnd::OutOfMemory);
+        }
+        match next_word(input) {
+            Ok(word) => {
+                self.operands.push(word).unwrap();
+                self.place += 1;
+                Step::On
+            }
+            Err(_) => Step::Over(RunEnd::ReadFault),
+        }
+    }
+
+    /// Puts an operand in the place of the last one, and goes to the next instruction.
+    pub(crate) fn replace(&mut self, word: u64)
+        requires next { self.old.place + 1 < 2 ^ 64 }
+        requires there { 0 < length self.old.operands }
+        ensures { self.new ≡ advanced self.old (word ∷ drop 1 self.old.operands) }
+    {
+        let last = self.operands.len() - 1;
+        self.operands[last] = word;
+        self.place += 1;
+    }
+
+    /// Drops the last operands, and goes to the next instruction.
+    pub(crate) fn discard(&mut self, count: usize)
+        requires next { self.old.place + 1 < 2 ^ 64 }
+        requires there { count ≤ length self.old.operands }
+        ensures { self.new ≡ advanced self.old (drop count self.old.operands) }
+    {
+        self.operands.truncate(self.operands.len() - count);
+        self.place += 1;
+    }
+
+    /// Goes to an instruction.
+    pub(crate) fn jump(&mut self, target: usize)
+        ensures { self.new ≡ record self.old { place = target } }
+    {
+        self.place = target;
+    }
+
+    /// Pushes what a call gave back.
+    pub(crate) fn give(&mut self, word: u64) -> Result<(), AllocError>
+        ensures ok { OnOk result (self.new ≡ record self.old { operands = word ∷ self.old.operands }) }
+        ensures err { OnErr result (self.new ≡ self.old) }
+    {
+        self.operands.push(word)?;
+        Ok(())
+    }
+
+    /// The last operands, as many as there are parameters, the first one deepest.
+    pub(crate) fn parameters(&self, count: usize) -> &[u64]
+        requires { count ≤ length self.now.operands }
+        ensures { result.now ≡ reverse (take count self.now.operands) }
+    {
+        &self.operands[self.operands.len() - count..]
+    }
+
+    /// The address so many bytes behind the start of the frame.
+    pub(crate) fn address(&self, offset: u64) -> u64
+        ensures { result ≡ (self.now.start + offset) % 2 ^ 64 }
+    {
+        self.start.wrapping_add(offset)
+    }
+
+    /// Where the next frame begins.
+    pub(crate) fn next_start(&self) -> u64
+        requires { next_start self.now < 2 ^ 64 }
+        ensures { result ≡ next_start self.now }
+    {
+        self.start + (self.bytes.len() as u64 + 15) / 16 * 16
+    }
+
+    /// Where the bytes from `address` on stand in the frame, if `size` of them lie there.
+    fn offset_of(&self, address: u64, size: usize) -> Option<usize>
+        ensures { result ≡ (if covers self.now address size then Some (address - self.now.start) else None) }
+    {
+        let offset = address.checked_sub(self.start)?;
+        let behind = (self.bytes.len() as u64).checked_sub(offset)?;
+        if size as u64 <= behind {
+            Some(offset as usize)
+        } else {
+            None
+        }
+    }
+
+    /// The number in the `size` bytes from `address` on, if they lie in the frame.
+    pub(crate) fn read(&self, address: u64, size: usize) -> Option<u64>
+        requires low { 1 ≤ size }
+        requires high { size ≤ 8 }
+        ensures { result ≡ (if covers self.now address size then Some (little_number size (take size (drop (address - self.now.start) self.now.bytes))) else None) }
+    {
+        let offset = self.offset_of(address, size)?;
+        let bytes = &self.bytes[offset..offset + size];
+        Some(if size == 8 {
+            LittleEndian::read_u64(bytes)
+        } else {
+            LittleEndian::read_uint(bytes, size)
+        })
+    }
+
+    /// Writes the lowest `size` bytes of a word so many bytes behind the start of the frame.
+    fn put(&mut self, offset: usize, word: u64, size: usize)
+        requires high { size ≤ 8 }
+        requires inside { offset + size ≤ length self.old.bytes }
+        ensures { self.new ≡ record self.old { bytes = spliced self.old.bytes offset (little_bytes size word) } }
+    {
+        let mut word_bytes = [0u8; 8];
+        LittleEndian::write_u64(&mut word_bytes, word);
+        self.bytes[offset..offset + size].copy_from_slice(&word_bytes[..size]);
+    }
+
+    /// Writes the lowest `size` bytes of a word from `address` on, if they lie in the frame, and says whether they do.
+    pub(crate) fn write(&mut self, address: u64, word: u64, size: usize) -> bool
+        requires { size ≤ 8 }
+        ensures written { result ≡ covers self.old address size }
+        ensures bytes { self.new ≡ (if covers self.old address size then record self.old { bytes = spliced self.old.bytes (address - self.old.start) (little_bytes size word) } else self.old) }
+    {
+        match self.offset_of(address, size) {
+            Some(offset) => {
+                self.put(offset, word, size);
+                true
+            }
+            None => false,
+        }
+    }
+}

@@ -1,0 +1,336 @@
+// The functions that were called and have not returned, and the instructions that change them.
+
+ghost use Rattle.std.specs.Prelude.{◌≡◌, ◌≢◌, ℕ, ◌+◌, ◌^◌, ◌<◌, ◌≤◌, List, [], ◌∷◌, ◌++◌, length, take, drop, reverse, replicate, Option, Some, None, OnOk, OnErr, map, IfOk, MatchBool, if◌then◌else◌};
+ghost use Rattle.std.specs.List.{flat_map};
+ghost use Rattle.std.specs.Option.{option_map};
+ghost use Rattle.byteorder.specs.Endian.{little_bytes, little_number};
+ghost use Rattle.pcc_outside.specs.Outside.{Rose};
+ghost use Rattle.pool_isa.specs.Machine.{advanced, bytes_at, next_start, with_bytes_at};
+
+use crate::activation::Activation;
+use crate::ends::{RunEnd, Step};
+use crate::memory::{read_from, write_to};
+use crate::outside::write_byte;
+use crate::words::{bytes_in, loaded_word, size_of};
+use c_num::IntType;
+use image_form::Function;
+use pcc_outside::{Sink, Source};
+use pool_isa::{Instr, Width};
+use run_theory::TrapKind;
+use std::alloc::{AllocError, Global};
+use std::marker::Model;
+use std::mem;
+
+/// How deep calls may be nested: `start` has depth 0.
+const MAX_DEPTH: usize = 10_000;
+
+/// The address of the first frame.
+const FIRST_FRAME: u64 = 1 << 40;
+
+/// The functions that were called and have not returned.
+#[derive(Drop)]
+pub(crate) struct Calls {
+    innermost: Activation,
+    /// The outermost first.
+    callers: Vec<Activation>,
+}
+
+impl Model for Calls {
+    ghost use Rattle.std.specs.Prelude.{◌∷◌, reverse};
+    ghost use Rattle.machine.specs.Steps.{CallStack, IsRoomy};
+
+    ghost Value = { CallStack };
+
+    ghost view = { λ c. record { innermost = c.innermost; callers = reverse c.callers.items } };
+
+    ghost invariant = { λ c. IsRoomy (c.innermost ∷ reverse c.callers.items) };
+}
+
+impl Calls {
+    ghost use Rattle.image_form.specs.Form.{function_of};
+    ghost use Rattle.pool_isa.specs.Machine as machine;
+    ghost use Rattle.machine.specs.Steps.{activations_of, IsInside, Performs, Does};
+
+    /// `start` at its entry.
+    pub(crate) fn new(alloc: Global, extra: u32) -> Result<Calls, AllocError>
+        ensures { IfOk result (λ calls. calls ≡ record { innermost = record { function = 0; place = 0; operands = []; start = 2 ^ 40; bytes = replicate extra 0 }; callers = [] }) }
+    {
+        Ok(Calls {
+            innermost: Activation::enter(alloc, 0, FIRST_FRAME, &[], extra)?,
+            callers: Vec::new(alloc),
+        })
+    }
+
+    /// The innermost one.
+    pub(crate) fn innermost(&self) -> &Activation
+        ensures { result.now ≡ self.now.innermost }
+    {
+        &self.innermost
+    }
+
+    /// Pushes a word, where the function may hold one more operand.
+    fn push(&mut self, word: u64, height: u32) -> Step
+        requires { self.old.innermost.place + 1 < 2 ^ 64 }
+        ensures { (functions : List machine.Function) (function : machine.Function) → function.height ≡ height → Performs functions function (Instr.Constant word) self.old result self.new }
+    {
+        if self.innermost.height() >= height as usize {
+            return Step::trap(TrapKind::StackFull);
+        }
+        match self.innermost.push(word) {
+            Ok(()) => Step::On,
+            Err(_) => Step::Over(RunEnd::OutOfMemory),
+        }
+    }
+
+    /// Drops the last operand.
+    fn discard(&mut self) -> Step
+        requires { self.old.innermost.place + 1 < 2 ^ 64 }
+        ensures { (functions : List machine.Function) (function : machine.Function) → Performs functions function Instr.Discard self.old result self.new }
+    {
+        if self.innermost.height() == 0 {
+            return Step::trap(TrapKind::StackEmpty);
+        }
+        self.innermost.discard(1);
+        Step::On
+    }
+
+    /// Goes on at another instruction.
+    fn jump(&mut self, target: u64) -> Step
+        ensures { (functions : List machine.Function) (function : machine.Function) → Performs functions function (Instr.Jump target) self.old result self.new }
+    {
+        self.innermost.jump(target as usize);
+        Step::On
+    }
+
+    /// Ends the run with the last operand, modulo 256.
+    fn exit(&self) -> Step
+        ensures { (functions : List machine.Function) (function : machine.Function) → Performs functions function Instr.Exit self.now result self.now }
+    {
+        match self.innermost.last() {
+            Some(word) => Step::Over(RunEnd::Ended((word % 256) as u8)),
+            None => Step::trap(TrapKind::StackEmpty),
+        }
+    }
+
+    /// The number in the `size` bytes from `address` on, if they lie in one living frame.
+    fn read(&self, address: u64, size: usize) -> Option<u64>
+        requires low { 1 ≤ size }
+        requires high { size ≤ 8 }
+        ensures { result ≡ option_map (little_number size) (bytes_at (activations_of self.now) address size) }
+    {
+        let number = self.innermost.read(address, size);
+        if number.is_some() {
+            return number;
+        }
+        read_from(&self.callers, address, size)
+    }
+
+    /// Writes the lowest `size` bytes of a word from `address` on, if they lie in one living frame, and says whether they do.
+    fn write(&mut self, address: u64, word: u64, size: usize) -> bool
+        requires { size ≤ 8 }
+        ensures { MatchBool result (with_bytes_at (activations_of self.old) address (little_bytes size word) ≡ Some (activations_of self.new)) (with_bytes_at (activations_of self.old) address (little_bytes size word) ≡ None) }
+    {
+        self.innermost.write(address, word, size) || write_to(&mut self.callers, address, word, size)
+    }
+
+    /// Loads a value in the place of its address.
+    fn load(&mut self, int_type: IntType) -> Step
+        requires { self.old.innermost.place + 1 < 2 ^ 64 }
+        ensures { (functions : List machine.Function) (function : machine.Function) → Performs functions function (Instr.Load int_type) self.old result self.new }
+    {
+        let Some(address) = self.innermost.last() else {
+            return Step::trap(TrapKind::StackEmpty);
+        };
+        let Some(number) = self.read(address, size_of(int_type)) else {
+            return Step::trap(TrapKind::BadAccess);
+        };
+        self.innermost.replace(loaded_word(number, int_type));
+        Step::On
+    }
+
+    /// Stores the last operand at the address before it.
+    fn store(&mut self, width: Width) -> Step
+        requires { self.old.innermost.place + 1 < 2 ^ 64 }
+        ensures { (functions : List machine.Function) (function : machine.Function) → Performs functions function (Instr.Store width) self.old result self.new }
+    {
+        let Some((address, word)) = self.innermost.last_two() else {
+            return Step::trap(TrapKind::StackEmpty);
+        };
+        self.innermost.discard(2);
+        if self.write(address, word, bytes_in(width)) {
+            Step::On
+        } else {
+            Step::trap(TrapKind::BadAccess)
+        }
+    }
+
+    /// Calls a function, which takes its parameters.
+    fn call(&mut self, alloc: Global, functions: &[Function], callee: u64) -> Step
+        requires { self.old.innermost.place + 1 < 2 ^ 64 }
+        ensures { (function : machine.Function) → Performs (map function_of functions.now) function (Instr.Call callee) self.old result self.new }
+    {
+        let Some(function) = functions.get(callee as usize) else {
+            return Step::trap(TrapKind::BadCall);
+        };
+        if self.innermost.height() < function.parameters as usize {
+            return Step::trap(TrapKind::StackEmpty);
+        }
+        if self.callers.len() >= MAX_DEPTH {
+            return Step::Over(RunEnd::Depth);
+        }
+        match self.enter(alloc, callee as usize, function) {
+            Ok(()) => Step::On,
+            Err(_) => Step::Over(RunEnd::OutOfMemory),
+        }
+    }
+
+    /// Lets a function that is called take its parameters.
+    fn enter(&mut self, alloc: Global, callee: usize, function: &Function) -> Result<(), AllocError>
+        requires next { self.old.innermost.place + 1 < 2 ^ 64 }
+        requires there { function.now.parameters ≤ length self.old.innermost.operands }
+        requires depth { length self.old.callers < 10000 }
+        ensures callee { OnOk result (self.new.innermost ≡ record { function = callee; place = 0; operands = []; start = next_start self.old.innermost; bytes = flat_map (little_bytes 8) (reverse (take function.now.parameters self.old.innermost.operands)) ++ replicate function.now.extra 0 }) }
+        ensures callers { OnOk result (self.new.callers ≡ advanced self.old.innermost (drop function.now.parameters self.old.innermost.operands) ∷ self.old.callers) }
+        ensures err { OnErr result (self.new ≡ self.old) }
+    {
+        self.callers.reserve(1)?;
+        let start = self.innermost.next_start();
+        let count = function.parameters as usize;
+        let parameters = self.innermost.parameters(count);
+        let entered = Activation::enter(alloc, callee, start, parameters, function.extra)?;
+        self.innermost.discard(count);
+        let caller = mem::replace(&mut self.innermost, entered);
+        self.callers.push(caller).unwrap();
+        Ok(())
+    }
+
+    /// Goes back to the caller.
+    fn leave(&mut self)
+        requires { 0 < length self.old.callers }
+        ensures { self.old.callers ≡ activations_of self.new }
+    {
+        self.innermost = self.callers.pop().unwrap();
+    }
+
+    /// Returns to the caller. `start` has none: its return ends the run.
+    fn finish(&mut self) -> Step
+        ensures { (functions : List machine.Function) (function : machine.Function) → Performs functions function Instr.Return self.old result self.new }
+    {
+        if self.callers.is_empty() {
+            return Step::Over(RunEnd::Ended(0));
+        }
+        self.leave();
+        Step::On
+    }
+
+    /// Returns the last operand to the caller. At the return of `start` it ends the run, modulo 256.
+    fn finish_with_value(&mut self, functions: &[Function]) -> Step
+        ensures { (function : machine.Function) → Performs (map function_of functions.now) function Instr.ReturnValue self.old result self.new }
+    {
+        let Some(word) = self.innermost.last() else {
+            return Step::trap(TrapKind::StackEmpty);
+        };
+        if self.callers.is_empty() {
+            return Step::Over(RunEnd::Ended((word % 256) as u8));
+        }
+        let last = self.callers.len() - 1;
+        let caller = &mut self.callers[last];
+        let Some(function) = functions.get(caller.function()) else {
+            return Step::trap(TrapKind::Reached);
+        };
+        if caller.height() >= function.height as usize {
+            return Step::trap(TrapKind::StackFull);
+        }
+        match caller.give(word) {
+            Ok(()) => {
+                self.leave();
+                Step::On
+            }
+            Err(_) => Step::Over(RunEnd::OutOfMemory),
+        }
+    }
+
+    /// Reads a byte, where the function may hold one more operand.
+    fn get_char<I: Source>(&mut self, input: &mut I, height: u32) -> Step
+        requires { self.old.innermost.place + 1 < 2 ^ 64 }
+        ensures does { (functions : List machine.Function) (function : machine.Function) (written : Option (List ℕ)) → function.height ≡ height → Does functions function Instr.GetChar self.old (I.left input.old) written result self.new (I.left input.new) written }
+        ensures fault { result ≡ Step.Over RunEnd.ReadFault → Rose (I.faults input.old) (I.faults input.new) }
+        ensures other { result ≢ Step.Over RunEnd.WriteFault }
+        ensures counted { I.faults input.old ≤ I.faults input.new }
+    {
+        if self.innermost.height() >= height as usize {
+            return Step::trap(TrapKind::StackFull);
+        }
+        self.innermost.push_next(input)
+    }
+
+    /// Writes the low byte of the last operand, and leaves that byte in its place.
+    fn put_char<O: Sink>(&mut self, out: &mut O) -> Step
+        requires { self.old.innermost.place + 1 < 2 ^ 64 }
+        ensures does { (functions : List machine.Function) (function : machine.Function) (left : Option (List ℕ)) → Does functions function Instr.PutChar self.old left (O.written out.old) result self.new left (O.written out.new) }
+        ensures fault { result ≡ Step.Over RunEnd.WriteFault → Rose (O.faults out.old) (O.faults out.new) }
+        ensures other { result ≢ Step.Over RunEnd.ReadFault }
+        ensures counted { O.faults out.old ≤ O.faults out.new }
+    {
+        let Some(word) = self.innermost.last() else {
+            return Step::trap(TrapKind::StackEmpty);
+        };
+        let byte = (word % 256) as u8;
+        match write_byte(out, byte) {
+            Ok(()) => {
+                self.innermost.replace(u64::from(byte));
+                Step::On
+            }
+            Err(_) => Step::Over(RunEnd::WriteFault),
+        }
+    }
+
+    /// Performs an instruction that neither reads nor writes.
+    fn perform_inside(&mut self, alloc: Global, functions: &[Function], height: u32, instr: Instr) -> Step
+        requires next { self.old.innermost.place + 1 < 2 ^ 64 }
+        requires inside { IsInside instr }
+        ensures { (function : machine.Function) → function.height ≡ height → Performs (map function_of functions.now) function instr self.old result self.new }
+    {
+        match instr {
+            Instr::Constant(word) => self.push(word, height),
+            Instr::Local(offset) => {
+                let address = self.innermost.address(offset);
+                self.push(address, height)
+            }
+            Instr::Discard => self.discard(),
+            Instr::Load(int_type) => self.load(int_type),
+            Instr::Store(width) => self.store(width),
+            Instr::Jump(target) => self.jump(target),
+            Instr::Call(callee) => self.call(alloc, functions, callee),
+            Instr::Return => self.finish(),
+            Instr::ReturnValue => self.finish_with_value(functions),
+            Instr::Exit => self.exit(),
+            // The forms that are compiled need no other instruction.
+            _ => Step::trap(TrapKind::Reached),
+        }
+    }
+
+    /// Performs an instruction of a function that may hold `height` operands.
+    pub(crate) fn perform<I: Source, O: Sink>(
+        &mut self,
+        alloc: Global,
+        functions: &[Function],
+        height: u32,
+        instr: Instr,
+        input: &mut I,
+        out: &mut O,
+    ) -> Step
+        requires { self.old.innermost.place + 1 < 2 ^ 64 }
+        ensures does { (function : machine.Function) → function.height ≡ height → Does (map function_of functions.now) function instr self.old (I.left input.old) (O.written out.old) result self.new (I.left input.new) (O.written out.new) }
+        ensures read_cause { result ≡ Step.Over RunEnd.ReadFault → Rose (I.faults input.old) (I.faults input.new) }
+        ensures write_cause { result ≡ Step.Over RunEnd.WriteFault → Rose (O.faults out.old) (O.faults out.new) }
+        ensures reads_counted { I.faults input.old ≤ I.faults input.new }
+        ensures writes_counted { O.faults out.old ≤ O.faults out.new }
+    {
+        match instr {
+            Instr::GetChar => self.get_char(input, height),
+            Instr::PutChar => self.put_char(out),
+            _ => self.perform_inside(alloc, functions, height, instr),
+        }
+    }
+}

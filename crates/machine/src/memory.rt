@@ -1,0 +1,38 @@
+// The memory of the machine: the frames of the functions that were called.
+
+ghost use Rattle.std.specs.Prelude.{◌≡◌, ℕ, ◌≤◌, reverse, Some, None, MatchBool};
+ghost use Rattle.std.specs.Bool.{OnFalse};
+ghost use Rattle.std.specs.Option.{option_map};
+ghost use Rattle.byteorder.specs.Endian.{little_bytes, little_number};
+ghost use Rattle.pool_isa.specs.Machine.{bytes_at, with_bytes_at};
+
+use crate::activation::Activation;
+
+/// The number in the `size` bytes from `address` on, if they lie in the frame of a caller.
+pub(crate) fn read_from(callers: &[Activation], address: u64, size: usize) -> Option<u64>
+    requires low { 1 ≤ size }
+    requires high { size ≤ 8 }
+    ensures { result ≡ option_map (little_number size) (bytes_at (reverse callers.now) address size) }
+{
+    for index in (0..callers.len()).rev() {
+        let number = callers[index].read(address, size);
+        if number.is_some() {
+            return number;
+        }
+    }
+    None
+}
+
+/// Writes the lowest `size` bytes of a word from `address` on, if they lie in the frame of a caller.
+pub(crate) fn write_to(callers: &mut [Activation], address: u64, word: u64, size: usize) -> bool
+    requires { size ≤ 8 }
+    ensures written { MatchBool result (with_bytes_at (reverse callers.old) address (little_bytes size word) ≡ Some (reverse callers.new)) (with_bytes_at (reverse callers.old) address (little_bytes size word) ≡ None) }
+    ensures kept { OnFalse result (callers.new ≡ callers.old) }
+{
+    for index in (0..callers.len()).rev() {
+        if callers[index].write(address, word, size) {
+            return true;
+        }
+    }
+    false
+}

@@ -1,0 +1,35 @@
+// The bytes that the machine reads and writes.
+
+ghost use Rattle.std.specs.Prelude.{◌≡◌, ℕ, ◌≤◌, List, [], ◌∷◌, Some, IfOk, OnOk, OnErr};
+ghost use Rattle.pcc_outside.specs.Outside.{Rose, Adds};
+ghost use Rattle.pool_isa.specs.Machine.{input_word, after_next};
+
+use pcc_outside::{Failed, Sink, Source};
+
+/// Reads the word that `getchar` gives: that of the next byte, or of -1 at the end of the input.
+pub(crate) fn next_word<I: Source>(input: &mut I) -> Result<u64, Failed>
+    ensures read { IfOk result (λ word. (left : List ℕ) → I.left input.old ≡ Some left → (word ≡ input_word left) × (I.left input.new ≡ Some (after_next left))) }
+    ensures unread { OnErr result (I.left input.new ≡ I.left input.old) }
+    ensures fault { OnErr result (Rose (I.faults input.old) (I.faults input.new)) }
+    ensures counted { I.faults input.old ≤ I.faults input.new }
+{
+    let mut byte = [0u8; 1];
+    match input.read(&mut byte) {
+        Ok(0) => Ok(u64::MAX),
+        Ok(_) => Ok(u64::from(byte[0])),
+        Err(failed) => Err(failed),
+    }
+}
+
+/// Writes a byte.
+pub(crate) fn write_byte<O: Sink>(out: &mut O, byte: u8) -> Result<(), Failed>
+    ensures written { OnOk result (Adds (O.written out.old) (byte ∷ []) (O.written out.new)) }
+    ensures unwritten { OnErr result (O.written out.new ≡ O.written out.old) }
+    ensures fault { OnErr result (Rose (O.faults out.old) (O.faults out.new)) }
+    ensures counted { O.faults out.old ≤ O.faults out.new }
+{
+    match out.write(&[byte]) {
+        Ok(_) => Ok(()),
+        Err(failed) => Err(failed),
+    }
+}

@@ -1,0 +1,47 @@
+// Words of memory: the sizes of types, and the words of loaded values.
+
+ghost use Rattle.std.specs.Prelude.{◌≡◌, ◌≤◌, pos};
+ghost use Rattle.c_num.specs.Conversion.{word_of};
+ghost use Rattle.pool_isa.specs.Machine.{size_of, bytes_in};
+
+use c_num::IntType;
+use pool_isa::Width;
+
+/// The bytes of a value.
+pub(crate) fn size_of(int_type: IntType) -> usize
+    ensures size { result ≡ size_of int_type }
+    ensures low { 1 ≤ result }
+    ensures high { result ≤ 8 }
+{
+    match int_type {
+        IntType::Char | IntType::UChar => 1,
+        IntType::Short | IntType::UShort => 2,
+        IntType::Int | IntType::UInt => 4,
+        IntType::Long | IntType::ULong => 8,
+    }
+}
+
+/// The bytes that a store writes.
+pub(crate) fn bytes_in(width: Width) -> usize
+    ensures size { result ≡ bytes_in width }
+    ensures high { result ≤ 8 }
+{
+    match width {
+        Width::One => 1,
+        Width::Two => 2,
+        Width::Four => 4,
+        Width::Eight => 8,
+    }
+}
+
+/// The word of the value of type `int_type` whose bits are the lowest ones of a number.
+#[tactic(auto, using(crate::proofs::Values::wide_word), unfolding(c_num::specs::Conversion::word_of, c_num::specs::Conversion::convert_to))]
+pub(crate) fn loaded_word(number: u64, int_type: IntType) -> u64
+    ensures { result ≡ word_of int_type (pos number) }
+{
+    match int_type {
+        // A word is the bits of its value.
+        IntType::Long | IntType::ULong => number,
+        _ => c_num::word(i128::from(number), int_type),
+    }
+}
