@@ -1,5 +1,5 @@
 -- The operators on values of one integer type (C17 6.5.3.3 and 6.5.5 to 6.5.12): what they give, and where they are undefined.
-use Rattle.std.specs.Prelude.{◌≡◌, ◌≢◌, ℕ, ◌-◌, ◌^◌, ◌⊎◌, Bool, true, false, not, ◌&&◌, ◌||◌, if◌then◌else◌, ⊤, ℤ, pos, neg_ℤ, ◌+ℤ◌, ◌-ℤ◌, ◌*ℤ◌, ◌≤ℤ◌, ◌<ℤ◌, int_lt, int_le, int_div, int_rem, unsigned_abs, bit_and, bit_or, bit_xor, Result, Ok, Err}
+use Rattle.std.specs.Prelude.{◌≡◌, ◌≢◌, ◌-◌, ◌^◌, Bool, true, false, not, ◌&&◌, ◌||◌, if◌then◌else◌, ℤ, pos, neg_ℤ, ◌+ℤ◌, ◌-ℤ◌, ◌*ℤ◌, ◌≤ℤ◌, ◌<ℤ◌, int_lt, int_le, int_div, int_rem, unsigned_abs, bit_and, bit_or, bit_xor, Result, Ok, Err}
 use Rattle.std.specs.Ordering.{int_eq}
 use Rattle.std.specs.Int.{int_shr}
 use Rattle.c_num.specs.declared.IntType.{IntType}
@@ -9,7 +9,7 @@ use Rattle.c_num.specs.declared.ArithUb.{ArithUb}
 use Rattle.c_num.specs.declared.ArithUb.TheVariants.{Overflow, DivideByZero, BadShift}
 use Rattle.c_num.specs.declared.Relation.{Relation}
 use Rattle.c_num.specs.declared.Relation.TheVariants.{Eq, Ne, Lt, Le, Gt, Ge}
-use Rattle.c_num.specs.Types.{width_of, is_signed, IsSigned, IsValue, is_value}
+use Rattle.c_num.specs.Types.{width_of, is_signed, IsValue, is_value}
 use Rattle.c_num.specs.Conversion.{modulo, bits_of, value_of_bits, convert_to}
 
 -- the algebraic quotient without its fractional part, and what it leaves (C17 6.5.5 paragraph 6). A divisor of zero, at
