@@ -1,11 +1,11 @@
 // An image from its bytes.
 
-ghost use Rattle.std.specs.Prelude.{◌≡◌, ℕ, ◌≤◌, ◌<◌, ◌^◌, List, [], ◌∷◌, length, drop, map, IfOk, IfErr, IsTrue, ◌↔◌};
-ghost use Rattle.pool_isa.specs.Ranges.{IsWithin, InRange, is_last, LastIs, IsFunction};
+ghost use Rattle.std.specs.Prelude.{◌≡◌, ℕ, ◌≤◌, List, [], ◌∷◌, length, IfOk, IfErr, IsTrue, ◌↔◌};
+ghost use Rattle.pool_isa.specs.Ranges.{IsWithin, InRange, is_last, IsFunction};
 ghost use Rattle.pool_isa.specs.Number.{number_bytes};
 ghost use Rattle.pool_isa.specs.Spelling.{StandsAt};
 ghost use Rattle.pool_isa.specs.Instr.{spelling};
-ghost use Rattle.image_form.specs.Form.{Form, form_of, function_of, function_bytes, counted, BeginsWithStart, image_bytes, IsImage, ImageOf};
+ghost use Rattle.image_form.specs.Form.{Form, form_of, function_of, function_bytes, counted, image_bytes, IsImage, ImageOf};
 ghost use Rattle.image_form.specs.Reading.{Finds, IsInstr, IsLastInstr, IsInstrs, IsCode, instrs_of, code_bytes, IsHeader, opening_bytes, IsHead, head_bytes, function_with, functions_of, form_with, IsFunctions, IsAllFunctions, functions_bytes, IsDecodedUnlessMemory};
 
 use crate::image::{Function, Globals, Image, ImageErr, MachineLimits};
@@ -35,8 +35,9 @@ fn is_in_range(instr: Instr, functions: u64, count: u64) -> bool
     ensures { IsTrue result ↔ InRange 0 functions count instr }
 {
     match instr {
-        Instr::Jump(target) | Instr::JumpIfZero(target) | Instr::JumpIfNotZero(target) => target
-            < count,
+        Instr::Jump(target) | Instr::JumpIfZero(target) | Instr::JumpIfNotZero(target) => {
+            target < count
+        }
         Instr::Call(function) => function < functions,
         Instr::PoolInit(_) => false,
         _ => true,
@@ -336,13 +337,13 @@ fn counted_functions(
     requires { at ≤ length bytes.now }
     ensures { Finds IsAllFunctions (counted function_bytes) functions_of bytes.now at result }
 {
-    let (count, at) = match number_within(bytes, at, 1, 4_097) {
+    let (count, first) = match number_within(bytes, at, 1, 4_097) {
         Ok(found) => found,
         Err(fault) => return Err(fault),
     };
-    // `start` has no parameters.
-    match number_within(bytes, at, 0, 0) {
-        Ok(_) => functions(alloc, bytes, at, count),
+    // The first function is `start`, and begins with its number of parameters, which is 0.
+    match number_within(bytes, first, 0, 0) {
+        Ok(_) => functions(alloc, bytes, first, count),
         Err(fault) => Err(fault),
     }
 }

@@ -2,7 +2,7 @@
 
 use super::*;
 use pool_isa::Instr;
-use std::alloc::{AllocError, Global};
+use std::alloc::Global;
 use std::test::Fail;
 
 // One function, which pushes 7 and exits with it.
@@ -120,21 +120,11 @@ const OTHERS: [(&str, Option<usize>); 22] = [
     ),
 ];
 
-fn digit(byte: u8) -> u8
-    ensures { result < 16 }
-{
-    match byte {
-        b'0'..=b'9' => byte - b'0',
-        b'a'..=b'f' => byte - b'a' + 10,
-        _ => 0,
-    }
-}
-
-fn bytes_of(alloc: Global, text: &str) -> Result<Vec<u8>, AllocError> {
+fn bytes_of(alloc: Global, text: &str) -> Result<Vec<u8>, Fail> {
     let mut bytes = Vec::new(alloc);
-    let mut digits = text.bytes();
-    while let (Some(high), Some(low)) = (digits.next(), digits.next()) {
-        bytes.push(16 * digit(high) + digit(low))?;
+    for index in 0..text.len() / 2 {
+        let pair = text.get(2 * index..2 * index + 2).unwrap_or("");
+        bytes.push(u8::from_str_radix(pair, 16)?)?;
     }
     Ok(bytes)
 }

@@ -1,7 +1,6 @@
 use Rattle.std.proofs.Common.{ℕ, ◌∙◌, length, append_assoc, arith}
 use Rattle.pool_isa.specs.Number.{number_bytes}
 use Rattle.pool_isa.specs.Ranges.{IsWithin}
-use Rattle.pool_isa.specs.Spelling.{StandsAt}
 use Rattle.image_form.specs.Form.{function_bytes, counted}
 use Rattle.image_form.specs.Reading.{IsAllFunctions, functions_of, functions_bytes}
 use Rattle.image_form.proofs.Fronts.{number_there, refused_by}
