@@ -7,3 +7,4 @@ pub mod Written
 pub mod Performing
 pub mod Moves
 pub mod Running
+pub mod Mach

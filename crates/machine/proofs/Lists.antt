@@ -1,5 +1,5 @@
 -- Lists read from the other end.
-use Rattle.std.proofs.Common.{◌≡◌, ℕ, suc, ◌+◌, ◌-◌, ◌<◌, ◌≤◌, List, [], ◌∷◌, ◌++◌, length, get_or, take, drop, set, reverse, refl, sym, ap, ◌∙◌, arith}
+use Rattle.std.proofs.Common.{◌≡◌, ℕ, suc, ◌+◌, ◌-◌, ◌<◌, ◌≤◌, List, [], ◌∷◌, ◌++◌, length, take, drop, set, reverse, sym, ap, ◌∙◌, arith}
 use Rattle.std.proofs.lemmas.List.{reverse-append, length-reverse, length-append, length-take, length-drop, take-append-drop, drop_at, take_at, take_rest, set_split, drop_all, drop-drop, append_assoc, reverse-reverse}
 use Rattle.pool_isa.specs.Machine.{spliced}
 

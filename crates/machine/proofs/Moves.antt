@@ -1,6 +1,6 @@
 -- Where the steps of a machine lead, and what a run answers there.
-use Rattle.std.proofs.Common.{◌≡◌, ℕ, zero, suc, ◌+◌, ◌≤◌, refl, sym, ap, ◌∙◌, arith}
-use Rattle.run_theory.specs.Runs.{Trace, Final, Answer, Going, Over, Move, To, Halt, after, steps}
+use Rattle.std.proofs.Common.{◌≡◌, ℕ, zero, suc, ◌≤◌, refl, ap, ◌∙◌, arith}
+use Rattle.run_theory.specs.Runs.{Trace, Final, Going, Over, Move, To, Halt, after, steps}
 use Rattle.run_theory.specs.Moves.{then_move, moves, answer_of}
 
 module _ {S : Type 0} (act : S → Move S) where

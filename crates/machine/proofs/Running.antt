@@ -1,5 +1,5 @@
 -- A run, step by step.
-use Rattle.std.proofs.Common.{◌≡◌, ℕ, suc, ◌+◌, ◌<◌, ◌≤◌, List, ◌++◌, Option, Some, refl, sym, ap, ◌∙◌, subst, arith}
+use Rattle.std.proofs.Common.{◌≡◌, ℕ, suc, ◌+◌, ◌<◌, List, ◌++◌, Option, Some, refl, sym, ap, ◌∙◌, subst, arith}
 use Rattle.run_theory.specs.Runs as runs
 use Rattle.run_theory.specs.Runs.{Trace, output_of, Final, Move, To, Halt}
 use Rattle.run_theory.specs.Moves.{then_move, moves}
@@ -9,7 +9,7 @@ use Rattle.machine.specs.declared.ends.RunEnd.TheVariants as ends
 use Rattle.machine.specs.declared.ends.Step.{Step}
 use Rattle.machine.specs.declared.ends.Step.TheVariants.{On, Over}
 use Rattle.machine.specs.Steps.{standing, IsLeftAt, Halts, IsUndone, GoesOn, Gives}
-use Rattle.machine.specs.Run.{HaltsAt, ComesTo, BreaksOff, RunGives}
+use Rattle.machine.specs.Run.{HaltsAt, BreaksOff, RunGives}
 use Rattle.machine.proofs.Moves.{moves-suc, halted_stays}
 
 module _ (functions : List Function) (state : State) (base : List ℕ) where
@@ -44,7 +44,7 @@ module _ (functions : List Function) (state : State) (base : List ℕ) where
     halts_at steps lt final left' written' h = record {
       last = there.next;
       halts = halted_stays (act functions) (n + 1) steps state there.next final (omega arith) (next_move (Halt final there.next) h.halts);
-      left_at = h.left_at
+      left_at = h.left_at;
     }
 
     breaks_off : (steps : ℕ) → n < steps → (activations' : List Activation) (left' written' : Option (List ℕ)) → IsUndone base there.next activations' left' written' → BreaksOff functions state base steps left' written'

@@ -5,7 +5,6 @@ use Rattle.run_theory.specs.Runs.{Trace, output_of, Move, To, Halt, Final}
 use Rattle.pool_isa.specs.declared.instr.Instr.{Instr}
 use Rattle.pool_isa.specs.declared.instr.Instr.TheVariants as instrs
 use Rattle.pool_isa.specs.Machine.{Function, Activation, State, advanced, input_word, after_next, next_start, perform}
-use Rattle.machine.specs.declared.ends.RunEnd.{RunEnd}
 use Rattle.machine.specs.declared.ends.RunEnd.TheVariants as ends
 use Rattle.machine.specs.declared.ends.Step.{Step}
 use Rattle.machine.specs.declared.ends.Step.TheVariants.{On, Over}

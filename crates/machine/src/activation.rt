@@ -1,6 +1,6 @@
 // A function that was called and has not returned: its place, its operands and its frame.
 
-ghost use Rattle.std.specs.Prelude.{◌≡◌, ◌≢◌, ℕ, ◌+◌, ◌*◌, ◌-◌, ◌/◌, ◌%◌, ◌^◌, ◌<◌, ◌≤◌, List, [], ◌∷◌, ◌++◌, length, take, drop, reverse, replicate, Some, None, IfOk, OnOk, OnErr, MatchOption, if◌then◌else◌};
+ghost use Rattle.std.specs.Prelude.{◌≡◌, ◌≢◌, ℕ, ◌+◌, ◌*◌, ◌-◌, ◌/◌, ◌%◌, ◌^◌, ◌<◌, ◌≤◌, List, [], ◌∷◌, ◌++◌, length, take, drop, reverse, replicate, Some, None, IfOk, OnOk, OnErr, IsTrue, ◌↔◌, MatchOption, if◌then◌else◌};
 ghost use Rattle.std.specs.List.{flat_map};
 ghost use Rattle.std.specs.Option.{option_map};
 ghost use Rattle.byteorder.specs.Endian.{little_bytes, little_number};
@@ -42,7 +42,13 @@ impl Activation {
     ghost use Rattle.machine.specs.Steps.{PushesNext};
 
     /// A function at its entry: the frame holds the parameters and `extra` zeros.
-    pub(crate) fn enter(alloc: Global, function: usize, start: u64, parameters: &[u64], extra: u32) -> Result<Activation, AllocError>
+    pub(crate) fn enter(
+        alloc: Global,
+        function: usize,
+        start: u64,
+        parameters: &[u64],
+        extra: u32,
+    ) -> Result<Activation, AllocError>
         ensures { IfOk result (λ a. a ≡ record { function = function; place = 0; operands = []; start = start; bytes = flat_map (little_bytes 8) parameters.now ++ replicate extra 0 }) }
     {
         let mut bytes = Vec::new(alloc);
@@ -80,6 +86,13 @@ impl Activation {
         ensures { result ≡ length self.now.operands }
     {
         self.operands.len()
+    }
+
+    /// Whether a function that may hold `height` operands can't hold one more.
+    pub(crate) fn is_full(&self, height: u32) -> bool
+        ensures { IsTrue result ↔ (height ≤ length self.now.operands) }
+    {
+        self.operands.len() >= height as usize
     }
 
     /// The last operand.

@@ -73,7 +73,7 @@ impl Calls {
         requires { self.old.innermost.place + 1 < 2 ^ 64 }
         ensures { (functions : List machine.Function) (function : machine.Function) → function.height ≡ height → Performs functions function (Instr.Constant word) self.old result self.new }
     {
-        if self.innermost.height() >= height as usize {
+        if self.innermost.is_full(height) {
             return Step::trap(TrapKind::StackFull);
         }
         match self.innermost.push(word) {
@@ -130,7 +130,8 @@ impl Calls {
         requires { size ≤ 8 }
         ensures { MatchBool result (with_bytes_at (activations_of self.old) address (little_bytes size word) ≡ Some (activations_of self.new)) (with_bytes_at (activations_of self.old) address (little_bytes size word) ≡ None) }
     {
-        self.innermost.write(address, word, size) || write_to(&mut self.callers, address, word, size)
+        self.innermost.write(address, word, size)
+            || write_to(&mut self.callers, address, word, size)
     }
 
     /// Loads a value in the place of its address.
@@ -238,7 +239,7 @@ impl Calls {
         let Some(function) = functions.get(caller.function()) else {
             return Step::trap(TrapKind::Reached);
         };
-        if caller.height() >= function.height as usize {
+        if caller.is_full(function.height) {
             return Step::trap(TrapKind::StackFull);
         }
         match caller.give(word) {
@@ -258,7 +259,7 @@ impl Calls {
         ensures other { result ≢ Step.Over RunEnd.WriteFault }
         ensures counted { I.faults input.old ≤ I.faults input.new }
     {
-        if self.innermost.height() >= height as usize {
+        if self.innermost.is_full(height) {
             return Step::trap(TrapKind::StackFull);
         }
         self.innermost.push_next(input)
@@ -286,7 +287,13 @@ impl Calls {
     }
 
     /// Performs an instruction that neither reads nor writes.
-    fn perform_inside(&mut self, alloc: Global, functions: &[Function], height: u32, instr: Instr) -> Step
+    fn perform_inside(
+        &mut self,
+        alloc: Global,
+        functions: &[Function],
+        height: u32,
+        instr: Instr,
+    ) -> Step
         requires next { self.old.innermost.place + 1 < 2 ^ 64 }
         requires inside { IsInside instr }
         ensures { (function : machine.Function) → function.height ≡ height → Performs (map function_of functions.now) function instr self.old result self.new }

@@ -38,7 +38,11 @@ impl<'a> Machine<'a> {
     ghost use Rattle.machine.specs.Run.{RunGives};
 
     /// A machine that stands before the first step of the image.
-    pub fn load(alloc: Global, image: &'a Image, limits: MachineLimits) -> Result<Machine<'a>, AllocError>
+    pub fn load(
+        alloc: Global,
+        image: &'a Image,
+        limits: MachineLimits,
+    ) -> Result<Machine<'a>, AllocError>
         ensures functions { IfOk result (λ m. m.functions ≡ (form_of image.now).functions) }
         ensures limits { IfOk result (λ m. m.limits ≡ limits) }
         ensures start { IfOk result (λ m. (input : List ℕ) → initial m.functions input ≡ standing m.activations input []) }
@@ -69,8 +73,14 @@ impl<'a> Machine<'a> {
         let Some(instr) = function.code.get(innermost.place()) else {
             return Step::trap(TrapKind::Reached);
         };
-        self.calls
-            .perform(self.alloc, &image.functions, function.height, *instr, input, out)
+        self.calls.perform(
+            self.alloc,
+            &image.functions,
+            function.height,
+            *instr,
+            input,
+            out,
+        )
     }
 
     /// Runs at most so many steps. Bytes of the input that the program did not take stay unread.

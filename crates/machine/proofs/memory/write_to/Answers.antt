@@ -1,4 +1,4 @@
-use Rattle.std.proofs.Common.{◌≡◌, ℕ, ◌+◌, ◌-◌, ◌<◌, List, true, false, Some, length, get_or, take, drop, set, reverse, subst, sym, ap, ◌∙◌, arith}
+use Rattle.std.proofs.Common.{◌≡◌, ◌-◌, List, true, false, Some, get_or, take, drop, set, reverse, subst, sym, ap, ◌∙◌, arith}
 use Rattle.std.proofs.lemmas.List.{set-get_or}
 use Rattle.byteorder.specs.Endian.{little_bytes}
 use Rattle.byteorder.specs.Numbers.{length-bytes_low_first}
@@ -37,5 +37,5 @@ loop-index-preserved c =
     let kept : set xs k c.write.new.self ≡ xs = ap (set xs k) after ∙ set-get_or xs k x in
     record {
       same = kept ∙ c.loop-index.invariant.same;
-      searched = subst (λ (ys : List Activation). with_bytes_at (reverse ys) address new ≡ behind (reverse (drop k ys)) (with_bytes_at (reverse (take k ys)) address new)) (sym kept) on
+      searched = subst (λ (ys : List Activation). with_bytes_at (reverse ys) address new ≡ behind (reverse (drop k ys)) (with_bytes_at (reverse (take k ys)) address new)) (sym kept) on;
     }

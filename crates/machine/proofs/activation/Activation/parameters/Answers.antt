@@ -1,4 +1,4 @@
-use Rattle.std.proofs.Common.{◌≡◌, ℕ, ◌-◌, ◌≤◌, List, length, take, drop, reverse, ap, ◌∙◌, sym, arith}
+use Rattle.std.proofs.Common.{◌≡◌, ◌≤◌, length, arith}
 use Rattle.std.proofs.lemmas.List.{length-reverse}
 use Rattle.machine.proofs.Lists.{reverse-take_reverse}
 use Rattle.machine.proofs.activation.Activation.parameters.Goals as goal

@@ -1,4 +1,4 @@
-use Rattle.std.proofs.Common.{◌≡◌, ◌^◌, ◌<◌, List, ◌++◌, ◌∷◌, [], length, take, drop, replicate, reverse, refl, subst, sym, ap, ◌∙◌, arith}
+use Rattle.std.proofs.Common.{◌≡◌, ◌^◌, ◌<◌, List, ◌++◌, ◌∷◌, [], length, drop, replicate, reverse, subst, sym, ap, ◌∙◌, arith}
 use Rattle.std.specs.List.{flat_map}
 use Rattle.std.proofs.lemmas.List.{reverse-append, length-reverse, length-take}
 use Rattle.byteorder.specs.Endian.{little_bytes}

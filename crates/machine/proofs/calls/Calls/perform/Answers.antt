@@ -30,5 +30,5 @@ returns-in_default g c =
       read_cause = λ e. absurd (no_read_fault functions some c.args.instr c.args.self.now c.perform_inside.result c.perform_inside.new.self (c.perform_inside.ensures some refl) e);
       write_cause = λ e. absurd (no_write_fault functions some c.args.instr c.args.self.now c.perform_inside.result c.perform_inside.new.self (c.perform_inside.ensures some refl) e);
       reads_counted = omega arith;
-      writes_counted = omega arith
+      writes_counted = omega arith;
     }

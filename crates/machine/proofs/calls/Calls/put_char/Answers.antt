@@ -1,4 +1,4 @@
-use Rattle.std.proofs.Common.{reverse, ◌∙◌, ap, rules}
+use Rattle.std.proofs.Common.{reverse}
 use Rattle.machine.proofs.Written.{put_on}
 use Rattle.machine.proofs.calls.Calls.put_char.Goals as goal
 

@@ -1,4 +1,4 @@
-use Rattle.std.proofs.Common.{◌≡◌, ◌∷◌, Bool, true, false, List, length, reverse, refl, subst, sym, ap, ◌∙◌, arith}
+use Rattle.std.proofs.Common.{◌≡◌, ◌∷◌, List, reverse, refl, subst, sym, ap, ◌∙◌}
 use Rattle.std.specs.Bool.{OnFalse}
 use Rattle.std.proofs.lemmas.List.{with_items_is}
 use Rattle.byteorder.specs.Endian.{little_bytes}
@@ -34,7 +34,7 @@ invariant_of-self-else-write c =
     let outward = write_outward frame c.write.new.self callers c.args.address c.args.size new sized c.write.ensures.bytes c.write_to.result (reverse c.write_to.new.callers) missed (rw same at c.write_to.ensures.written) in
     let left = after_missed frame frame c.write.new.self c.args.address c.args.size new refl c.write.ensures.bytes missed in
     let kept : OnFalse c.write_to.result (c.write.new.self ∷ reverse c.write_to.new.callers ≡ frame ∷ callers) =
-        on_false c.write_to.result (λ (e : c.write_to.new.callers ≡ c.deref_mut.result.now). ap (λ f. f ∷ reverse c.write_to.new.callers) left ∙ ap (λ (fs : List Activation). frame ∷ reverse fs) (e ∙ same)) c.write_to.ensures.kept in
+    on_false c.write_to.result (λ (e : c.write_to.new.callers ≡ c.deref_mut.result.now). ap (λ f. f ∷ reverse c.write_to.new.callers) left ∙ ap (λ (fs : List Activation). frame ∷ reverse fs) (e ∙ same)) c.write_to.ensures.kept in
     let room = roomy_tried c.args.address new c.write_to.result (frame ∷ callers) (c.write.new.self ∷ reverse c.write_to.new.callers) c.self.invariant outward kept in
     subst (λ (fs : List Activation). IsRoomy (c.write.new.self ∷ reverse fs)) (sym stored) room
 

@@ -15,7 +15,7 @@ loop-turn-preserved g c = record {
       let state = standing c.args.self.activations left trace in
       let now = c.loop-turn.self in
       stands_next functions state base c.loop-turn._turn now.activations _ _ (c.loop-turn.invariant.stands left base trace told wrote) c.step.new.self.activations _ _
-      (as_steps functions state base now.functions now.activations _ _ On c.step.result c.step.new.self.activations _ _ c.loop-turn.invariant.functions c.in-On.is c.step.ensures.gives)
+      (as_steps functions state base now.functions now.activations _ _ On c.step.result c.step.new.self.activations _ _ c.loop-turn.invariant.functions c.in-On.is c.step.ensures.gives);
 }
 
 pub returns-in-Over-clause-meaning : goal.returns-in-Over-clause-meaning
