@@ -4,8 +4,12 @@ use Rattle.std.proofs.lemmas.List.{drop_more, drop_all}
 use Rattle.std.specs.Prelude.{IsErr, OnOk, OnErr}
 use Rattle.pcc_outside.specs.Outside.{Rose, Adds, AddsPart}
 use Rattle.pcc_outside.proofs.Faults.{Rose-after}
-use Rattle.pcc_outside.proofs.Writing.{AddsBefore, Adds-append}
+use Rattle.pcc_outside.proofs.Writing.{AddsBefore, Adds-nil, Adds-append}
 use Rattle.pcc_status.specs.Said.{Puts, line_of}
+
+-- at first nothing was added
+pub AddsBefore-start : (old : Option (List ℕ)) (bytes : List ℕ) → AddsBefore old bytes bytes old
+AddsBefore-start old bytes = ([], refl, Adds-nil old)
 
 -- one more piece was added
 pub AddsBefore-piece : (old mid new : Option (List ℕ)) (text piece rest : List ℕ) → AddsBefore old text (piece ++ rest) mid → Adds mid piece new → AddsBefore old text rest new

@@ -1,7 +1,6 @@
 use Rattle.std.proofs.Common.{codes, ◌+◌, drop, arith}
-use Rattle.pcc_outside.proofs.Writing.{AddsBefore-start}
 use Rattle.pcc_status.specs.Said.{line_of}
-use Rattle.pcc_status.proofs.Pieces.{AddsBefore-piece, AddsBefore-at, AddsBefore-end, Puts-failed, Puts-last}
+use Rattle.pcc_status.proofs.Pieces.{AddsBefore-start, AddsBefore-piece, AddsBefore-at, AddsBefore-end, Puts-failed, Puts-last}
 use Rattle.pcc_status.proofs.lines.put_line.Goals as goal
 
 pub returns-in_err-write_all-clause-puts : goal.returns-in_err-write_all-clause-puts
