@@ -7,7 +7,7 @@ use Rattle.std.proofs.lemmas.List.Folds.{list_all-append}
 use Rattle.std.specs.List.{list_all}
 use Rattle.c_lexer.specs.declared.token.Lexeme.{Lexeme}
 use Rattle.c_lexer.specs.Tokens.{is_letter, is_digit, is_word_byte, is_punctuator, punctuator_token, goes_on_number, has_shape, token_of, word_token, word_lexeme, IsLongest}
-use Rattle.c_lexer.specs.Pieces.{begins_with, goes_on, IsFirstToken, HasNoShape, HasNoToken}
+use Rattle.c_lexer.specs.Pieces.{begins_with, goes_on, IsFirstToken, HasNoToken}
 use Rattle.c_lexer.proofs.Dividing.{longest_is_one}
 
 -- A piece is the longest where the text stops what it accepts behind itself.

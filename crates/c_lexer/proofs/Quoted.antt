@@ -1,11 +1,9 @@
 -- Where a character constant closes.
-use Rattle.std.proofs.Common.{◌≡◌, ◌⊎◌, inl, inr, ℕ, ◌+◌, ◌<◌, ◌==◌, List, [], ◌∷◌, ◌++◌, Bool, true, false, cond, ◌||◌, length, take, drop, get_or, sym, refl, ap, ◌∙◌, subst, append_assoc, arith, take-append-drop, eqb-true}
-use Rattle.std.proofs.lemmas.Bool.{false≢true, both_ways, cond-false, false_from_ne_true}
-use Rattle.std.proofs.lemmas.Bool.Decides.{nat_tests}
-use Rattle.c_lexer.specs.Tokens.{closes_character, has_shape, IsLongest}
+use Rattle.std.proofs.Common.{◌≡◌, ◌⊎◌, inl, inr, ℕ, ◌==◌, List, [], ◌∷◌, ◌++◌, Bool, true, false, cond, ◌||◌, take, drop, sym, refl, ap, ◌∙◌, subst, append_assoc, take-append-drop, eqb-true}
+use Rattle.std.proofs.lemmas.Bool.{false≢true, both_ways, false_from_ne_true}
+use Rattle.c_lexer.specs.Tokens.{closes_character, has_shape}
 use Rattle.c_lexer.specs.Pieces.{begins_with, is_quote, HasNoShape}
 use Rattle.c_lexer.proofs.Dividing.{fronts}
-use Rattle.c_lexer.proofs.Longest.{stops_longest, front_more}
 
 -- what closes a character constant, behind a backslash that takes the next byte along or not
 abbrev pub closes_behind : Bool → List ℕ → Bool
