@@ -1,5 +1,5 @@
 -- Writing a text piece by piece.
-use Rattle.std.proofs.Common.{◌≡◌, ℕ, ◌+◌, ◌<◌, ◌≤◌, List, [], ◌∷◌, ◌++◌, length, get_or, drop, Option, Result, Ok, Err, Bor, ap, sym, ◌∙◌, append_assoc, length-append, subst, arith}
+use Rattle.std.proofs.Common.{refl, ◌≡◌, ℕ, ◌+◌, ◌<◌, ◌≤◌, List, [], ◌∷◌, ◌++◌, length, get_or, drop, Option, Result, Ok, Err, Bor, ap, sym, ◌∙◌, append_assoc, length-append, subst, arith}
 use Rattle.std.proofs.lemmas.List.{drop_more, drop_all}
 use Rattle.std.specs.Prelude.{IsErr, OnOk, OnErr}
 use Rattle.pcc_outside.specs.Outside.{Rose, Adds, AddsPart}

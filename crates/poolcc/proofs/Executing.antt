@@ -11,7 +11,6 @@ use Rattle.poolcc.specs.Exec.{Executes, ExecGives}
 use Rattle.poolcc.specs.Seen.{status_seen}
 
 module _ (text : List ℕ) (limits : MachineLimits) (steps : ℕ) (left base : List ℕ) (left' written' : Option (List ℕ)) (form : Form) (compiles : Compiles text limits form) where
-
   executes : (answer : RunEnd) → RunGives form.functions (initial form.functions left) base steps answer left' written' → Executes text limits steps left base answer left' written'
   executes answer ran = record { form = form; compiles = compiles; ran = ran }
 

@@ -55,12 +55,7 @@ pub fn exec<F: Files, I: Source, O: Sink>(
 }
 
 // Compiles a text, and runs its image.
-fn run_text<I: Source, O: Sink>(
-    alloc: Global,
-    text: &[u8],
-    input: &mut I,
-    out: &mut O,
-) -> Status
+fn run_text<I: Source, O: Sink>(alloc: Global, text: &[u8], input: &mut I, out: &mut O) -> Status
     requires { length text.now ≤ 1048576 }
     ensures gives { (left base : List ℕ) → I.left input.old ≡ Some left → O.written out.old ≡ Some base
         → ExecGives text.now default_limits default_steps left base result (I.left input.new) (O.written out.new) }
@@ -79,12 +74,7 @@ fn run_text<I: Source, O: Sink>(
 }
 
 // Runs an image from its first step.
-fn run_image<I: Source, O: Sink>(
-    alloc: Global,
-    image: &Image,
-    input: &mut I,
-    out: &mut O,
-) -> RunEnd
+fn run_image<I: Source, O: Sink>(alloc: Global, image: &Image, input: &mut I, out: &mut O) -> RunEnd
     ensures gives { (left base : List ℕ) → I.left input.old ≡ Some left → O.written out.old ≡ Some base
         → let functions = (form_of image.now).functions in RunGives functions (initial functions left) base default_steps result (I.left input.new) (O.written out.new) }
     ensures read_cause { result ≡ RunEnd.ReadFault → Rose (I.faults input.old) (I.faults input.new) }

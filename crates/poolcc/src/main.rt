@@ -4,22 +4,20 @@
 mod command;
 mod compile;
 mod exec;
-mod text;
-mod top;
-
 #[cfg(test)]
 mod tests;
+mod text;
+mod top;
 
 pub use command::{Line, read_line};
 pub use compile::{compile, link};
 pub use exec::exec;
-pub use text::{Stop, image_of, parse};
-pub use top::poolcc;
-
 use pcc_outside::{HostFiles, StdSink, StdSource};
 use pcc_status::Status;
 use std::process::ExitCode;
 use std::{env, io};
+pub use text::{Stop, image_of, parse};
+pub use top::poolcc;
 
 /// Runs `poolcc` over the real files, standard input, output and error output.
 fn main(rt: HostRuntime) -> ExitCode {
@@ -29,7 +27,14 @@ fn main(rt: HostRuntime) -> ExitCode {
             let mut input = StdSource::new(rt.stdin());
             let mut out = StdSink::new(rt.stdout());
             let mut err = StdSink::new(rt.stderr());
-            poolcc(rt.alloc(), &words, &mut files, &mut input, &mut out, &mut err)
+            poolcc(
+                rt.alloc(),
+                &words,
+                &mut files,
+                &mut input,
+                &mut out,
+                &mut err,
+            )
         }
         Err(_) => Status::OutOfMemory,
     };
