@@ -1,5 +1,5 @@
 -- Items that stand one behind another.
-use Rattle.std.proofs.Common.{◌≡◌, ℕ, ◌<◌, ◌≤◌, List, [], ◌∷◌, ◌++◌, length, drop, refl, sym, ap, subst, ◌∙◌, arith, append_assoc}
+use Rattle.std.proofs.Common.{◌≡◌, ℕ, ◌<◌, List, [], ◌∷◌, ◌++◌, length, drop, refl, sym, ap, subst, ◌∙◌, arith, append_assoc}
 use Rattle.std.specs.List.{AllByRecursion, flat_map}
 use Rattle.std.proofs.lemmas.List.{length-append, append-nil}
 use Rattle.std.proofs.lemmas.Grind.{flat_map-append}
@@ -20,9 +20,6 @@ stands_on bytes at mid end a b first second = record {
   within = second.within;
 }
 
-pub stands_nowhere : (bytes : List ℕ) (at : ℕ) → at ≤ length bytes → StandsAt bytes at at []
-stands_nowhere bytes at within = record { parts = refl; end_is = omega arith; within = within }
-
 module _ {X : Type 0} (bytes_of : X → List ℕ) (IsItem : X → Type 0) (free : (a b : X) (x y : List ℕ) → bytes_of a ++ x ≡ bytes_of b ++ y → (a ≡ b) × (x ≡ y)) where
   pub one_more_bytes : (found : List X) (next : X) → flat_map bytes_of (found ++ next ∷ []) ≡ flat_map bytes_of found ++ bytes_of next
   one_more_bytes found next = flat_map-append bytes_of found (next ∷ []) ∙ ap (λ t. flat_map bytes_of found ++ t) (append-nil (bytes_of next))
@@ -35,9 +32,6 @@ module _ {X : Type 0} (bytes_of : X → List ℕ) (IsItem : X → Type 0) (free 
   pub one_more_each : (found : List X) (next : X) → AllByRecursion IsItem found → IsItem next → AllByRecursion IsItem (found ++ next ∷ [])
   one_more_each [] next each is = (is, tt)
   one_more_each (x ∷ found) next each is = (each.0, one_more_each found next each.1 is)
-
-  pub no_item_begins : (count : ℕ) (bytes : List ℕ) (at : ℕ) → BeginsAll IsItem bytes_of count bytes at [] at
-  no_item_begins count bytes at items rest each many here = (items, refl, here)
 
   -- what is left where fewer have been found has a first item
   pub one_more_begins : (count : ℕ) (bytes : List ℕ) (at here end : ℕ) (found : List X) (next : X) → length found < count → StandsAt bytes here end (bytes_of next) → BeginsAll IsItem bytes_of count bytes at found here → BeginsAll IsItem bytes_of count bytes at (found ++ next ∷ []) end

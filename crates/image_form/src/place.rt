@@ -26,7 +26,7 @@ fn instr_begun(bytes: &[u8], at: usize) -> Option<Instr> {
     }
 }
 
-// The greatest number that can follow the code of the instruction; the type of an operator is one too.
+// The greatest number that can follow the code of the instruction, the byte of a type among them; none: there is none.
 fn greatest_operand(instr: Instr, functions: u64, count: u64) -> Option<u64> {
     match instr {
         Instr::Jump(_) | Instr::JumpIfZero(_) | Instr::JumpIfNotZero(_) => count.checked_sub(1),

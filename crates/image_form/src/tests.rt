@@ -8,7 +8,7 @@ use std::test::Fail;
 // One function, which pushes 7 and exits with it.
 const SEVEN: &str = "5041494d01808004ffffffff0f000000010000010002010727";
 
-// That image changed, and the place of the fault.
+// That image changed, and the place of the fault, if there is one.
 const CHANGED: [(&str, Option<usize>); 13] = [
     (
         "5041494d01808004ffffffff0f00000001000001000201072700",
@@ -49,7 +49,7 @@ const CHANGED: [(&str, Option<usize>); 13] = [
     ),
 ];
 
-// Images made by chance, some of them damaged, with the answers of another reader.
+// Images made by chance, most of them damaged, with another reader's answers.
 const OTHERS: [(&str, Option<usize>); 22] = [
     (
         "5041494d0101ac0200000003001305010601071339076138022503350100044203153c0325023e0501020326",
