@@ -61,9 +61,6 @@ pub record IsCutBefore (text : List ℕ) (found : List Lexeme) (rest : List ℕ)
   pub joins : (more : List Lexeme) → Divides rest more → Divides text (found ++ more)
   pub splits : (lexemes : List Lexeme) → Divides text lexemes → (more : List Lexeme) × (lexemes ≡ found ++ more) × Divides rest more
 
-pub cut_start : (text : List ℕ) → IsCutBefore text [] text
-cut_start text = record { joins = λ more d. d; splits = λ lexemes d. (lexemes, refl, d) }
-
 pub cut_space : (text : List ℕ) (found : List Lexeme) (rest : List ℕ) (byte : ℕ) (others : List ℕ) → rest ≡ byte ∷ others → is_space byte ≡ true → IsCutBefore text found rest → IsCutBefore text found others
 cut_space text found rest byte others begins blank cut = record {
   joins = λ more d. cut.joins more (subst (λ t. Divides t more) (sym begins) (space byte others more blank d));

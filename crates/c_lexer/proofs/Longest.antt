@@ -1,12 +1,13 @@
 -- Where the longest piece at the front of a text ends.
-use Rattle.std.proofs.Common.{◌≡◌, ℕ, ◌+◌, ◌≤◌, ◌<◌, List, [], ◌∷◌, ◌++◌, Some, None, Bool, true, false, ◌&&◌, leb, length, take, drop, get_or, sym, refl, ap, ◌∙◌, append_assoc, append-nil, arith, take-append-drop, length-take-le, le-leb}
+use Rattle.std.proofs.Common.{◌≡◌, ℕ, suc, ◌+◌, ◌≤◌, ◌<◌, ◌==◌, List, [], ◌∷◌, ◌++◌, Some, None, Bool, true, false, ◌&&◌, leb, length, take, drop, get_or, sym, refl, ap, ◌∙◌, append_assoc, append-nil, arith, take-append-drop, ne_eqb, length-take-le, le-leb}
 use Rattle.std.proofs.lemmas.Bool.{false≢true, both_ways, and_parts, and_left, or_parts, cond-true, cond-false, lt-leb}
 use Rattle.std.proofs.lemmas.Bool.Decides.{nat_tests}
 use Rattle.std.proofs.lemmas.List.{take_more, at_drop_more, at_drop_all}
 use Rattle.std.proofs.lemmas.List.Folds.{list_all-append}
 use Rattle.std.specs.List.{list_all}
-use Rattle.c_lexer.specs.Tokens.{is_letter, is_digit, is_word_byte, goes_on_number, has_shape, token_of, word_token, word_lexeme, IsLongest}
-use Rattle.c_lexer.specs.Pieces.{begins_with, goes_on, HasNoShape, HasNoToken}
+use Rattle.c_lexer.specs.declared.token.Lexeme.{Lexeme}
+use Rattle.c_lexer.specs.Tokens.{is_letter, is_digit, is_word_byte, is_punctuator, punctuator_token, goes_on_number, has_shape, token_of, word_token, word_lexeme, IsLongest}
+use Rattle.c_lexer.specs.Pieces.{begins_with, goes_on, IsFirstToken, HasNoToken}
 use Rattle.c_lexer.proofs.Dividing.{longest_is_one}
 
 -- A piece is the longest where the text stops what it accepts behind itself.
@@ -29,17 +30,16 @@ no_token text count longest isn't = record {
       cc);
 }
 
-pub no_token_from_shape : (text : List ℕ) → HasNoShape text → HasNoToken text
-no_token_from_shape text none = record {
-  none = λ piece rest lexeme whole longest is. both_ways (has_shape piece) (none.none piece rest whole) longest.shape;
-}
-
 -- what the text begins with behind a front
 pub begins_at : (test : ℕ → Bool) (text : List ℕ) (count : ℕ) → count < length text → begins_with test (drop count text) ≡ test (get_or text count 0)
 begins_at test text count within = at_drop_more (begins_with test) text count 0 within
 
 pub begins_past : (test : ℕ → Bool) (text : List ℕ) (count : ℕ) → length text ≤ count → begins_with test (drop count text) ≡ false
 begins_past test text count past = at_drop_all (begins_with test) text count past
+
+pub begins_some : (test : ℕ → Bool) (text : List ℕ) → begins_with test text ≡ true → 1 ≤ length text
+begins_some test [] begins = absurd (false≢true begins)
+begins_some test (byte ∷ text) begins = omega arith
 
 -- one byte more at the front
 pub front_more : (text more : List ℕ) (count : ℕ) → count < length text → take (count + 1) text ++ more ≡ take count text ++ (get_or text count 0 ∷ more)
@@ -88,16 +88,23 @@ pub record IsNumberBefore (text : List ℕ) (count : ℕ) (last : ℕ) : Type 0 
 pub digit_no_letter : (byte : ℕ) → is_digit byte ≡ true → is_letter byte ≡ false
 digit_no_letter byte digit = grind (arith, nat_tests)
 
-pub number_begins : (text : List ℕ) → begins_with is_digit text ≡ true → IsNumberBefore text 1 (get_or text 0 0)
-number_begins [] digit = absurd (false≢true digit)
-number_begins (byte ∷ text) digit = record { goes = λ more. cond-false (is_letter byte) _ _ (digit_no_letter byte digit) ∙ cond-true (is_digit byte) _ _ digit }
-
-pub number_more : (text : List ℕ) (count last : ℕ) → count < length text → goes_on last (get_or text count 0) ≡ true → IsNumberBefore text count last → IsNumberBefore text (count + 1) (get_or text count 0)
-number_more text count last within goes before = record {
-  goes = λ more. ap has_shape (front_more text more count within) ∙ before.goes (get_or text count 0 ∷ more) ∙ ap (λ v. v && goes_on_number (get_or text count 0) more) goes;
-}
-
 pub number_longest : (text : List ℕ) (count last : ℕ) → IsNumberBefore text count last → begins_with (goes_on last) (drop count text) ≡ false → IsLongest (take count text) (drop count text)
 number_longest text count last before stop =
     stops_longest (goes_on_number last) (take count text) (drop count text) before.goes refl
     (λ byte more behind begins. and_left (goes_on last byte) (goes_on_number byte more) (ap (begins_with (goes_on last)) (sym begins) ∙ stop))
+
+punctuator_passes : (byte : ℕ) (lexeme : Lexeme) → Some lexeme ≡ punctuator_token byte → is_punctuator byte ≡ true
+punctuator_passes byte lexeme is = grind (arith, nat_tests)
+
+-- a punctuator is one byte
+pub punctuator_first : (text : List ℕ) (lexeme : Lexeme) → 0 < length text → is_letter (get_or text 0 0) ≡ false → is_digit (get_or text 0 0) ≡ false → (get_or text 0 0 ≡ 39 → ⊥) → Some lexeme ≡ punctuator_token (get_or text 0 0) → IsFirstToken text 1 lexeme
+punctuator_first [] lexeme some letter digit quote is = absurd (omega arith)
+punctuator_first (byte ∷ text) lexeme some letter digit quote is = record {
+  within = omega arith;
+  longest =
+      stops_longest (λ more. length more == 0) (byte ∷ []) text
+      (λ more. cond-false (is_letter byte) _ _ letter ∙ cond-false (is_digit byte) _ _ digit ∙ cond-false (byte == 39) _ _ (ne_eqb byte 39 quote) ∙ ap (λ v. v && length more == 0) (punctuator_passes byte lexeme is))
+      refl
+      (λ next more behind begins. ne_eqb (suc (length more)) 0 (λ e. omega arith));
+  is = cond-false (is_letter byte) _ _ letter ∙ cond-false (is_digit byte) _ _ digit ∙ cond-false (byte == 39) _ _ (ne_eqb byte 39 quote) ∙ sym is;
+}

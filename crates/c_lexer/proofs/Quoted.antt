@@ -1,49 +1,22 @@
 -- Where a character constant closes.
-use Rattle.std.proofs.Common.{◌≡◌, ◌⊎◌, inl, inr, ℕ, ◌+◌, ◌<◌, ◌==◌, List, [], ◌∷◌, ◌++◌, Bool, true, false, cond, ◌||◌, length, take, drop, get_or, sym, refl, ap, ◌∙◌, subst, append_assoc, arith, take-append-drop, eqb-true}
-use Rattle.std.proofs.lemmas.Bool.{false≢true, both_ways, cond-false, false_from_ne_true}
-use Rattle.std.proofs.lemmas.Bool.Decides.{nat_tests}
-use Rattle.c_lexer.specs.Tokens.{closes_character, has_shape, IsLongest}
+use Rattle.std.proofs.Common.{◌≡◌, ◌⊎◌, inl, inr, ℕ, ◌==◌, List, [], ◌∷◌, ◌++◌, Bool, true, false, cond, ◌||◌, take, drop, sym, refl, ap, ◌∙◌, subst, append_assoc, take-append-drop, eqb-true}
+use Rattle.std.proofs.lemmas.Bool.{false≢true, both_ways, false_from_ne_true}
+use Rattle.c_lexer.specs.Tokens.{closes_character, has_shape}
 use Rattle.c_lexer.specs.Pieces.{begins_with, is_quote, HasNoShape}
 use Rattle.c_lexer.proofs.Dividing.{fronts}
-use Rattle.c_lexer.proofs.Longest.{stops_longest, front_more}
 
 -- what closes a character constant, behind a backslash that takes the next byte along or not
 abbrev pub closes_behind : Bool → List ℕ → Bool
 closes_behind false more = closes_character more
 closes_behind true more = closes_character (92 ∷ more)
 
--- What has come so far of a character constant: it goes on with what closes it, and no front of it closed it.
+-- What has come so far of a character constant goes on with what closes it.
 pub record IsOpenBefore (text : List ℕ) (count : ℕ) (escaped : Bool) : Type 0 where
   pub goes : (more : List ℕ) → has_shape (take count text ++ more) ≡ closes_behind escaped more
 
 pub open_begins : (text : List ℕ) → begins_with is_quote text ≡ true → IsOpenBefore text 1 false
 open_begins [] quote = absurd (false≢true quote)
 open_begins (byte ∷ text) quote = record { goes = λ more. subst (λ b. has_shape (b ∷ more) ≡ closes_character more) (sym (eqb-true byte 39 quote)) refl }
-
-pub open_backslash : (text : List ℕ) (count : ℕ) → count < length text → get_or text count 0 ≡ 92 → IsOpenBefore text count false → IsOpenBefore text (count + 1) true
-open_backslash text count within is before = record {
-  goes = λ more. ap has_shape (front_more text more count within) ∙ before.goes (get_or text count 0 ∷ more) ∙ ap (λ b. closes_character (b ∷ more)) is;
-}
-
-pub open_escaped : (text : List ℕ) (count : ℕ) → count < length text → (get_or text count 0 ≡ 10 → ⊥) → IsOpenBefore text count true → IsOpenBefore text (count + 1) false
-open_escaped text count within isn't before = record {
-  goes = λ more. ap has_shape (front_more text more count within) ∙ before.goes (get_or text count 0 ∷ more) ∙ cond-false (get_or text count 0 == 10) false (closes_character more) (false_from_ne_true _ (λ e. isn't (eqb-true _ 10 e)));
-}
-
-plain_byte : (byte : ℕ) (more : List ℕ) → (byte ≡ 92 → ⊥) → (byte ≡ 39 → ⊥) → (byte ≡ 10 → ⊥) → closes_character (byte ∷ more) ≡ closes_character more
-plain_byte byte [] backslash quote newline = false_from_ne_true _ (λ e. quote (eqb-true byte 39 e))
-plain_byte byte (next ∷ more) backslash quote newline = grind (arith, nat_tests)
-
-pub open_plain : (text : List ℕ) (count : ℕ) → count < length text → (get_or text count 0 ≡ 92 → ⊥) → (get_or text count 0 ≡ 39 → ⊥) → (get_or text count 0 ≡ 10 → ⊥) → IsOpenBefore text count false → IsOpenBefore text (count + 1) false
-open_plain text count within backslash quote newline before = record {
-  goes = λ more. ap has_shape (front_more text more count within) ∙ before.goes (get_or text count 0 ∷ more) ∙ plain_byte (get_or text count 0) more backslash quote newline;
-}
-
-pub closed_longest : (text : List ℕ) (count : ℕ) → count < length text → get_or text count 0 ≡ 39 → IsOpenBefore text count false → IsLongest (take (count + 1) text) (drop (count + 1) text)
-closed_longest text count within is before =
-    stops_longest (λ more. closes_character (39 ∷ more)) (take (count + 1) text) (drop (count + 1) text)
-    (λ more. ap has_shape (front_more text more count within) ∙ before.goes (get_or text count 0 ∷ more) ∙ ap (λ b. closes_character (b ∷ more)) is)
-    refl (λ byte more behind begins. refl)
 
 -- two choices go the same way
 same_way : (a b c x y x' y' : Bool) → cond a (cond b false x) (cond c false y) ≡ true → cond a (cond b false x') (cond c false y') ≡ true → ((x ≡ true) × (x' ≡ true)) ⊎ ((y ≡ true) × (y' ≡ true))

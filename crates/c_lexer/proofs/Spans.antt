@@ -13,9 +13,6 @@ pub record StandBefore (text : List ℕ) (found : List Token) (start : ℕ) (res
   pub begins : rest ≡ drop start text
   pub joins : (more : List Token) → StandFrom text start more → StandFrom text 0 (found ++ more)
 
-pub stand_start : (text : List ℕ) → StandBefore text [] 0 text
-stand_start text = record { within = omega arith; begins = refl; joins = λ more stand. stand }
-
 earlier : (text : List ℕ) (from from' : ℕ) (tokens : List Token) → from' ≤ from → StandFrom text from tokens → StandFrom text from' tokens
 earlier text from from' [] before stand = stand
 earlier text from from' (token ∷ tokens) before stand = (omega (arith, stand.0), stand.1, stand.2, stand.3, stand.4)

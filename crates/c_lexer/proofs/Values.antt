@@ -1,6 +1,6 @@
 -- The values of constants.
-use Rattle.std.proofs.Common.{◌≡◌, ◌⊎◌, inl, inr, ℕ, zero, suc, ◌+◌, ◌-◌, ◌*◌, ◌^◌, ◌≤◌, ◌<◌, ◌==◌, List, [], ◌∷◌, Option, Some, None, Bool, true, false, cond, ◌&&◌, eqb, ltb, length, take, drop, get_or, sym, refl, ap, ◌∙◌, subst, arith, eqb-true, le-ltb, lt-ltb, le-leb, ne_eqb}
-use Rattle.std.proofs.lemmas.Bool.{false≢true, cases_Bool, cond-true, cond-false, cond_both, false_from_ne_true}
+use Rattle.std.proofs.Common.{◌≡◌, ◌⊎◌, inl, inr, ℕ, zero, suc, ◌+◌, ◌-◌, ◌*◌, ◌^◌, ◌≤◌, ◌<◌, ◌==◌, List, [], ◌∷◌, Option, Some, None, Bool, true, cond, ◌&&◌, ltb, length, take, drop, get_or, sym, refl, ap, ◌∙◌, subst, arith, eqb-true, le-ltb, lt-ltb, le-leb, ne_eqb}
+use Rattle.std.proofs.lemmas.Bool.{false≢true, cases_Bool, cond-true, cond-false, cond_both}
 use Rattle.std.proofs.lemmas.List.{at_drop_more, at_drop_all}
 use Rattle.std.specs.List.{list_all}
 use Rattle.c_lexer.specs.declared.token.Lexeme.TheVariants as L
@@ -37,21 +37,11 @@ decimal_token (first ∷ next ∷ rest) digit single =
     ∙ cond-false (first == 48) _ _ (ne_eqb first 48 (λ same. elim single [ inl short ↦ absurd (omega arith) | inr other ↦ other same ]))
     ∙ ap fitting_int (sym (from_first first (next ∷ rest) digit))
 
-pub leading_zero : (number : List ℕ) → get_or number 0 0 ≡ 48 → 1 < length number → token_of number ≡ None
-leading_zero [] same long = refl
-leading_zero (first ∷ []) same long = absurd (omega arith)
-leading_zero (first ∷ next ∷ rest) same long = subst (λ f. token_of (f ∷ next ∷ rest) ≡ None) (sym same) (cond-false (eqb (suc (length rest)) 0) (Some (L.Decimal 0)) None (ne_eqb (suc (length rest)) 0 (λ e. omega arith)))
-
 -- one digit more of a decimal number
 pub decimal_more : (number : List ℕ) (i value : ℕ) → i < length number → is_digit (get_or number i 0) ≡ true → fitting_int (decimal_from value (drop i number)) ≡ fitting_int (decimal_from (10 * value + (get_or number i 0 - 48)) (drop (i + 1) number))
 decimal_more number i value within digit =
     at_drop_more (λ digits. fitting_int (decimal_from value digits)) number i 0 within
     ∙ ap fitting_int (cond-true (is_digit (get_or number i 0)) _ _ digit)
-
-pub decimal_no_more : (number : List ℕ) (i value : ℕ) → i < length number → is_digit (get_or number i 0) ≡ false → fitting_int (decimal_from value (drop i number)) ≡ None
-decimal_no_more number i value within other =
-    at_drop_more (λ digits. fitting_int (decimal_from value digits)) number i 0 within
-    ∙ ap fitting_int (cond-false (is_digit (get_or number i 0)) _ _ other)
 
 pub decimal_done : (number : List ℕ) (i value : ℕ) → length number ≤ i → value < 2 ^ 31 → fitting_int (decimal_from value (drop i number)) ≡ Some (L.Decimal value)
 decimal_done number i value past small =
@@ -74,11 +64,6 @@ module _ (is_one : ℕ → Bool) (value_of : ℕ → ℕ) (base : ℕ) (positive
   byte_more digits i value within digit =
       at_drop_more (byte_from is_one value_of base value) digits i 0 within
       ∙ ap (λ b. cond (b && list_all is_one (drop (i + 1) digits)) (fitting_byte (digits_from value_of base (base * value + value_of (get_or digits i 0)) (drop (i + 1) digits))) None) digit
-
-  pub byte_no_more : (digits : List ℕ) (i value : ℕ) → i < length digits → is_one (get_or digits i 0) ≡ false → byte_from is_one value_of base value (drop i digits) ≡ None
-  byte_no_more digits i value within other =
-      at_drop_more (byte_from is_one value_of base value) digits i 0 within
-      ∙ ap (λ b. cond (b && list_all is_one (drop (i + 1) digits)) (fitting_byte (digits_from value_of base (base * value + value_of (get_or digits i 0)) (drop (i + 1) digits))) None) other
 
   pub byte_too_large : (digits : List ℕ) (i value : ℕ) → i < length digits → 256 ≤ base * value + value_of (get_or digits i 0) → byte_from is_one value_of base value (drop i digits) ≡ None
   byte_too_large digits i value within large =
@@ -118,7 +103,3 @@ hexadecimal_digit_some byte value is = elim (cases_Bool (is_hexadecimal_digit by
   | inl digit ↦ (let same : Some value ≡ Some (hexadecimal_value byte) = is ∙ cond-true (is_hexadecimal_digit byte) _ _ digit in (digit, cc))
   | inr other ↦ (let some_is_none : Some value ≡ None = is ∙ cond-false (is_hexadecimal_digit byte) _ _ other in cc)
 ]
-
-pub hexadecimal_digit_none : (byte : ℕ) → None ≡ hexadecimal_digit byte → is_hexadecimal_digit byte ≡ false
-hexadecimal_digit_none byte is = false_from_ne_true (is_hexadecimal_digit byte) (λ digit.
-    (let none_is_some : None ≡ Some (hexadecimal_value byte) = is ∙ cond-true (is_hexadecimal_digit byte) _ _ digit in cc))

@@ -9,6 +9,9 @@ use crate::pieces::Piece;
 use crate::token::{LexErr, Lexeme};
 use run_theory::Pos;
 
+/// The greatest number of digits of an octal escape.
+const OCTAL_DIGITS: usize = 3;
+
 /// The character constant that begins a text, which stands at `place`.
 pub(crate) fn character(text: &[u8], place: Pos) -> Result<Piece, LexErr>
     requires { IsTrue (begins_with is_quote text.now) }
@@ -82,11 +85,11 @@ fn escape_value(escape: &[u8]) -> Option<u8>
     }
 }
 
-/// The byte of at most three octal digits.
+/// The byte of at most three octal digits, where it fits.
 fn octal_byte(digits: &[u8]) -> Option<u8>
     ensures { result ≡ octal_byte digits.now }
 {
-    if digits.len() > 3 {
+    if digits.len() > OCTAL_DIGITS {
         return None;
     }
     let mut value: u8 = 0;
@@ -99,7 +102,7 @@ fn octal_byte(digits: &[u8]) -> Option<u8>
     Some(value)
 }
 
-/// The byte of at least one hexadecimal digit.
+/// The byte of at least one hexadecimal digit, where it fits.
 fn hexadecimal_byte(digits: &[u8]) -> Option<u8>
     ensures { result ≡ hexadecimal_byte digits.now }
 {
@@ -177,7 +180,7 @@ fn escape_length(text: &[u8]) -> usize
                 .count(),
         [first, ..] if is_octal_digit(*first) => text
             .iter()
-            .take(3)
+            .take(OCTAL_DIGITS)
             .take_while(|digit| is_octal_digit(**digit))
             .count(),
         _ => 1,

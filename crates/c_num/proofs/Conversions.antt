@@ -1,5 +1,5 @@
 -- The laws of conversion: the converted value is in range, congruent to what was converted, and the only such value.
-use Rattle.std.proofs.Common.{◌≡◌, ℕ, zero, suc, ◌+◌, ◌-◌, ◌*◌, ◌/◌, ◌%◌, ◌^◌, ◌<◌, ◌≤◌, Bool, true, false, cond, ◌&&◌, ℤ, pos, negsuc, ◌+ℤ◌, ◌-ℤ◌, ◌*ℤ◌, neg_ℤ, ◌≤ℤ◌, leb, ltb, leb-true, leb-false, le-leb, int_div, int_le, ◌<ℤ◌, ◌⊎◌, inl, inr, refl, sym, ap, ◌∙◌, arith, mod-eq_of_lt, true≢false}
+use Rattle.std.proofs.Common.{◌≡◌, ℕ, ◌+◌, ◌-◌, ◌/◌, ◌%◌, ◌^◌, ◌<◌, ◌≤◌, Bool, true, false, cond, ◌&&◌, ℤ, pos, negsuc, ◌+ℤ◌, ◌-ℤ◌, ◌*ℤ◌, neg_ℤ, ◌≤ℤ◌, leb, ltb, leb-true, leb-false, le-leb, int_div, int_le, ◌<ℤ◌, ◌⊎◌, inl, inr, refl, sym, ap, ◌∙◌, arith, mod-eq_of_lt, true≢false}
 use Rattle.std.proofs.Math.IntN.{suc_ℤ, suc_ℤ-*ℤ}
 use Rattle.std.proofs.lemmas.Int.{ints}
 use Rattle.std.proofs.lemmas.Bool.{and_right, lt-leb}
@@ -8,7 +8,7 @@ use Rattle.std.specs.Int.{int_rem_euclid}
 use Rattle.std.proofs.lemmas.Nat.{pow_pos}
 use Rattle.c_num.specs.declared.IntType.{IntType}
 use Rattle.c_num.specs.declared.IntType.TheVariants.{Char, UChar, Short, UShort, Int, UInt, Long, ULong}
-use Rattle.c_num.specs.Types.{width_of, is_signed, IsValue, least_of, greatest_of, rank_of, promoted, unsigned_of, common_of_signs, common_of_promoted, common_of}
+use Rattle.c_num.specs.Types.{width_of, is_signed, IsValue, greatest_of, rank_of, promoted, unsigned_of, common_of_signs, common_of_promoted, common_of}
 use Rattle.c_num.specs.Conversion.{modulo, IsCongruent, bits_of, value_of_bits, convert_to, word_of}
 
 -- ---- remainders

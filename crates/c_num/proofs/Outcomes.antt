@@ -1,5 +1,5 @@
 -- What the outcome of an operator tells, and that the total operators agree with it where it is a result.
-use Rattle.std.proofs.Common.{◌≡◌, ◌≢◌, ◌↔◌, ◌⊎◌, inl, inr, ℕ, zero, suc, ◌+◌, ◌-◌, ◌*◌, ◌/◌, ◌%◌, ◌^◌, ◌<◌, ◌≤◌, Bool, true, false, not, cond, ◌&&◌, ◌||◌, ℤ, pos, negsuc, ◌+ℤ◌, ◌-ℤ◌, ◌*ℤ◌, neg_ℤ, ◌≤ℤ◌, ◌<ℤ◌, int_le, int_lt, int_eq, Result, Ok, Err, IfOk, IfErr, IsTrue, refl, sym, ap, ◌∙◌, subst, arith, true≢false, rules, ⊎_elim, unsigned_abs, int_rem, bit_and, bit_or, bit_xor, mod-eq_of_lt, div-le_self}
+use Rattle.std.proofs.Common.{◌≡◌, ◌↔◌, ◌⊎◌, inl, inr, ℕ, suc, ◌-◌, ◌^◌, ◌<◌, Bool, true, false, not, cond, ◌&&◌, ◌||◌, ℤ, pos, negsuc, ◌+ℤ◌, ◌-ℤ◌, ◌*ℤ◌, neg_ℤ, ◌≤ℤ◌, ◌<ℤ◌, int_le, int_lt, int_eq, Result, Ok, Err, IfOk, IfErr, IsTrue, refl, sym, ap, ◌∙◌, arith, true≢false, ⊎_elim, unsigned_abs, int_rem, bit_and, bit_or, bit_xor, div-le_self}
 use Rattle.std.proofs.lemmas.Int.{ints, by_lt_z}
 use Rattle.std.proofs.lemmas.Nat.{and_le_l, or_lt, xor_lt}
 use Rattle.std.proofs.lemmas.Bool.{and_from, and_parts, and_cases, or_parts, not-false, not-true, or_from, le-ltb, lt-leb}
@@ -13,9 +13,9 @@ use Rattle.c_num.specs.declared.BinOp.TheVariants.{Add, Sub, Mul, Div, Rem, Shl,
 use Rattle.c_num.specs.declared.ArithUb.{ArithUb}
 use Rattle.c_num.specs.declared.ArithUb.TheVariants.{Overflow, DivideByZero, BadShift}
 use Rattle.c_num.specs.Types.{width_of, is_signed, IsSigned, IsValue, is_value, least_of, greatest_of}
-use Rattle.c_num.specs.Conversion.{modulo, bits_of, value_of_bits, convert_to, word_of}
+use Rattle.c_num.specs.Conversion.{modulo, bits_of, convert_to}
 use Rattle.c_num.specs.Arith.{exact, quotient, remainder, is_shift, IsRightOperand, divides_by_zero, is_bad_amount, is_out_of_range, is_bad_shift, overflows, outcome_of, wrapped_right, fitted, wrapped, negated_of, wrapped_negation, complement_of}
-use Rattle.c_num.proofs.Conversions.{convert_to-in_range, convert_to-same, convert_to-twice, value_of_bits-in_range, bits_below, modulo-same, modulo_below}
+use Rattle.c_num.proofs.Conversions.{convert_to-in_range, convert_to-same, value_of_bits-in_range, bits_below, modulo-same, modulo_below}
 
 pub le_from_test : (a b : ℤ) → int_le a b ≡ true → a ≤ℤ b
 le_from_test a b e = omega (arith, ints)

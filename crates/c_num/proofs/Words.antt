@@ -1,5 +1,5 @@
 -- The operators that work on words give the result that is wanted, once they are read as a value of the type.
-use Rattle.std.proofs.Common.{◌≡◌, ℕ, ◌+◌, ◌-◌, ◌*◌, ◌%◌, ◌^◌, ◌<◌, ◌≤◌, ◌≤ℤ◌, ◌<ℤ◌, neg_ℤ, negsuc, suc, int_div, int_eq, to_z, of_z, div-le_self, unsigned_abs, lit≤, FitsSigned, pow_mono, Bool, true, false, cond, not, ◌&&◌, ℤ, pos, ◌*ℤ◌, Result, Ok, Err, IsTrue, bit_and, bit_or, bit_xor, refl, sym, ap, ap₂, ◌∙◌, arith, true≢false}
+use Rattle.std.proofs.Common.{◌≡◌, ℕ, ◌-◌, ◌*◌, ◌%◌, ◌^◌, ◌<◌, ◌≤◌, ◌≤ℤ◌, ◌<ℤ◌, neg_ℤ, negsuc, suc, int_div, int_eq, of_z, div-le_self, unsigned_abs, lit≤, FitsSigned, pow_mono, true, false, ℤ, pos, ◌*ℤ◌, bit_and, bit_or, bit_xor, sym, ap, ap₂, ◌∙◌, arith, true≢false}
 use Rattle.std.proofs.lemmas.Nat.{and_mod, or_mod, xor_mod}
 use Rattle.std.proofs.lemmas.Int.{ints, fits_signed_mul, fits_signed_from_abs}
 use Rattle.std.proofs.lemmas.Bool.{false_from_ne_true}
@@ -8,11 +8,9 @@ use Rattle.std.specs.Int.{w128}
 use Rattle.c_num.specs.declared.IntType.{IntType}
 use Rattle.c_num.specs.declared.IntType.TheVariants.{Char, UChar, Short, UShort, Int, UInt, Long, ULong}
 use Rattle.c_num.specs.declared.BinOp.TheVariants.{And, Or, Xor}
-use Rattle.c_num.specs.declared.ArithUb.{ArithUb}
-use Rattle.c_num.specs.declared.ArithUb.TheVariants.{Overflow}
-use Rattle.c_num.specs.Types.{width_of, is_signed, IsSigned, IsValue, is_value}
-use Rattle.c_num.specs.Conversion.{modulo, bits_of, value_of_bits, convert_to, word_of}
-use Rattle.c_num.specs.Arith.{exact, is_bad_amount, fitted, complement_of}
+use Rattle.c_num.specs.Types.{width_of, is_signed, IsValue}
+use Rattle.c_num.specs.Conversion.{bits_of, value_of_bits, convert_to, word_of}
+use Rattle.c_num.specs.Arith.{exact, is_bad_amount, complement_of}
 use Rattle.c_num.proofs.Conversions.{bits-word, convert_to-value_of_bits, same_converted, congruent_from_word, modulo-congruent, word_of_unsigned}
 use Rattle.c_num.proofs.Outcomes.{and_below, or_below, xor_below, good_amount}
 

@@ -6,7 +6,8 @@ ghost use Rattle.c_num.specs.Arith.{quotient, remainder, exact, is_shift, IsRigh
 
 use crate::{ArithUb, BinOp, IntType, Relation, convert, value_of_word, word};
 
-/// The operator `op` on values `a` and `b` of type `t`. The amount of a shift may be any number.
+/// The operator `op` on values `a` and `b` of type `t` (C17 6.5.5 to 6.5.7 and 6.5.10 to 6.5.12). The amount of a shift
+/// may be any number.
 pub fn binary(op: BinOp, t: IntType, a: i128, b: i128) -> Result<i128, ArithUb>
     requires left { IsValue t a }
     requires right { IsRightOperand op t b }
@@ -252,7 +253,7 @@ pub fn wrap_negate(t: IntType, a: i128) -> i128
     convert(-convert(a, t), t)
 }
 
-/// The unary `~` of `a` converted to `t`: each bit turned round (C17 6.5.3.3 paragraph 4).
+/// The unary `~` of `a` converted to `t`: each bit inverted (C17 6.5.3.3 paragraph 4).
 pub fn complement(t: IntType, a: i128) -> i128
     ensures value { result ≡ complement_of t a }
     ensures in_range { IsValue t result }

@@ -8,12 +8,8 @@ use Rattle.std.specs.Prelude.{◌≡◌, ℕ, ◌+◌, ◌≤◌, List, [], ◌�
 use Rattle.c_ast.specs.Trees.{ExprTree, Decimal, Character, EndOfFile, GetChar, PutChar, Parenthesized, StmtTree, Empty, Expression, Return, ProgramTree}
 use Rattle.c_lexer.specs.declared.token.Lexeme.{Lexeme}
 use Rattle.c_lexer.specs.declared.token.Lexeme.TheVariants as L
-use Rattle.c_lexer.specs.declared.token.Token.{Token}
 use Rattle.c_lexer.specs.Tokens.{Divides}
-
--- what the tokens are, without where they stand
-abbrev pub lexemes_of : List Token → List Lexeme
-lexemes_of tokens = map (λ t. t.lexeme) tokens
+pub use Rattle.c_lexer.specs.Tokens.{lexemes_of}
 
 abbrev pub expr_leaves : ExprTree → List Lexeme
 expr_leaves (Decimal value) = L.Decimal value ∷ []

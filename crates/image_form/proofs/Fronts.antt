@@ -1,10 +1,10 @@
 -- Items that stand one behind another.
-use Rattle.std.proofs.Common.{◌≡◌, ℕ, ◌<◌, ◌≤◌, List, [], ◌∷◌, ◌++◌, suc, length, drop, refl, sym, ap, subst, ◌∙◌, arith, append_assoc}
+use Rattle.std.proofs.Common.{◌≡◌, ℕ, ◌<◌, ◌≤◌, List, [], ◌∷◌, ◌++◌, length, drop, refl, sym, ap, subst, ◌∙◌, arith, append_assoc}
 use Rattle.std.specs.List.{AllByRecursion, flat_map}
 use Rattle.std.proofs.lemmas.List.{length-append, append-nil}
 use Rattle.std.proofs.lemmas.Grind.{flat_map-append}
 use Rattle.pool_isa.specs.Spelling.{StandsAt}
-use Rattle.std.specs.Prelude.{Err, Some, slice_get, ◌-◌}
+use Rattle.std.specs.Prelude.{Err}
 use Rattle.pool_isa.specs.Ranges.{LastIs}
 use Rattle.pool_isa.specs.Number.{number_bytes}
 use Rattle.pool_isa.proofs.Numbers.{same_number}
@@ -24,10 +24,13 @@ pub stands_nowhere : (bytes : List ℕ) (at : ℕ) → at ≤ length bytes → S
 stands_nowhere bytes at within = record { parts = refl; end_is = omega arith; within = within }
 
 module _ {X : Type 0} (bytes_of : X → List ℕ) (IsItem : X → Type 0) (free : (a b : X) (x y : List ℕ) → bytes_of a ++ x ≡ bytes_of b ++ y → (a ≡ b) × (x ≡ y)) where
+  pub one_more_bytes : (found : List X) (next : X) → flat_map bytes_of (found ++ next ∷ []) ≡ flat_map bytes_of found ++ bytes_of next
+  one_more_bytes found next = flat_map-append bytes_of found (next ∷ []) ∙ ap (λ t. flat_map bytes_of found ++ t) (append-nil (bytes_of next))
+
   -- one more item behind those that stand
   pub one_more_stands : (bytes : List ℕ) (at here end : ℕ) (found : List X) (next : X) → StandsAt bytes at here (flat_map bytes_of found) → StandsAt bytes here end (bytes_of next) → StandsAt bytes at end (flat_map bytes_of (found ++ next ∷ []))
   one_more_stands bytes at here end found next first second =
-      subst (StandsAt bytes at end) (ap (λ t. flat_map bytes_of found ++ t) (sym (append-nil (bytes_of next))) ∙ sym (flat_map-append bytes_of found (next ∷ []))) (stands_on bytes at here end (flat_map bytes_of found) (bytes_of next) first second)
+      subst (StandsAt bytes at end) (sym (one_more_bytes found next)) (stands_on bytes at here end (flat_map bytes_of found) (bytes_of next) first second)
 
   pub one_more_each : (found : List X) (next : X) → AllByRecursion IsItem found → IsItem next → AllByRecursion IsItem (found ++ next ∷ [])
   one_more_each [] next each is = (is, tt)
@@ -78,13 +81,20 @@ module _ {X : Type 0} (bytes_of : X → List ℕ) (IsItem : X → Type 0) (free 
   items_refused view views count bytes at here found (Bad place) fewer begins none = none_begin count bytes at here found fewer begins none
   items_refused view views count bytes at here found OutOfMemory fewer begins none = tt
 
--- the last of a list, by its place
-pub last_is : {X : Type 0} (P : X → Type 0) (xs : List X) (x : X) → Some x ≡ slice_get xs (length xs - 1) → (P x → LastIs P xs) × (LastIs P xs → P x)
-last_is P [] x e = absurd (cc)
-last_is P (a ∷ []) x e = let same : x ≡ a = cc in (λ p. subst P same p, λ p. subst P (sym same) p)
-last_is P (a ∷ b ∷ xs) x e =
-    let place : length (a ∷ b ∷ xs) - 1 ≡ suc (length (b ∷ xs) - 1) = omega arith in
-    last_is P (b ∷ xs) x (e ∙ ap (slice_get (a ∷ b ∷ xs)) place)
+-- a list as its last item and those before it
+pub last_of : {X : Type 0} (P : X → Type 0) (xs : List X) → LastIs P xs → (front : List X) × (last : X) × (xs ≡ front ++ last ∷ []) × P last
+last_of P [] is = absurd is
+last_of P (x ∷ []) is = ([], x, refl, is)
+last_of P (x ∷ y ∷ xs) is = let l = last_of P (y ∷ xs) is in (x ∷ l.0, l.1, ap (λ t. x ∷ t) l.2, l.3)
+
+pub last_is : {X : Type 0} (P : X → Type 0) (front : List X) (last : X) → P last → LastIs P (front ++ last ∷ [])
+last_is P [] last is = is
+last_is P (x ∷ []) last is = is
+last_is P (x ∷ y ∷ front) last is = last_is P (y ∷ front) last is
+
+pub each_before : {X : Type 0} (P : X → Type 0) (front : List X) (last : X) → AllByRecursion P (front ++ last ∷ []) → AllByRecursion P front × P last
+each_before P [] last each = (tt, each.0)
+each_before P (x ∷ front) last each = let e = each_before P front last each.1 in ((each.0, e.0), e.1)
 
 -- the number that stands at a place is the one, and what follows it stands behind
 pub number_there : (bytes : List ℕ) (at mid m n : ℕ) (tail : List ℕ) → StandsAt bytes at mid (number_bytes m) → drop at bytes ≡ number_bytes n ++ tail → (m ≡ n) × (drop mid bytes ≡ tail)

@@ -1,17 +1,22 @@
 -- Functions as their numbers and their instructions.
 use Rattle.std.proofs.Common.{◌≡◌, ℕ, ◌≤◌, List, [], ◌∷◌, ◌++◌, length, drop, sym, ap, subst, ◌∙◌, arith, append_assoc}
+use Rattle.std.specs.Prelude.{IsTrue, ◌-◌, Result, Ok, Err, Vec}
+use Rattle.std.specs.declared.alloc.Global.{Global}
 use Rattle.std.specs.List.{AllByRecursion}
+use Rattle.std.proofs.lemmas.List.{length-append}
 use Rattle.pool_isa.specs.Instr.{spelling}
 use Rattle.pool_isa.specs.Number.{number_bytes}
 use Rattle.pool_isa.specs.Spelling.{StandsAt}
 use Rattle.pool_isa.specs.Machine as machine
-use Rattle.pool_isa.specs.Ranges.{LastIs, IsFunction}
+use Rattle.pool_isa.specs.Ranges.{IsWithin, is_last, LastIs, IsFunction}
 use Rattle.pool_isa.proofs.Numbers.{same_number}
 use Rattle.pool_isa.proofs.Instrs.{same_instr}
 use Rattle.image_form.specs.declared.reading.Head.{Head}
-use Rattle.image_form.specs.Form.{function_bytes}
-use Rattle.image_form.specs.Reading.{IsInstr, IsCode, code_bytes, IsHead, head_bytes, head_of, function_with}
-use Rattle.image_form.proofs.Fronts.{same_items, stands_on}
+use Rattle.image_form.specs.declared.image.Function.{Function}
+use Rattle.image_form.specs.declared.image.ImageErr.{ImageErr}
+use Rattle.image_form.specs.Form.{function_bytes, counted, BeginsWithStart}
+use Rattle.image_form.specs.Reading.{IsInstr, IsInstrs, IsLastInstr, IsCode, code_bytes, IsHead, head_bytes, head_of, function_with, Finds, IsFunctions, IsAllFunctions, functions_of, functions_bytes}
+use Rattle.image_form.proofs.Fronts.{same_items, stands_on, number_there, refused_by, last_of, last_is, each_before, one_more_bytes, one_more_each}
 
 -- the bytes of a head, cut behind each number
 pub head_cut : (h : Head) (rest : List ℕ) → head_bytes h ++ rest ≡ number_bytes h.parameters ++ (number_bytes h.extra ++ (number_bytes h.height ++ (number_bytes h.signature ++ (number_bytes h.count ++ rest))))
@@ -38,6 +43,28 @@ function_split f rest =
 some_last : {X : Type 0} (P : X → Type 0) (xs : List X) → LastIs P xs → 1 ≤ length xs
 some_last P [] last = absurd last
 some_last P (x ∷ xs) last = omega arith
+
+-- the instructions of a function, cut before the last
+pub code_cut : (functions count : ℕ) (code : List _) (rest : List ℕ) → IsCode functions count code → (front : List _) × (last : _) × (code ≡ front ++ last ∷ []) × IsInstrs functions count (count - 1) front × IsLastInstr functions count last × (code_bytes code ++ rest ≡ code_bytes front ++ (spelling last ++ rest))
+code_cut functions count code rest is =
+    let l = last_of (λ instr. IsTrue (is_last instr)) code is.1 in
+    let each = each_before (IsInstr functions count) l.0 l.1 (subst (AllByRecursion (IsInstr functions count)) l.2 is.0.1) in
+    let long = ap length l.2 ∙ length-append l.0 (l.1 ∷ []) in
+    let many = is.0.0 in
+    (l.0, l.1, l.2, (omega arith, each.0), (each.1, l.3), ap (λ c. code_bytes c ++ rest) l.2 ∙ ap (λ t. t ++ rest) (one_more_bytes spelling (IsInstr functions count) same_instr l.0 l.1) ∙ append_assoc (code_bytes l.0) (spelling l.1) rest)
+
+-- where the instructions before the last stand, the last stands behind them
+pub last_behind : (bytes : List ℕ) (at mid functions count : ℕ) (front code : List _) (rest : List ℕ) → IsInstrs functions count (count - 1) front → StandsAt bytes at mid (code_bytes front) → IsCode functions count code → drop at bytes ≡ code_bytes code ++ rest → (last : _) × IsLastInstr functions count last × (drop mid bytes ≡ spelling last ++ rest)
+last_behind bytes at mid functions count front code rest before stands is start =
+    let cut = code_cut functions count code rest is in
+    let same = same_items spelling (IsInstr functions count) same_instr front cut.0 (drop mid bytes) (spelling cut.1 ++ rest) (before.0 ∙ sym cut.3.0) (sym stands.parts ∙ start ∙ cut.5) in
+    (cut.1, cut.4, same.1)
+
+pub code_ends : (functions count : ℕ) (front : List _) (last : _) → 1 ≤ count → IsInstrs functions count (count - 1) front → IsLastInstr functions count last → IsCode functions count (front ++ last ∷ [])
+code_ends functions count front last some before is =
+    let long = length-append front (last ∷ []) in
+    let many = before.0 in
+    ((omega arith, one_more_each spelling (IsInstr functions count) same_instr front last before.1 is.0), last_is (λ instr. IsTrue (is_last instr)) front last is.1)
 
 pub head_is : (n : ℕ) (f : machine.Function) → IsFunction 0 n f → IsHead (head_of f)
 head_is n f is =
@@ -78,3 +105,38 @@ same_function a b x y e =
     let h = heads.0 in
     let codes = same_items spelling (λ _. Unit {0}) same_instr a.code b.code x y (ap (λ (h : Head). h.count) h) heads.1 in
     (same_parts _ _ _ _ _ _ _ _ _ _ (ap (λ (h : Head). h.parameters) h) (ap (λ (h : Head). h.extra) h) (ap (λ (h : Head). h.height) h) (ap (λ (h : Head). h.signature) h) codes.0, codes.1)
+
+-- the bytes of functions behind the parameters of the first
+abbrev behind_parameters : machine.Function → List machine.Function → List ℕ → List ℕ
+behind_parameters f fs rest = (number_bytes f.extra ++ (number_bytes f.height ++ (number_bytes f.signature ++ counted spelling f.code))) ++ (functions_bytes fs ++ rest)
+
+parameters_first : (f : machine.Function) (fs : List machine.Function) (rest : List ℕ) → functions_bytes (f ∷ fs) ++ rest ≡ number_bytes f.parameters ++ behind_parameters f fs rest
+parameters_first f fs rest = append_assoc (function_bytes f) (functions_bytes fs) rest ∙ append_assoc (number_bytes f.parameters) _ _
+
+-- the bytes of functions, of which the first has no parameters
+pub begins_with_zero : (fs : List machine.Function) (rest : List ℕ) → BeginsWithStart fs → (tail : List ℕ) × (functions_bytes fs ++ rest ≡ number_bytes 0 ++ tail)
+begins_with_zero [] rest start = absurd start
+begins_with_zero (f ∷ fs) rest start = (_, parameters_first f fs rest ∙ ap (λ n. number_bytes n ++ behind_parameters f fs rest) start)
+
+-- where functions stand and the number 0 does too, the first has no parameters
+start_is_first : (bytes : List ℕ) (at end : ℕ) (fs : List machine.Function) (rest : List ℕ) → 1 ≤ length fs → StandsAt bytes at end (number_bytes 0) → drop at bytes ≡ functions_bytes fs ++ rest → BeginsWithStart fs
+start_is_first bytes at end [] rest some stands front = absurd (omega (arith, some))
+start_is_first bytes at end (f ∷ fs) rest some stands front =
+    sym (number_there bytes at end 0 f.parameters (behind_parameters f fs rest) stands (front ∙ parameters_first f fs rest)).0
+
+-- So many functions, the first without parameters, are all of an image; where they don't stand, those don't.
+pub all_functions : (bytes : List ℕ) (at mid end count none : ℕ) (result : Result (Vec Function Global × ℕ) ImageErr) → IsWithin 1 4097 count → StandsAt bytes at mid (number_bytes count) → IsWithin 0 0 none → StandsAt bytes mid end (number_bytes none)
+    → Finds (IsFunctions count) functions_bytes functions_of bytes mid result → Finds IsAllFunctions (counted function_bytes) functions_of bytes at result
+all_functions bytes at mid end count none (Ok found) within stands is_none none_stands finds =
+    let fs = functions_of found.0 in
+    let many = finds.0.0 in
+    let same : none ≡ 0 = let i = is_none in omega arith in
+    let start = start_is_first bytes mid end fs (drop found.1 bytes) (let w = within.0 in omega arith) (subst (λ n. StandsAt bytes mid end (number_bytes n)) same none_stands) finds.1.parts in (
+      (let w = within.1 in omega arith, subst (λ n. AllByRecursion (IsFunction 0 n) fs) (sym many) finds.0.1, start),
+      subst (λ n. StandsAt bytes at found.1 (number_bytes n ++ functions_bytes fs)) (sym many) (stands_on bytes at mid found.1 (number_bytes count) (functions_bytes fs) stands finds.1),
+    )
+all_functions bytes at mid end count none (Err fault) within stands is_none none_stands finds =
+    refused_by (IsFunctions count) functions_bytes functions_of IsAllFunctions (counted function_bytes) functions_of bytes at mid fault
+    (λ fs rest is front.
+    let a = number_there bytes at mid count (length fs) _ stands (front ∙ append_assoc (number_bytes (length fs)) (functions_bytes fs) rest) in
+    (fs, rest, (sym a.0, subst (λ n. AllByRecursion (IsFunction 0 n) fs) (sym a.0) is.1), a.1)) finds

@@ -34,15 +34,19 @@ IsDecodedUnlessMemory view (Ok image) form = view image ≡ form
 IsDecodedUnlessMemory view (Err (Bad place)) form = ⊥
 IsDecodedUnlessMemory view (Err OutOfMemory) form = Unit {0}
 
--- an instruction with its operand in range; so many of them; and the last one such that control doesn't fall through
+-- An instruction of a function of `count` with its operand in range; so many of them; one that control doesn't fall
+-- through; and all of a function, of which the last is such.
 abbrev pub IsInstr : ℕ → ℕ → Instr → Type 0
 IsInstr functions count instr = Fits instr × InRange 0 functions count instr
 
-abbrev pub IsInstrs : ℕ → ℕ → List Instr → Type 0
-IsInstrs functions count code = (length code ≡ count) × AllByRecursion (IsInstr functions count) code
+abbrev pub IsInstrs : ℕ → ℕ → ℕ → List Instr → Type 0
+IsInstrs functions count many code = (length code ≡ many) × AllByRecursion (IsInstr functions count) code
+
+abbrev pub IsLastInstr : ℕ → ℕ → Instr → Type 0
+IsLastInstr functions count instr = IsInstr functions count instr × IsTrue (is_last instr)
 
 abbrev pub IsCode : ℕ → ℕ → List Instr → Type 0
-IsCode functions count code = IsInstrs functions count code × LastIs (λ instr. IsTrue (is_last instr)) code
+IsCode functions count code = IsInstrs functions count count code × LastIs (λ instr. IsTrue (is_last instr)) code
 
 abbrev pub instrs_of : Vec Instr Global → List Instr
 instrs_of code = code.items

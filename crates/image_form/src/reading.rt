@@ -1,15 +1,16 @@
 // An image from its bytes.
 
-ghost use Rattle.std.specs.Prelude.{◌≡◌, ℕ, ◌≤◌, ◌<◌, ◌^◌, List, [], ◌∷◌, length, drop, map, IfOk, IfErr, IsTrue, ◌↔◌};
-ghost use Rattle.pool_isa.specs.Ranges.{IsWithin, InRange, is_last, LastIs, IsFunction};
+ghost use Rattle.std.specs.Prelude.{◌≡◌, ℕ, ◌≤◌, List, [], ◌∷◌, length, IfOk, IfErr, IsTrue, ◌↔◌};
+ghost use Rattle.pool_isa.specs.Ranges.{IsWithin, InRange, is_last, IsFunction};
 ghost use Rattle.pool_isa.specs.Number.{number_bytes};
 ghost use Rattle.pool_isa.specs.Spelling.{StandsAt};
 ghost use Rattle.pool_isa.specs.Instr.{spelling};
-ghost use Rattle.image_form.specs.Form.{Form, form_of, function_of, function_bytes, counted, BeginsWithStart, image_bytes, IsImage, ImageOf};
-ghost use Rattle.image_form.specs.Reading.{Finds, IsInstr, IsInstrs, IsCode, instrs_of, code_bytes, IsHeader, opening_bytes, IsHead, head_bytes, function_with, functions_of, form_with, IsFunctions, IsAllFunctions, functions_bytes, IsDecodedUnlessMemory};
+ghost use Rattle.image_form.specs.Form.{Form, form_of, function_of, function_bytes, counted, image_bytes, IsImage, ImageOf};
+ghost use Rattle.image_form.specs.Reading.{Finds, IsInstr, IsLastInstr, IsInstrs, IsCode, instrs_of, code_bytes, IsHeader, opening_bytes, IsHead, head_bytes, function_with, functions_of, form_with, IsFunctions, IsAllFunctions, functions_bytes, IsDecodedUnlessMemory};
 
 use crate::image::{Function, Globals, Image, ImageErr, MachineLimits};
-use pool_isa::{BadInstr, BadNumber, Instr, decode_number, decode_one};
+use crate::place;
+use pool_isa::{Instr, decode_number, decode_one};
 use std::alloc::Global;
 
 // A number within a range, its ends included, and the place behind it.
@@ -22,10 +23,10 @@ fn number_within(bytes: &[u8], at: usize, low: u64, high: u64) -> Result<(u64, u
             if low <= number && number <= high {
                 Ok((number, end))
             } else {
-                Err(ImageErr::Bad(end.saturating_sub(1)))
+                Err(ImageErr::Bad(place::in_number(bytes, at, high)))
             }
         }
-        Err(BadNumber(place)) => Err(ImageErr::Bad(place)),
+        Err(_) => Err(ImageErr::Bad(place::in_number(bytes, at, high))),
     }
 }
 
@@ -34,8 +35,9 @@ fn is_in_range(instr: Instr, functions: u64, count: u64) -> bool
     ensures { IsTrue result ↔ InRange 0 functions count instr }
 {
     match instr {
-        Instr::Jump(target) | Instr::JumpIfZero(target) | Instr::JumpIfNotZero(target) => target
-            < count,
+        Instr::Jump(target) | Instr::JumpIfZero(target) | Instr::JumpIfNotZero(target) => {
+            target < count
+        }
         Instr::Call(function) => function < functions,
         Instr::PoolInit(_) => false,
         _ => true,
@@ -52,25 +54,15 @@ fn instr(bytes: &[u8], at: usize, functions: u64, count: u64) -> Result<(Instr, 
             if is_in_range(instr, functions, count) {
                 Ok((instr, end))
             } else {
-                Err(ImageErr::Bad(end - 1))
+                Err(ImageErr::Bad(place::in_instr(bytes, at, functions, count)))
             }
         }
-        Err(BadInstr(place)) => Err(ImageErr::Bad(place)),
+        Err(_) => Err(ImageErr::Bad(place::in_instr(bytes, at, functions, count))),
     }
 }
 
-// Whether control doesn't fall through the last instruction; there is one.
-fn ends_well(code: &[Instr]) -> bool
-    ensures { IsTrue result ↔ LastIs (λ instr. IsTrue (is_last instr)) code.now }
-{
-    match code.last() {
-        Some(instr) => is_last_kind(*instr),
-        None => false,
-    }
-}
-
-// Whether control doesn't fall through the instruction.
-fn is_last_kind(instr: Instr) -> bool
+/// Whether control doesn't fall through the instruction.
+pub(crate) fn is_last_kind(instr: Instr) -> bool
     ensures { result ≡ is_last instr }
 {
     matches!(
@@ -79,20 +71,43 @@ fn is_last_kind(instr: Instr) -> bool
     )
 }
 
-// So many instructions.
+// The last instruction of a function: control doesn't fall through it.
+fn last_instr(
+    bytes: &[u8],
+    at: usize,
+    functions: u64,
+    count: u64,
+) -> Result<(Instr, usize), ImageErr>
+    requires { at ≤ length bytes.now }
+    ensures { Finds (IsLastInstr functions count) spelling (λ i. i) bytes.now at result }
+{
+    match decode_one(bytes, at) {
+        Ok((instr, end)) => {
+            if is_in_range(instr, functions, count) && is_last_kind(instr) {
+                Ok((instr, end))
+            } else {
+                Err(ImageErr::Bad(place::in_last_instr(bytes, at, functions, count)))
+            }
+        }
+        Err(_) => Err(ImageErr::Bad(place::in_last_instr(bytes, at, functions, count))),
+    }
+}
+
+// So many instructions of a function of `count`.
 fn instrs(
     alloc: Global,
     bytes: &[u8],
     at: usize,
     functions: u64,
     count: u64,
+    many: u64,
 ) -> Result<(Vec<Instr>, usize), ImageErr>
     requires { at ≤ length bytes.now }
-    ensures { Finds (IsInstrs functions count) code_bytes instrs_of bytes.now at result }
+    ensures { Finds (IsInstrs functions count many) code_bytes instrs_of bytes.now at result }
 {
     let mut code = Vec::new(alloc);
     let mut here = at;
-    for index in 0..count {
+    for index in 0..many {
         let (next, end) = match instr(bytes, here, functions, count) {
             Ok(found) => found,
             Err(fault) => return Err(fault),
@@ -176,7 +191,7 @@ fn read_head(bytes: &[u8], at: usize) -> Result<(Head, usize), ImageErr>
     ))
 }
 
-// The instructions of a function, of which control doesn't fall through the last.
+// The instructions of a function.
 fn code(
     alloc: Global,
     bytes: &[u8],
@@ -184,18 +199,21 @@ fn code(
     functions: u64,
     count: u64,
 ) -> Result<(Vec<Instr>, usize), ImageErr>
-    requires { at ≤ length bytes.now }
+    requires within { at ≤ length bytes.now }
+    requires some { 1 ≤ count }
     ensures { Finds (IsCode functions count) code_bytes instrs_of bytes.now at result }
 {
-    match instrs(alloc, bytes, at, functions, count) {
-        Ok((code, end)) => {
-            if ends_well(&code) {
-                Ok((code, end))
-            } else {
-                Err(ImageErr::Bad(end.saturating_sub(1)))
-            }
-        }
-        Err(fault) => Err(fault),
+    let (mut code, at) = match instrs(alloc, bytes, at, functions, count, count - 1) {
+        Ok(found) => found,
+        Err(fault) => return Err(fault),
+    };
+    let (last, end) = match last_instr(bytes, at, functions, count) {
+        Ok(found) => found,
+        Err(fault) => return Err(fault),
+    };
+    match code.push(last) {
+        Ok(()) => Ok((code, end)),
+        Err(_) => Err(ImageErr::OutOfMemory),
     }
 }
 
@@ -310,16 +328,6 @@ fn read_header(bytes: &[u8]) -> Result<(Header, usize), ImageErr>
     Ok((Header { slabs, index, size }, at))
 }
 
-// Whether function 0 can be `start`: it is there, and has no parameters.
-fn begins_with_start(functions: &[Function]) -> bool
-    ensures { IsTrue result ↔ BeginsWithStart (map function_of functions.now) }
-{
-    match functions.first() {
-        Some(start) => start.parameters == 0,
-        None => false,
-    }
-}
-
 // The functions of an image: how many, and then each.
 fn counted_functions(
     alloc: Global,
@@ -329,18 +337,13 @@ fn counted_functions(
     requires { at ≤ length bytes.now }
     ensures { Finds IsAllFunctions (counted function_bytes) functions_of bytes.now at result }
 {
-    let (count, at) = match number_within(bytes, at, 1, 4_097) {
+    let (count, first) = match number_within(bytes, at, 1, 4_097) {
         Ok(found) => found,
         Err(fault) => return Err(fault),
     };
-    match functions(alloc, bytes, at, count) {
-        Ok((functions, end)) => {
-            if begins_with_start(&functions) {
-                Ok((functions, end))
-            } else {
-                Err(ImageErr::Bad(at))
-            }
-        }
+    // The first function is `start`, and begins with its number of parameters, which is 0.
+    match number_within(bytes, first, 0, 0) {
+        Ok(_) => functions(alloc, bytes, first, count),
         Err(fault) => Err(fault),
     }
 }

@@ -1,9 +1,7 @@
 // The bytes of an image.
 
-ghost use Rattle.std.specs.Prelude.{◌≡◌, ◌+◌, ◌++◌, ◌<◌, List, length, map, IfOk, OnOk};
-ghost use Rattle.std.specs.List.{flat_map};
+ghost use Rattle.std.specs.Prelude.{◌≡◌, ◌++◌, map, IfOk, OnOk};
 ghost use Rattle.pool_isa.specs.Instr.{spelling};
-ghost use Rattle.pool_isa.specs.Number.{number_bytes};
 ghost use Rattle.image_form.specs.Form.{form_of, function_of, function_bytes, counted, header_bytes, contents_bytes, image_bytes, IsImage};
 
 use crate::image::{Function, Image};

@@ -14,16 +14,19 @@ abbrev pub told : {B : Type 0} → Option (Vec ℕ B) → Told
 told None = Missing
 told (Some bytes) = Holds bytes.items
 
+-- what is told of a choice
 told-cond : {B : Type 0} (b : Bool) (file : Vec ℕ B) (rest : Option (Vec ℕ B)) → cond b (Holds file.items) (told rest) ≡ told (cond b (Some file) rest)
 told-cond true file rest = refl
 told-cond false file rest = refl
 
+-- a list of files tells what a look-up by the name does
 told-lookup : {A B : Type 0} (name : List ℕ) → (entries : List (String A × Vec ℕ B)) →
     file_of (map (λ file. (string_bytes file.0, file.1.items)) entries) name
     ≡ told (lookup (is_at (λ key. slice_cmp nat_cmp name (string_bytes key))) entries)
 told-lookup name [] = refl
 told-lookup name (file ∷ files) = rw (is_eq-slice_cmp, told-lookup name files) (told-cond (bytes_eq name (string_bytes file.0)) file.1 _)
 
+-- the same of a map
 pub told-get : {A B : Type 0} (files : BTreeMap (String A) (Vec ℕ B)) (name : List ℕ) → file_of (files_of files) name ≡ told (get_by_text files name)
 told-get files name = told-lookup name files.entries
 

@@ -19,6 +19,7 @@ IsFront Untold front = Unit {0}
 IsFront Missing front = Unit {0}
 IsFront (Holds bytes) front = (rest : List ℕ) × (bytes ≡ front ++ rest)
 
+-- before any byte was read
 pub IsFront-start : (file : Told) → IsFront file []
 IsFront-start Untold = tt
 IsFront-start Missing = tt
@@ -28,12 +29,14 @@ IsFront-start (Holds bytes) = (bytes, refl)
 rest_is : (bytes front rest : List ℕ) → bytes ≡ front ++ rest → drop (length front) bytes ≡ rest
 rest_is bytes front rest e = rw e (drop_at front rest (length front) refl)
 
+-- a front part and the bytes behind it are a front part
 pub IsFront-more : (file : Told) (front got : List ℕ) → IsFront file front → Gives file (length front) got → IsFront file (front ++ got)
 IsFront-more Untold front got h k = tt
 IsFront-more Missing front got h k = tt
 IsFront-more (Holds bytes) front got h k =
     (k.0, h.1 ∙ (ap (λ r. front ++ r) (sym (rest_is bytes front h.0 h.1) ∙ k.1) ∙ sym (append_assoc front got k.0)))
 
+-- a front part with nothing behind it is the whole file
 pub IsFront-whole : (file : Told) (front got : List ℕ) → got ≡ [] → IsFront file front → Gives file (length front) got → IsWhole file front
 IsFront-whole Untold front got none h k = tt
 IsFront-whole Missing front got none h k = k

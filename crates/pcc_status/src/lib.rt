@@ -1,6 +1,8 @@
 //! What a command comes to, and what is said of it: the program's answers, their exit statuses and their lines.
 #![tactic(auto)]
 
+mod lines;
 mod status;
 
+pub use lines::say;
 pub use status::{FuncId, LexKind, LimitKind, Refusal, Status, SyntaxKind, TypeRule, UsageKind};

@@ -81,6 +81,23 @@ pub enum LexKind {
     NameTooLong,
 }
 
+impl LexKind {
+    ghost use Rattle.pcc_status.specs.Texts.{lex_name};
+
+    /// The kind as it is printed.
+    pub fn name(self) -> &'static str
+        ensures { result.now ≡ lex_name self }
+    {
+        match self {
+            LexKind::BadByte => "BadByte",
+            LexKind::BadLiteral => "BadLiteral",
+            LexKind::Unclosed => "Unclosed",
+            LexKind::BadDirective => "BadDirective",
+            LexKind::NameTooLong => "NameTooLong",
+        }
+    }
+}
+
 /// A syntactic refusal.
 #[derive(Clone, Copy, Debug, PartialEq, Eq)]
 pub enum SyntaxKind {
@@ -88,6 +105,20 @@ pub enum SyntaxKind {
     At,
     /// The token would fit if nesting had no limit.
     TooDeep,
+}
+
+impl SyntaxKind {
+    ghost use Rattle.pcc_status.specs.Texts.{syntax_name};
+
+    /// The kind as it is printed.
+    pub fn name(self) -> &'static str
+        ensures { result.now ≡ syntax_name self }
+    {
+        match self {
+            SyntaxKind::At => "syntax",
+            SyntaxKind::TooDeep => "nesting",
+        }
+    }
 }
 
 /// A type rule, as it is printed.
@@ -119,6 +150,42 @@ pub enum TypeRule {
     T24,
 }
 
+impl TypeRule {
+    ghost use Rattle.pcc_status.specs.Texts.{rule_name};
+
+    /// The rule as it is printed, from `T01` to `T24`.
+    pub fn name(self) -> &'static str
+        ensures { result.now ≡ rule_name self }
+    {
+        match self {
+            TypeRule::T01 => "T01",
+            TypeRule::T02 => "T02",
+            TypeRule::T03 => "T03",
+            TypeRule::T04 => "T04",
+            TypeRule::T05 => "T05",
+            TypeRule::T06 => "T06",
+            TypeRule::T07 => "T07",
+            TypeRule::T08 => "T08",
+            TypeRule::T09 => "T09",
+            TypeRule::T10 => "T10",
+            TypeRule::T11 => "T11",
+            TypeRule::T12 => "T12",
+            TypeRule::T13 => "T13",
+            TypeRule::T14 => "T14",
+            TypeRule::T15 => "T15",
+            TypeRule::T16 => "T16",
+            TypeRule::T17 => "T17",
+            TypeRule::T18 => "T18",
+            TypeRule::T19 => "T19",
+            TypeRule::T20 => "T20",
+            TypeRule::T21 => "T21",
+            TypeRule::T22 => "T22",
+            TypeRule::T23 => "T23",
+            TypeRule::T24 => "T24",
+        }
+    }
+}
+
 /// A limit of a source, as it is printed.
 #[derive(Clone, Copy, Debug, PartialEq, Eq)]
 pub enum LimitKind {
@@ -134,6 +201,24 @@ pub enum LimitKind {
     L5,
     /// Bytes of globals and literals: 1,073,741,824.
     L6,
+}
+
+impl LimitKind {
+    ghost use Rattle.pcc_status.specs.Texts.{limit_name};
+
+    /// The limit as it is printed, from `L1` to `L6`.
+    pub fn name(self) -> &'static str
+        ensures { result.now ≡ limit_name self }
+    {
+        match self {
+            LimitKind::L1 => "L1",
+            LimitKind::L2 => "L2",
+            LimitKind::L3 => "L3",
+            LimitKind::L4 => "L4",
+            LimitKind::L5 => "L5",
+            LimitKind::L6 => "L6",
+        }
+    }
 }
 
 impl Status {

@@ -124,8 +124,8 @@ called callee None top callers state = trap traps.BadCall state
 called callee (Some function) top callers state =
     if nat_lt (length top.operands) function.parameters then trap traps.StackEmpty state
     else if nat_lt (length callers) 10000 then
-      resumed (record { function = callee; place = 0; operands = []; start = next_start top; bytes = flat_map (little_bytes 8) (reverse (take function.parameters top.operands)) ++ replicate function.extra 0 }
-        ∷ advanced top (drop function.parameters top.operands) ∷ callers) state
+    resumed (record { function = callee; place = 0; operands = []; start = next_start top; bytes = flat_map (little_bytes 8) (reverse (take function.parameters top.operands)) ++ replicate function.extra 0 }
+    ∷ advanced top (drop function.parameters top.operands) ∷ callers) state
     else Halt DepthReached state
 
 -- the caller gets the value, where its function may hold one more operand
@@ -169,8 +169,8 @@ perform (Some instrs.ReturnValue) functions function top callers state = with_on
 perform (Some instrs.Exit) functions function top callers state = with_one top.operands state (λ word rest. Halt (Ended (word % 256)) state)
 perform (Some instrs.GetChar) functions function top callers state =
     if nat_lt (length top.operands) function.height
-      then To (record { activations = advanced top (input_word state.input ∷ top.operands) ∷ callers; input = after_next state.input; trace = state.trace })
-      else trap traps.StackFull state
+    then To (record { activations = advanced top (input_word state.input ∷ top.operands) ∷ callers; input = after_next state.input; trace = state.trace })
+    else trap traps.StackFull state
 perform (Some instrs.PutChar) functions function top callers state =
     with_one top.operands state (λ word rest. To (record { activations = advanced top (word % 256 ∷ rest) ∷ callers; input = state.input; trace = state.trace ++ Output (word % 256) ∷ [] }))
 perform _ functions function top callers state = trap traps.Reached state

@@ -1,45 +1,22 @@
--- What `exec` does: a text is read, compiled, encoded, decoded and run.
-use Rattle.std.specs.Prelude.{◌≡◌, ◌≢◌, ℕ, ◌<◌, ◌⊎◌, List, Option, Some, length}
-use Rattle.run_theory.specs.Runs.{Run, Follows}
-use Rattle.c_ast.specs.Trees.{ProgramTree}
-use Rattle.c_ast.specs.Reference.{reference}
-use Rattle.c_lexer.specs.declared.token.Lexeme.{Lexeme}
-use Rattle.c_lexer.specs.Tokens.{Divides}
-use Rattle.c_reader.specs.Grammar.{Parses, Reads}
-use Rattle.pool_isa.specs.Machine.{mach, initial}
+-- What `exec` answers, and what a whole command does.
+use Rattle.std.specs.Prelude.{◌≡◌, ℕ, ◌<◌, ◌⊎◌, List, Option, Some, length}
+use Rattle.pcc_outside.specs.Outside.{Told, Missing, Holds}
+use Rattle.pool_isa.specs.Machine.{initial}
 use Rattle.image_form.specs.declared.image.MachineLimits.{MachineLimits}
-use Rattle.image_form.specs.Form.{Form, IsImage, ImageOf}
-use Rattle.machine.specs.declared.RunEnd.{RunEnd}
-use Rattle.machine.specs.declared.RunEnd.TheVariants as E
-use Rattle.machine.specs.Running.{RunGives}
+use Rattle.image_form.specs.Form.{Form}
+use Rattle.machine.specs.declared.ends.RunEnd.{RunEnd}
+use Rattle.machine.specs.declared.ends.RunEnd.TheVariants as E
+use Rattle.machine.specs.Run.{RunGives}
 use Rattle.pcc_status.specs.declared.status.Status.{Status}
 use Rattle.pcc_status.specs.declared.status.Status.TheVariants as S
-use Rattle.pcc_status.specs.declared.status.Refusal.{Refusal}
-use Rattle.pcc_status.specs.declared.status.Refusal.TheVariants as R
-
--- The run of an image on an input, within limits: no instruction that is there takes memory of the heap, so that no
--- limit is reached yet.
-abbrev pub machine_run : Form → MachineLimits → List ℕ → Run
-machine_run form limits input = mach form.functions input
-
--- The image is the program's: its fields are in their ranges, it holds the limits, and it follows the program on
--- every input and within all limits.
-pub record IsImageFor (program : ProgramTree) (limits : MachineLimits) (form : Form) : Type 0 where
-  pub ranges : IsImage form
-  pub holds : form.limits ≡ limits
-  pub follows : (input : List ℕ) (within : MachineLimits) → Follows (reference program input) (machine_run form within input)
-
--- The text reads as a program, and the image, which has been encoded and decoded, is that program's.
-pub record Compiles (text : List ℕ) (limits : MachineLimits) (form : Form) : Type 0 where
-  pub program : ProgramTree
-  pub reads : Reads text program
-  pub encoded : List ℕ
-  pub decoded : ImageOf encoded form
-  pub image : IsImageFor program limits form
+use Rattle.pcc_status.specs.declared.status.UsageKind.TheVariants as U
+use Rattle.poolcc.specs.Command.{Line, NoCommand, NoLine, Exec}
+use Rattle.poolcc.specs.Compiled.{Compiles}
+use Rattle.poolcc.specs.Refused.{IsRefused}
 
 -- The text was compiled, and the machine has run its image from the first step: this is its answer, this is what is
--- left of the input, and this is what was added to the output.
-pub record Executes (text : List ℕ) (limits : MachineLimits) (left base : List ℕ) (steps : ℕ) (answer : RunEnd) (left' written' : Option (List ℕ)) : Type 0 where
+-- left of the input, and this is what was written, the new output behind the base.
+pub record Executes (text : List ℕ) (limits : MachineLimits) (steps : ℕ) (left base : List ℕ) (answer : RunEnd) (left' written' : Option (List ℕ)) : Type 0 where
   pub form : Form
   pub compiles : Compiles text limits form
   pub ran : RunGives form.functions (initial form.functions left) base steps answer left' written'
@@ -49,32 +26,43 @@ pub record IsUntouched (left base : List ℕ) (left' written' : Option (List ℕ
   pub input : left' ≡ Some left
   pub output : written' ≡ Some base
 
--- The refusal is the text's: it is lexical where the text doesn't divide into tokens, and syntactic where its tokens
--- are the leaves of no program.
-abbrev pub IsRefused : List ℕ → Refusal → Type 0
-IsRefused text (R.Lex kind place) = (tokens : List Lexeme) → Divides text tokens → ⊥
-IsRefused text (R.Syntax kind place) = (tokens : List Lexeme) × Divides text tokens × ((program : ProgramTree) → Parses tokens program → ⊥)
-IsRefused text (R.TypeRule rule place) = ⊥
-IsRefused text (R.Limit limit count) = ⊥
-IsRefused text (R.Graph count) = ⊥
-IsRefused text (R.Pools function count) = ⊥
-
 -- What exec answers for a file's text, before its line on the error output: what the image's run gives; a refusal of
 -- the text; that it is too long; or a fault or want of memory, before the run or in it.
-abbrev pub ExecGives : List ℕ → MachineLimits → List ℕ → List ℕ → ℕ → Status → Option (List ℕ) → Option (List ℕ) → Type 0
-ExecGives text limits left base steps (S.Program status) left' written' = Executes text limits left base steps (E.Ended status) left' written'
-ExecGives text limits left base steps S.Depth left' written' = Executes text limits left base steps E.Depth left' written'
-ExecGives text limits left base steps S.HeapExhausted left' written' = Executes text limits left base steps E.HeapExhausted left' written'
-ExecGives text limits left base steps S.IndexExhausted left' written' = Executes text limits left base steps E.IndexExhausted left' written'
-ExecGives text limits left base steps S.StepsSpent left' written' = Executes text limits left base steps E.StepsSpent left' written'
-ExecGives text limits left base steps (S.Trapped kind) left' written' = Executes text limits left base steps (E.Trapped kind) left' written'
-ExecGives text limits left base steps (S.Refused refusal) left' written' = IsRefused text refusal × IsUntouched left base left' written'
-ExecGives text limits left base steps S.SourceTooLong left' written' = (1048576 < length text) × IsUntouched left base left' written'
-ExecGives text limits left base steps S.ReadFault left' written' = IsUntouched left base left' written' ⊎ Executes text limits left base steps E.ReadFault left' written'
-ExecGives text limits left base steps S.WriteFault left' written' = Executes text limits left base steps E.WriteFault left' written'
-ExecGives text limits left base steps S.OutOfMemory left' written' = IsUntouched left base left' written' ⊎ Executes text limits left base steps E.OutOfMemory left' written'
-ExecGives text limits left base steps S.Done left' written' = ⊥
-ExecGives text limits left base steps (S.Undefined kind place) left' written' = ⊥
-ExecGives text limits left base steps (S.BadImage at) left' written' = ⊥
-ExecGives text limits left base steps S.ImageTooLong left' written' = ⊥
-ExecGives text limits left base steps (S.Usage kind) left' written' = ⊥
+abbrev pub ExecGives : List ℕ → MachineLimits → ℕ → List ℕ → List ℕ → Status → Option (List ℕ) → Option (List ℕ) → Type 0
+ExecGives text limits steps left base (S.Program status) left' written' = Executes text limits steps left base (E.Ended status) left' written'
+ExecGives text limits steps left base S.Depth left' written' = Executes text limits steps left base E.Depth left' written'
+ExecGives text limits steps left base S.HeapExhausted left' written' = Executes text limits steps left base E.HeapExhausted left' written'
+ExecGives text limits steps left base S.IndexExhausted left' written' = Executes text limits steps left base E.IndexExhausted left' written'
+ExecGives text limits steps left base S.StepsSpent left' written' = Executes text limits steps left base E.StepsSpent left' written'
+ExecGives text limits steps left base (S.Trapped kind) left' written' = Executes text limits steps left base (E.Trapped kind) left' written'
+ExecGives text limits steps left base (S.Refused refusal) left' written' = IsRefused text refusal × IsUntouched left base left' written'
+ExecGives text limits steps left base S.SourceTooLong left' written' = (1048576 < length text) × IsUntouched left base left' written'
+ExecGives text limits steps left base S.ReadFault left' written' = IsUntouched left base left' written' ⊎ Executes text limits steps left base E.ReadFault left' written'
+ExecGives text limits steps left base S.WriteFault left' written' = Executes text limits steps left base E.WriteFault left' written'
+ExecGives text limits steps left base S.OutOfMemory left' written' = IsUntouched left base left' written' ⊎ Executes text limits steps left base E.OutOfMemory left' written'
+ExecGives text limits steps left base S.Done left' written' = ⊥
+ExecGives text limits steps left base (S.Undefined kind place) left' written' = ⊥
+ExecGives text limits steps left base (S.BadImage at) left' written' = ⊥
+ExecGives text limits steps left base S.ImageTooLong left' written' = ⊥
+ExecGives text limits steps left base (S.Usage kind) left' written' = ⊥
+
+-- the words are faulty
+abbrev pub IsUsage : Status → Type 0
+IsUsage (S.Usage kind) = Unit {0}
+IsUsage status = ⊥
+
+-- the slab limit and the index limit that hold where none are given
+abbrev pub default_limits : MachineLimits
+default_limits = record { slabs = 65536; index = 4294967295 }
+
+-- how many steps a run has where no limit is given
+abbrev pub default_steps : ℕ
+default_steps = 1000000000
+
+-- What a command line comes to, before its line on the error output, by what is told of each file, of the input and of
+-- the output.
+pub record Answers (line : Line) (contents : List ℕ → Told) (left written left' written' : Option (List ℕ)) (answer : Status) : Type 0 where
+  pub no_command : line ≡ NoCommand → (answer ≡ S.Usage U.Command) × (left' ≡ left) × (written' ≡ written)
+  pub no_line : line ≡ NoLine → (answer ≡ S.Usage U.Words) × (left' ≡ left) × (written' ≡ written)
+  pub exec : (file text input base : List ℕ) → line ≡ Exec file → contents file ≡ Holds text → left ≡ Some input → written ≡ Some base → ExecGives text default_limits default_steps input base answer left' written'
+  pub missing : (file : List ℕ) → line ≡ Exec file → contents file ≡ Missing → ((answer ≡ S.ReadFault) ⊎ (answer ≡ S.OutOfMemory)) × (left' ≡ left) × (written' ≡ written)

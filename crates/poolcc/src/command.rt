@@ -1,7 +1,8 @@
 // Command lines.
 
 ghost use Rattle.std.specs.Prelude.{◌≡◌, map, string_bytes};
-ghost use Rattle.poolcc.specs.Command.{line_of, seen};
+ghost use Rattle.poolcc.specs.Command.{is_option as begins_as_option, exec_line, line_of};
+ghost use Rattle.poolcc.specs.Seen.{line_seen};
 
 /// What the words say.
 pub enum Line<'a> {
@@ -14,22 +15,40 @@ pub enum Line<'a> {
 }
 
 /// Reads a command line, the program's name first.
-pub fn line(words: &[String]) -> Line<'_>
-    ensures { seen result ≡ line_of (map string_bytes words.now) }
+pub fn read_line(words: &[String]) -> Line<'_>
+    ensures { line_seen result ≡ line_of (map string_bytes words.now) }
 {
-    let [_, command, rest @ ..] = words else {
-        return Line::NoCommand;
-    };
-    if command.as_str() != "exec" {
-        return Line::NoCommand;
+    match words {
+        [_, command, rest @ ..] => {
+            if command.as_str() == "exec" {
+                read_exec(rest)
+            } else {
+                Line::NoCommand
+            }
+        }
+        _ => Line::NoCommand,
     }
-    match rest {
-        [file] if !is_option(file.as_str()) => Line::Exec(file.as_str()),
+}
+
+// Reads what `exec` takes.
+fn read_exec(words: &[String]) -> Line<'_>
+    ensures { line_seen result ≡ exec_line (map string_bytes words.now) }
+{
+    match words {
+        [file] => {
+            if is_option(file.as_str()) {
+                Line::NoLine
+            } else {
+                Line::Exec(file.as_str())
+            }
+        }
         _ => Line::NoLine,
     }
 }
 
 // A word that begins with `-` is an option, and no file.
-fn is_option(word: &str) -> bool {
-    word.as_bytes().first() == Some(&b'-')
+fn is_option(word: &str) -> bool
+    ensures { result ≡ begins_as_option word.now }
+{
+    matches!(word.as_bytes(), [b'-', ..])
 }

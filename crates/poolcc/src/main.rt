@@ -1,4 +1,51 @@
-//! The program `poolcc`.
+//! The program `poolcc`: compiles a C text to an image for its own machine, and runs it.
 #![tactic(auto)]
 
-fn main() {}
+mod command;
+mod compile;
+mod exec;
+#[cfg(test)]
+mod tests;
+mod text;
+mod top;
+
+pub use command::{Line, read_line};
+pub use compile::{compile, link};
+pub use exec::exec;
+use pcc_outside::{HostFiles, StdSink, StdSource};
+use pcc_status::Status;
+use std::process::ExitCode;
+use std::{env, io};
+pub use text::{Stop, image_of, parse};
+pub use top::poolcc;
+
+/// Runs `poolcc` over the real files, standard input, output and error output.
+fn main(rt: HostRuntime) -> ExitCode {
+    let status = match words_of(&rt) {
+        Ok(words) => {
+            let mut files = HostFiles::new(rt);
+            let mut input = StdSource::new(rt.stdin());
+            let mut out = StdSink::new(rt.stdout());
+            let mut err = StdSink::new(rt.stderr());
+            poolcc(
+                rt.alloc(),
+                &words,
+                &mut files,
+                &mut input,
+                &mut out,
+                &mut err,
+            )
+        }
+        Err(_) => Status::OutOfMemory,
+    };
+    ExitCode::from(status.exit_status())
+}
+
+// The words of the command line, the program's name first.
+fn words_of(rt: &HostRuntime) -> io::Result<Vec<String>> {
+    let mut words = Vec::new(rt.alloc());
+    for word in env::args(rt)? {
+        words.push(word)?;
+    }
+    Ok(words)
+}

@@ -10,7 +10,7 @@ use Rattle.pool_isa.specs.declared.instr.Instr.TheVariants as instrs
 use Rattle.tac_ir.specs.declared.Op.{Op}
 use Rattle.tac_ir.specs.declared.Op.TheVariants as O
 use Rattle.stack_code.specs.Emission.{op_code, successor_of, way_to, block, blocks, count, opening, place_of, function_code}
-use Rattle.stack_code.specs.Fits.{NamesBelow}
+use Rattle.tac_ir.specs.Fits.{NamesBelow}
 
 -- The instructions stand in the code from a place on.
 abbrev pub StandsAt : List Instr → ℕ → List Instr → Type 0

@@ -13,7 +13,7 @@ use Rattle.tac_ir.specs.declared.Op.{Op}
 use Rattle.tac_ir.specs.declared.Op.TheVariants as O
 use Rattle.tac_ir.specs.declared.Tac.{Tac}
 use Rattle.stack_code.specs.Emission.{op_code, successor_of, way_to, block, blocks, opening, place_of, function_code, start_function, main_function, functions_of}
-use Rattle.stack_code.specs.Fits.{NamesBelow, FitsFrame}
+use Rattle.tac_ir.specs.Fits.{NamesBelow, FitsFrame}
 use Rattle.stack_code.proofs.Words.{word_fits}
 use Rattle.stack_code.proofs.Places.{way_to-fits, blocks-fits, block_stands}
 

@@ -5,7 +5,7 @@ use Rattle.pool_isa.specs.Machine.{mach}
 use Rattle.tac_ir.specs.declared.Tac.{Tac}
 use Rattle.tac_ir.specs.Meaning.{tac_run}
 use Rattle.stack_code.specs.Emission.{functions_of}
-use Rattle.stack_code.specs.Fits.{FitsFrame}
+use Rattle.tac_ir.specs.Fits.{FitsFrame}
 
 -- On every input the machine does what the three-address code does, in at most 8 steps for each of the code's, and 2
 -- before them.

@@ -1,5 +1,4 @@
 pub mod Emission
-pub mod Fits
 pub mod Laws
 pub mod Places
 pub mod Units

@@ -6,7 +6,7 @@ ghost use Rattle.std.specs.List.{AllByRecursion};
 ghost use Rattle.c_num.specs.Conversion.{modulo};
 ghost use Rattle.pool_isa.specs.Ranges.{IsFunction};
 ghost use Rattle.stack_code.specs.Emission.{op_code, successor_of, way_to, block, function_code, start_function, main_function, functions_of, offset_of};
-ghost use Rattle.stack_code.specs.Fits.{NamesBelow, FitsFunction, FitsFrame};
+ghost use Rattle.tac_ir.specs.Fits.{NamesBelow, FitsFunction, FitsFrame};
 ghost use Rattle.stack_code.specs.Places.{ArePlaces};
 ghost use Rattle.stack_code.specs.Units.{unit_function, unit_functions};
 

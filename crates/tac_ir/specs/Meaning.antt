@@ -22,8 +22,8 @@ lost state = Halt (Undefined Ub.U04 (record { line = 1; column = 1 })) state
 abbrev pub write : ℕ → ℤ → ℕ → List ℕ → Trace → State → Move State
 write to value next input trace state =
     if nat_lt to (length state.registers)
-      then To (record { at = next; registers = slice_set state.registers to value; input = input; trace = trace })
-      else lost state
+    then To (record { at = next; registers = slice_set state.registers to value; input = input; trace = trace })
+    else lost state
 
 -- goes on with the value of a register
 abbrev pub read : Option ℤ → State → (ℤ → Move State) → Move State

@@ -23,7 +23,10 @@ pub enum Op {
         next: PointId,
     },
     /// Writes what `getchar` gives to a register.
-    GetChar { to: Register, next: PointId },
+    GetChar {
+        to: Register,
+        next: PointId,
+    },
     /// Hands a register to `putchar`, and writes what that gives to a register.
     PutChar {
         from: Register,
@@ -31,7 +34,9 @@ pub enum Op {
         next: PointId,
     },
     /// Ends the function with the value of a register.
-    Return { from: Register },
+    Return {
+        from: Register,
+    },
 }
 
 /// A function: its points, the one at which it begins, and how many registers it has.

@@ -17,3 +17,13 @@ pub returns-in-putchar : goal.returns-in-putchar
 returns-in-putchar c =
     let is : c.args.word.now ≡ codes "putchar" = text_from_reads _ _ (search rules) (search rules) in
     sym (ap word_lexeme is)
+
+pub returns-in-void : goal.returns-in-void
+returns-in-void c =
+    let is : c.args.word.now ≡ codes "void" = text_from_reads _ _ (search rules) (search rules) in
+    sym (ap word_lexeme is)
+
+pub returns-in-main : goal.returns-in-main
+returns-in-main c =
+    let is : c.args.word.now ≡ codes "main" = text_from_reads _ _ (search rules) (search rules) in
+    sym (ap word_lexeme is)

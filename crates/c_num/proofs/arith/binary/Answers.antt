@@ -1,9 +1,9 @@
-use Rattle.std.proofs.Common.{◌≡◌, ℕ, ◌+ℤ◌, ◌-ℤ◌, ◌*ℤ◌, ℤ, pos, refl, sym, ap, ◌∙◌, Ok, FitsSigned, to_z, of_z, to_z-of_z, bit_and, bit_or, bit_xor, rules, arith}
+use Rattle.std.proofs.Common.{◌≡◌, ◌+ℤ◌, ◌-ℤ◌, ◌*ℤ◌, refl, ap, ◌∙◌, Ok, FitsSigned, to_z, of_z, to_z-of_z, rules, arith}
 use Rattle.std.specs.Int.{w128}
 use Rattle.std.proofs.lemmas.Int.{ints}
-use Rattle.c_num.specs.declared.BinOp.TheVariants.{Add, Sub, Mul, Div, Rem, Shl, Shr, And, Or, Xor}
+use Rattle.c_num.specs.declared.BinOp.TheVariants.{Add, Sub, Div, Rem, Shl, Shr, And, Or, Xor}
 use Rattle.c_num.specs.Types.{IsValue, IsSigned}
-use Rattle.c_num.specs.Conversion.{convert_to, word_of}
+use Rattle.c_num.specs.Conversion.{convert_to}
 use Rattle.c_num.specs.Arith.{exact, fitted, outcome_of}
 use Rattle.c_num.proofs.Outcomes.{explained, fitted_outcome, ok_outcome, product_outcome}
 use Rattle.c_num.proofs.Words.{value_bounds, and_in_type, or_in_type, xor_in_type}

@@ -1,4 +1,4 @@
-use Rattle.std.proofs.Common.{◌≡◌, ◌^◌, ◌-◌, ◌<◌, pos, ap, ◌∙◌, FitsSigned, to_z-of_z, rules}
+use Rattle.std.proofs.Common.{◌≡◌, ◌^◌, ◌-◌, pos, ap, ◌∙◌, FitsSigned, to_z-of_z, rules}
 use Rattle.std.specs.Int.{w128}
 use Rattle.c_num.specs.Conversion.{convert_to, word_of}
 use Rattle.c_num.proofs.Conversions.{word_below}

@@ -1,7 +1,7 @@
-use Rattle.std.proofs.Common.{◌≡◌, neg_ℤ, pos, ◌-ℤ◌, ℤ, ap, ◌∙◌, arith, to_z, of_z, rules}
+use Rattle.std.proofs.Common.{◌≡◌, neg_ℤ, pos, ◌-ℤ◌, ap, ◌∙◌, arith, to_z, of_z}
 use Rattle.std.specs.Int.{w128}
 use Rattle.std.proofs.lemmas.Int.{ints}
-use Rattle.c_num.specs.Arith.{fitted, negated_of}
+use Rattle.c_num.specs.Arith.{fitted}
 use Rattle.c_num.proofs.Outcomes.{negated-overflow, negated-only_overflow, negated-in_range, fitted_negation}
 use Rattle.c_num.proofs.Words.{value_bounds}
 use Rattle.c_num.proofs.arith.negate.Goals as goal

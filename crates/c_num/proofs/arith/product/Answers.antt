@@ -1,4 +1,4 @@
-use Rattle.std.proofs.Common.{◌≡◌, pos, ℤ, ◌*ℤ◌, ◌*◌, ◌%◌, ◌^◌, FitsSigned, to_z-of_z, to_z, arith, rules, sym, ap, ap₂, ◌∙◌}
+use Rattle.std.proofs.Common.{◌≡◌, pos, ◌*◌, ◌%◌, ◌^◌, FitsSigned, to_z-of_z, to_z, arith, rules, sym, ap, ◌∙◌}
 use Rattle.std.specs.Int.{w128}
 use Rattle.std.proofs.lemmas.Int.{ints}
 use Rattle.c_num.specs.Conversion.{convert_to, word_of}

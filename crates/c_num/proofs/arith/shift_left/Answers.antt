@@ -1,10 +1,9 @@
-use Rattle.std.proofs.Common.{◌≡◌, ℤ, pos, true, false, ◌||◌, int_lt, refl, sym, ap, ◌∙◌, FitsSigned, to_z-of_z, rules, arith}
+use Rattle.std.proofs.Common.{◌≡◌, pos, true, false, ◌||◌, int_lt, refl, sym, ap, ◌∙◌, FitsSigned, to_z-of_z, rules}
 use Rattle.std.specs.Int.{w128}
-use Rattle.std.proofs.lemmas.Int.{ints}
 use Rattle.std.proofs.lemmas.Bool.{or_left, or_right, or_from}
 use Rattle.c_num.specs.declared.BinOp.TheVariants.{Shl}
 use Rattle.c_num.specs.Conversion.{convert_to}
-use Rattle.c_num.specs.Arith.{exact, is_bad_amount, is_bad_shift, is_out_of_range}
+use Rattle.c_num.specs.Arith.{exact, is_bad_amount, is_out_of_range}
 use Rattle.c_num.proofs.Outcomes.{shift_outcome, ok_outcome}
 use Rattle.c_num.proofs.arith.shift_left.Goals as goal
 use Rattle.c_num.proofs.arith.shift_left.Goals.{After-is_bad_amount, After-is_out_of_range, then-is_bad_amount-via-then-is_bad_amount, then-is_bad_amount-via-else-is_bad_amount+then-a-lt0}

@@ -1,4 +1,4 @@
-use Rattle.std.proofs.Common.{◌≡◌, ◌^◌, pos, ℤ, ◌*ℤ◌, unsigned_abs, ap, FitsSigned, to_z-of_z, rules}
+use Rattle.std.proofs.Common.{◌≡◌, ◌^◌, pos, ◌*ℤ◌, unsigned_abs, ap, FitsSigned, to_z-of_z, rules}
 use Rattle.std.specs.Int.{w128}
 use Rattle.c_num.proofs.Words.{shifted_fits, amount_below}
 use Rattle.c_num.proofs.arith.shifted_left.Goals as goal

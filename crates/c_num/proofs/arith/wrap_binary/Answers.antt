@@ -1,4 +1,4 @@
-use Rattle.std.proofs.Common.{◌≡◌, ap, ap₂, ◌∙◌, FitsSigned, to_z-of_z, rules}
+use Rattle.std.proofs.Common.{◌≡◌, ap₂, ◌∙◌, FitsSigned, to_z-of_z, rules}
 use Rattle.std.specs.Int.{w128}
 use Rattle.c_num.specs.Conversion.{convert_to}
 use Rattle.c_num.specs.Arith.{wrapped_right, exact}

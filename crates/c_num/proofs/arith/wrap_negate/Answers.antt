@@ -1,4 +1,4 @@
-use Rattle.std.proofs.Common.{◌≡◌, neg_ℤ, pos, ◌-ℤ◌, ℤ, ap, ◌∙◌, arith, to_z, of_z, to_z-of_z, FitsSigned, rules}
+use Rattle.std.proofs.Common.{◌≡◌, neg_ℤ, pos, ◌-ℤ◌, ap, ◌∙◌, arith, to_z, of_z, to_z-of_z, FitsSigned, rules}
 use Rattle.std.specs.Int.{w128}
 use Rattle.std.proofs.lemmas.Int.{ints}
 use Rattle.c_num.specs.Conversion.{convert_to}

@@ -1,8 +1,7 @@
-use Rattle.std.proofs.Common.{◌≡◌, ◌^◌, pos, ◌≤◌, ◌⊎◌, inl, inr, false, ℤ, ◌-ℤ◌, ◌≤ℤ◌, ◌<ℤ◌, int_div, FitsSigned, to_z, of_z, to_z-of_z, arith, rules, sym, ◌∙◌}
+use Rattle.std.proofs.Common.{◌≡◌, pos, ◌⊎◌, inl, inr, false, ◌-ℤ◌, ◌≤ℤ◌, ◌<ℤ◌, int_div, FitsSigned, to_z, of_z, to_z-of_z, arith, rules, sym, ◌∙◌}
 use Rattle.std.specs.Int.{w128, int_rem_euclid}
 use Rattle.std.proofs.lemmas.Int.{ints}
-use Rattle.c_num.specs.Types.{width_of, is_signed}
-use Rattle.c_num.specs.Conversion.{IsCongruent, convert_to}
+use Rattle.c_num.specs.Types.{is_signed}
 use Rattle.c_num.proofs.Conversions.{modulus_small, convert_high, convert_low, convert_to-congruent}
 use Rattle.c_num.proofs.conversion.convert.Goals as goal
 use Rattle.c_num.proofs.conversion.convert.Goals.{else-is_signed-via-then-is_signed+else-bits-modulus, else-is_signed-via-else-is_signed}

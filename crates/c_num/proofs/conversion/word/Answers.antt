@@ -1,6 +1,6 @@
-use Rattle.std.proofs.Common.{◌≡◌, ◌^◌, pos, ℤ, nat_abs, FitsSigned, to_z-of_z, arith, rules, ap, ◌∙◌}
+use Rattle.std.proofs.Common.{◌≡◌, ◌^◌, pos, nat_abs, FitsSigned, to_z-of_z, rules, ap}
 use Rattle.std.specs.Int.{w128, int_rem_euclid}
-use Rattle.c_num.specs.Conversion.{convert_to, word_of}
+use Rattle.c_num.specs.Conversion.{convert_to}
 use Rattle.c_num.proofs.Conversions.{word_computed, convert_to-word}
 use Rattle.c_num.proofs.conversion.word.Goals as goal
 

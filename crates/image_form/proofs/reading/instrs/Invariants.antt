@@ -10,5 +10,5 @@ invariant-loop-index l = record {
   stands : StandsAt l.bytes l.at l.here (code_bytes l.code.items);
   each : AllByRecursion (IsInstr l.functions l.count) l.code.items;
   many : length l.code.items ≡ l.index;
-  begins : BeginsAll (IsInstr l.functions l.count) spelling l.count l.bytes l.at l.code.items l.here;
+  begins : BeginsAll (IsInstr l.functions l.count) spelling l.many l.bytes l.at l.code.items l.here;
 }

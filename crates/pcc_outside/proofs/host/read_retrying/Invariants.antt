@@ -1,4 +1,3 @@
-use Rattle.std.proofs.Common.{◌≡◌, length}
 use Rattle.std.specs.Io.KnownBytes.{Keeps}
 use Rattle.pcc_outside.proofs.host.read_retrying.Given as goal
 

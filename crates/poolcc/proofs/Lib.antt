@@ -1,0 +1,3 @@
+pub mod MachineRuns
+pub mod Pipeline
+pub mod Executing

@@ -1,0 +1,107 @@
+// `exec FILE`: compiles a file and runs it.
+
+ghost use Rattle.std.specs.Prelude.{◌≡◌, ◌≢◌, ℕ, ◌<◌, ◌≤◌, ◌⊎◌, List, Some, length};
+ghost use Rattle.pcc_outside.specs.Outside.{Rose, Missing, Holds};
+ghost use Rattle.pool_isa.specs.Machine.{initial};
+ghost use Rattle.image_form.specs.Form.{form_of};
+ghost use Rattle.machine.specs.Run.{RunGives};
+ghost use Rattle.poolcc.specs.Exec.{ExecGives, IsUsage, default_limits, default_steps};
+ghost use Rattle.poolcc.specs.Seen.{status_seen};
+
+use crate::text::{Stop, image_of};
+use image_form::{Image, MachineLimits};
+use machine::{Machine, RunEnd};
+use pcc_outside::{Files, ReadErr, Sink, Source, read_all};
+use pcc_status::Status;
+use std::alloc::Global;
+
+/// The most bytes of a source.
+const SOURCE_LIMIT: u64 = 1_048_576;
+
+/// The steps of a run where no limit is given.
+const STEPS: u64 = 1_000_000_000;
+
+/// The limits of an image where none are given.
+const LIMITS: MachineLimits = MachineLimits {
+    slabs: 65_536,
+    index: u32::MAX,
+};
+
+/// Compiles a file, and runs its image on the input.
+pub fn exec<F: Files, I: Source, O: Sink>(
+    alloc: Global,
+    file: &str,
+    files: &mut F,
+    input: &mut I,
+    out: &mut O,
+) -> Status
+    ensures gives { (text left base : List ℕ) → F.contents files.old file.now ≡ Holds text → I.left input.old ≡ Some left → O.written out.old ≡ Some base
+        → ExecGives text default_limits default_steps left base result (I.left input.new) (O.written out.new) }
+    ensures missing { F.contents files.old file.now ≡ Missing → ((result ≡ Status.ReadFault) ⊎ (result ≡ Status.OutOfMemory)) × (I.left input.new ≡ I.left input.old) × (O.written out.new ≡ O.written out.old) }
+    ensures read_cause { result ≡ Status.ReadFault → Rose (F.faults files.old file.now) (F.faults files.new file.now) ⊎ Rose (I.faults input.old) (I.faults input.new) }
+    ensures write_cause { result ≡ Status.WriteFault → Rose (O.faults out.old) (O.faults out.new) }
+    ensures long_cause { result ≡ Status.SourceTooLong → 1048576 < F.reach files.new file.now }
+    ensures well_formed { IsUsage result → ⊥ }
+    ensures files_counted { (name : List ℕ) → F.faults files.old name ≤ F.faults files.new name }
+    ensures reads_counted { I.faults input.old ≤ I.faults input.new }
+    ensures writes_counted { O.faults out.old ≤ O.faults out.new }
+{
+    match read_all(alloc, files, file, SOURCE_LIMIT) {
+        Ok(text) => run_text(alloc, &text, input, out),
+        Err(ReadErr::Failed) => Status::ReadFault,
+        Err(ReadErr::TooLong) => Status::SourceTooLong,
+        Err(ReadErr::OutOfMemory) => Status::OutOfMemory,
+    }
+}
+
+// Compiles a text, and runs its image.
+fn run_text<I: Source, O: Sink>(alloc: Global, text: &[u8], input: &mut I, out: &mut O) -> Status
+    requires { length text.now ≤ 1048576 }
+    ensures gives { (left base : List ℕ) → I.left input.old ≡ Some left → O.written out.old ≡ Some base
+        → ExecGives text.now default_limits default_steps left base result (I.left input.new) (O.written out.new) }
+    ensures read_cause { result ≡ Status.ReadFault → Rose (I.faults input.old) (I.faults input.new) }
+    ensures write_cause { result ≡ Status.WriteFault → Rose (O.faults out.old) (O.faults out.new) }
+    ensures short { result ≢ Status.SourceTooLong }
+    ensures well_formed { IsUsage result → ⊥ }
+    ensures reads_counted { I.faults input.old ≤ I.faults input.new }
+    ensures writes_counted { O.faults out.old ≤ O.faults out.new }
+{
+    match image_of(alloc, text, LIMITS) {
+        Ok(image) => status_of(run_image(alloc, &image, input, out)),
+        Err(Stop::Refused(refusal)) => Status::Refused(refusal),
+        Err(Stop::OutOfMemory) => Status::OutOfMemory,
+    }
+}
+
+// Runs an image from its first step.
+fn run_image<I: Source, O: Sink>(alloc: Global, image: &Image, input: &mut I, out: &mut O) -> RunEnd
+    ensures gives { (left base : List ℕ) → I.left input.old ≡ Some left → O.written out.old ≡ Some base
+        → let functions = (form_of image.now).functions in RunGives functions (initial functions left) base default_steps result (I.left input.new) (O.written out.new) }
+    ensures read_cause { result ≡ RunEnd.ReadFault → Rose (I.faults input.old) (I.faults input.new) }
+    ensures write_cause { result ≡ RunEnd.WriteFault → Rose (O.faults out.old) (O.faults out.new) }
+    ensures reads_counted { I.faults input.old ≤ I.faults input.new }
+    ensures writes_counted { O.faults out.old ≤ O.faults out.new }
+{
+    let Ok(machine) = Machine::load(alloc, image, LIMITS) else {
+        return RunEnd::OutOfMemory;
+    };
+    machine.run(input, out, STEPS)
+}
+
+// The answer of a run as the answer of the command.
+fn status_of(end: RunEnd) -> Status
+    ensures same { result ≡ status_seen end }
+    ensures well_formed { IsUsage result → ⊥ }
+{
+    match end {
+        RunEnd::Ended(status) => Status::Program(status),
+        RunEnd::Depth => Status::Depth,
+        RunEnd::HeapExhausted => Status::HeapExhausted,
+        RunEnd::IndexExhausted => Status::IndexExhausted,
+        RunEnd::StepsSpent => Status::StepsSpent,
+        RunEnd::Trapped(kind) => Status::Trapped(kind),
+        RunEnd::ReadFault => Status::ReadFault,
+        RunEnd::WriteFault => Status::WriteFault,
+        RunEnd::OutOfMemory => Status::OutOfMemory,
+    }
+}

@@ -1,0 +1,98 @@
+// From a text to its image.
+
+ghost use Rattle.std.specs.Prelude.{◌≡◌, ◌≤◌, ℕ, List, length, IfOk, IfErr};
+ghost use Rattle.c_ast.specs.Trees.{program_tree};
+ghost use Rattle.c_lexer.specs.Tokens.{Divides, lexemes_of};
+ghost use Rattle.c_reader.specs.Grammar.{Parses, Reads};
+ghost use Rattle.pool_isa.specs.Ranges.{IsWithin};
+ghost use Rattle.image_form.specs.Form.{form_of, IsImage, ImageOf};
+ghost use Rattle.poolcc.specs.Compiled.{Compiles};
+ghost use Rattle.poolcc.specs.Refused.{IsStop};
+
+use crate::compile::compile;
+use c_ast::Program;
+use c_lexer::{LexErr, Token, tokens};
+use c_reader::{SyntaxErr, read};
+use image_form::{Image, ImageErr, MachineLimits, from_bytes, to_bytes};
+use pcc_status::{LexKind, Refusal, SyntaxKind};
+use std::alloc::Global;
+
+/// Why a text has no image.
+#[derive(Clone, Copy)]
+pub enum Stop {
+    Refused(Refusal),
+    OutOfMemory,
+}
+
+// The tokens of a text.
+fn divide(alloc: Global, text: &[u8]) -> Result<Vec<Token>, Stop>
+    ensures found { IfOk result (λ v. Divides text.now (lexemes_of v.items)) }
+    ensures stop { IfErr result (IsStop text.now) }
+{
+    let (kind, place) = match tokens(alloc, text) {
+        Ok(tokens) => return Ok(tokens),
+        Err(LexErr::BadByte(place)) => (LexKind::BadByte, place),
+        Err(LexErr::BadLiteral(place)) => (LexKind::BadLiteral, place),
+        Err(LexErr::Unclosed(place)) => (LexKind::Unclosed, place),
+        Err(LexErr::BadDirective(place)) => (LexKind::BadDirective, place),
+        Err(LexErr::NameTooLong(place)) => (LexKind::NameTooLong, place),
+        Err(LexErr::OutOfMemory) => return Err(Stop::OutOfMemory),
+    };
+    Err(Stop::Refused(Refusal::Lex(kind, place)))
+}
+
+/// The program that a text reads as.
+pub fn parse(alloc: Global, text: &[u8]) -> Result<Program, Stop>
+    ensures found { IfOk result (λ program. Reads text.now (program_tree program)) }
+    ensures stop { IfErr result (IsStop text.now) }
+{
+    let tokens = match divide(alloc, text) {
+        Ok(tokens) => tokens,
+        Err(stop) => return Err(stop),
+    };
+    match read(alloc, tokens) {
+        Ok(program) => Ok(program),
+        Err(SyntaxErr::At(place)) => Err(Stop::Refused(Refusal::Syntax(SyntaxKind::At, place))),
+        Err(SyntaxErr::TooDeep(place)) => {
+            Err(Stop::Refused(Refusal::Syntax(SyntaxKind::TooDeep, place)))
+        }
+        Err(SyntaxErr::OutOfMemory) => Err(Stop::OutOfMemory),
+    }
+}
+
+// The image that the bytes of an image are.
+fn round_trip(alloc: Global, image: &Image) -> Result<Image, Stop>
+    requires { IsImage (form_of image.now) }
+    ensures same { IfOk result (λ decoded. (encoded : List ℕ) × ImageOf encoded (form_of decoded) × (form_of decoded ≡ form_of image.now)) }
+    ensures stop { IfErr result (λ stop. stop ≡ Stop.OutOfMemory) }
+{
+    let Ok(bytes) = to_bytes(alloc, image) else {
+        return Err(Stop::OutOfMemory);
+    };
+    match from_bytes(alloc, &bytes) {
+        Ok(decoded) => Ok(decoded),
+        Err(ImageErr::Bad(_)) => unreachable!(),
+        Err(ImageErr::OutOfMemory) => Err(Stop::OutOfMemory),
+    }
+}
+
+/// The image of a text within the source limit. It has been encoded and decoded.
+pub fn image_of(alloc: Global, text: &[u8], limits: MachineLimits) -> Result<Image, Stop>
+    requires short { length text.now ≤ 1048576 }
+    requires slabs { IsWithin 1 1048576 limits.slabs }
+    requires index { IsWithin 1 4294967295 limits.index }
+    ensures compiled { IfOk result (λ image. Compiles text.now limits (form_of image)) }
+    ensures stop { IfErr result (IsStop text.now) }
+{
+    let program = match parse(alloc, text) {
+        Ok(program) => program,
+        Err(stop) => return Err(stop),
+    };
+    let Ok(image) = compile(alloc, &program, limits) else {
+        return Err(Stop::OutOfMemory);
+    };
+    match round_trip(alloc, &image) {
+        Ok(image) => Ok(image),
+        Err(stop) => Err(stop),
+    }
+}

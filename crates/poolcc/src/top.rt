@@ -1,0 +1,69 @@
+// The top call.
+
+ghost use Rattle.std.specs.Prelude.{◌≡◌, ℕ, ◌<◌, ◌≤◌, ◌⊎◌, List, map, string_bytes};
+ghost use Rattle.pcc_outside.specs.Outside.{Rose};
+ghost use Rattle.pcc_status.specs.Said.{Said};
+ghost use Rattle.poolcc.specs.Command.{line_of, NoCommand, NoLine, Exec};
+ghost use Rattle.poolcc.specs.Exec.{Answers};
+
+use crate::command::{Line, read_line};
+use crate::exec::exec;
+use pcc_outside::{Files, Sink, Source};
+use pcc_status::{Status, UsageKind, say};
+use std::alloc::Global;
+
+/// Does what a command line says, the program's name first: reads the named file from `files`, and the program's
+/// input from `input`; writes the program's output to `out`, and to `err` one line for every answer but success.
+pub fn poolcc<F: Files, I: Source, O: Sink, E: Sink>(
+    alloc: Global,
+    words: &[String],
+    files: &mut F,
+    input: &mut I,
+    out: &mut O,
+    err: &mut E,
+) -> Status
+    // What the command answers, and the line that is written of it.
+    ensures answers { (answer : Status) × Answers (line_of (map string_bytes words.now)) (F.contents files.old) (I.left input.old) (O.written out.old) (I.left input.new) (O.written out.new) answer
+        × Said answer result (E.written err.old) (E.written err.new) (E.faults err.old) (E.faults err.new) }
+
+    // The cause of each answer that the text and the input don't give.
+    ensures command_cause { result ≡ Status.Usage UsageKind.Command → line_of (map string_bytes words.now) ≡ NoCommand }
+    ensures words_cause { result ≡ Status.Usage UsageKind.Words → line_of (map string_bytes words.now) ≡ NoLine }
+    ensures read_cause { result ≡ Status.ReadFault → (file : List ℕ) × (line_of (map string_bytes words.now) ≡ Exec file) × (Rose (F.faults files.old file) (F.faults files.new file) ⊎ Rose (I.faults input.old) (I.faults input.new)) }
+    ensures write_cause { result ≡ Status.WriteFault → Rose (O.faults out.old) (O.faults out.new) ⊎ Rose (E.faults err.old) (E.faults err.new) }
+    ensures long_cause { result ≡ Status.SourceTooLong → (file : List ℕ) × (line_of (map string_bytes words.now) ≡ Exec file) × (1048576 < F.reach files.new file) }
+
+    // Counts of faults never fall.
+    ensures files_counted { (name : List ℕ) → F.faults files.old name ≤ F.faults files.new name }
+    ensures reads_counted { I.faults input.old ≤ I.faults input.new }
+    ensures writes_counted { O.faults out.old ≤ O.faults out.new }
+    ensures lines_counted { E.faults err.old ≤ E.faults err.new }
+{
+    let answer = command(alloc, words, files, input, out);
+    say(err, answer)
+}
+
+// Does what a command line says, but for the line on the error output.
+fn command<F: Files, I: Source, O: Sink>(
+    alloc: Global,
+    words: &[String],
+    files: &mut F,
+    input: &mut I,
+    out: &mut O,
+) -> Status
+    ensures answers { Answers (line_of (map string_bytes words.now)) (F.contents files.old) (I.left input.old) (O.written out.old) (I.left input.new) (O.written out.new) result }
+    ensures command_cause { result ≡ Status.Usage UsageKind.Command → line_of (map string_bytes words.now) ≡ NoCommand }
+    ensures words_cause { result ≡ Status.Usage UsageKind.Words → line_of (map string_bytes words.now) ≡ NoLine }
+    ensures read_cause { result ≡ Status.ReadFault → (file : List ℕ) × (line_of (map string_bytes words.now) ≡ Exec file) × (Rose (F.faults files.old file) (F.faults files.new file) ⊎ Rose (I.faults input.old) (I.faults input.new)) }
+    ensures write_cause { result ≡ Status.WriteFault → Rose (O.faults out.old) (O.faults out.new) }
+    ensures long_cause { result ≡ Status.SourceTooLong → (file : List ℕ) × (line_of (map string_bytes words.now) ≡ Exec file) × (1048576 < F.reach files.new file) }
+    ensures files_counted { (name : List ℕ) → F.faults files.old name ≤ F.faults files.new name }
+    ensures reads_counted { I.faults input.old ≤ I.faults input.new }
+    ensures writes_counted { O.faults out.old ≤ O.faults out.new }
+{
+    match read_line(words) {
+        Line::NoCommand => Status::Usage(UsageKind::Command),
+        Line::NoLine => Status::Usage(UsageKind::Words),
+        Line::Exec(file) => exec(alloc, file, files, input, out),
+    }
+}
