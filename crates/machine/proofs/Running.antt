@@ -8,7 +8,7 @@ use Rattle.machine.specs.declared.ends.RunEnd.{RunEnd}
 use Rattle.machine.specs.declared.ends.RunEnd.TheVariants as ends
 use Rattle.machine.specs.declared.ends.Step.{Step}
 use Rattle.machine.specs.declared.ends.Step.TheVariants.{On, Over}
-use Rattle.machine.specs.Steps.{standing, IsLeftAt, Halts, IsUndone, GoesOn, Gives}
+use Rattle.machine.specs.Steps.{state_of, LeftAt, Halts, IsUndone, GoesOn, Gives}
 use Rattle.machine.specs.Run.{HaltsAt, BreaksOff, RunGives}
 use Rattle.machine.proofs.Moves.{moves-suc, halted_stays}
 
@@ -20,16 +20,16 @@ module _ (functions : List Function) (state : State) (base : List ℕ) where
   -- what a step from there did
   abbrev pub Steps : List Activation → Option (List ℕ) → Option (List ℕ) → Step → List Activation → Option (List ℕ) → Option (List ℕ) → Type 0
   Steps activations left written result activations' left' written' =
-      (input : List ℕ) (trace : Trace) → left ≡ Some input → written ≡ Some (base ++ output_of trace) → Gives (act functions (standing activations input trace)) base (standing activations input trace) result activations' left' written'
+      (input : List ℕ) (trace : Trace) → left ≡ Some input → written ≡ Some (base ++ output_of trace) → Gives (act functions (state_of activations input trace)) base (state_of activations input trace) result activations' left' written'
 
-  pub stands_first : (left written : Option (List ℕ)) → IsLeftAt base state left written → Stands 0 state.activations left written
+  pub stands_first : (left written : Option (List ℕ)) → LeftAt base state left written → Stands 0 state.activations left written
   stands_first left written there = record { next = state; goes = refl; same = refl; left_at = there }
 
   module _ (n : ℕ) (activations : List Activation) (left written : Option (List ℕ)) (there : Stands n activations left written) where
     -- the step is one from the state that the run has come to
     gives_there : (result : Step) (activations' : List Activation) (left' written' : Option (List ℕ)) → Steps activations left written result activations' left' written' → Gives (act functions there.next) base there.next result activations' left' written'
     gives_there result activations' left' written' step =
-        subst (λ (fs : List Activation). Gives (act functions (standing fs there.next.input there.next.trace)) base (standing fs there.next.input there.next.trace) result activations' left' written') (sym there.same)
+        subst (λ (fs : List Activation). Gives (act functions (state_of fs there.next.input there.next.trace)) base (state_of fs there.next.input there.next.trace) result activations' left' written') (sym there.same)
         (step there.next.input there.next.trace there.left_at.0 there.left_at.1)
 
     next_move : (move : Move State) → act functions there.next ≡ move → moves (act functions) (n + 1) state ≡ move
@@ -69,8 +69,8 @@ module _ (functions : List Function) (state : State) (base : List ℕ) where
 
   -- the step's own clause, whatever it calls the functions and where it led
   pub as_steps : (functions' : List Function) (activations : List Activation) (left written : Option (List ℕ)) (result result' : Step) (activations' : List Activation) (left' written' : Option (List ℕ)) → functions' ≡ functions → result' ≡ result
-      → ((input base' : List ℕ) (trace : Trace) → left ≡ Some input → written ≡ Some (base' ++ output_of trace) → Gives (act functions' (standing activations input trace)) base' (standing activations input trace) result' activations' left' written')
+      → ((input base' : List ℕ) (trace : Trace) → left ≡ Some input → written ≡ Some (base' ++ output_of trace) → Gives (act functions' (state_of activations input trace)) base' (state_of activations input trace) result' activations' left' written')
       → Steps activations left written result activations' left' written'
   as_steps functions' activations left written result result' activations' left' written' e f clause input trace there wrote =
-      subst (λ r. Gives (act functions (standing activations input trace)) base (standing activations input trace) r activations' left' written') f
-      (subst (λ fs. Gives (act fs (standing activations input trace)) base (standing activations input trace) result' activations' left' written') e (clause input base trace there wrote))
+      subst (λ r. Gives (act functions (state_of activations input trace)) base (state_of activations input trace) r activations' left' written') f
+      (subst (λ fs. Gives (act fs (state_of activations input trace)) base (state_of activations input trace) result' activations' left' written') e (clause input base trace there wrote))

@@ -4,7 +4,7 @@ use Rattle.run_theory.specs.Runs.{Trace, Output, output_of, To}
 use Rattle.run_theory.proofs.Traces.{output_of-append}
 use Rattle.pcc_outside.specs.Outside.{Adds}
 use Rattle.pool_isa.specs.Machine.{Activation, with_one, advanced}
-use Rattle.machine.specs.Steps.{GoesOn, standing}
+use Rattle.machine.specs.Steps.{GoesOn, state_of}
 
 written_more : (base : List ℕ) (trace : Trace) (byte : ℕ) (written written' : Option (List ℕ)) → written ≡ Some (base ++ output_of trace) → Adds written (byte ∷ []) written' → written' ≡ Some (base ++ output_of (trace ++ Output byte ∷ []))
 written_more base trace byte written written' e adds =
@@ -14,10 +14,10 @@ written_more base trace byte written written' e adds =
 -- the step that puts a byte
 pub put_on : (innermost : Activation) (callers : List Activation) (operands : List ℕ) (word byte : ℕ) (after : Activation) (input base : List ℕ) (trace : Trace) (left written written' : Option (List ℕ))
     → operands ≡ word ∷ drop 1 operands → byte ≡ word % 256 → after ≡ advanced innermost (byte ∷ drop 1 operands) → left ≡ Some input → written ≡ Some (base ++ output_of trace) → Adds written (byte ∷ []) written'
-    → GoesOn (with_one operands (standing (innermost ∷ callers) input trace) (λ w rest. To (standing (advanced innermost (w % 256 ∷ rest) ∷ callers) input (trace ++ Output (w % 256) ∷ [])))) base (after ∷ callers) left written'
+    → GoesOn (with_one operands (state_of (innermost ∷ callers) input trace) (λ w rest. To (state_of (advanced innermost (w % 256 ∷ rest) ∷ callers) input (trace ++ Output (w % 256) ∷ [])))) base (after ∷ callers) left written'
 put_on innermost callers operands word byte after input base trace left written written' last low is told old adds = record {
-  next = standing (advanced innermost (word % 256 ∷ drop 1 operands) ∷ callers) input (trace ++ Output (word % 256) ∷ []);
-  goes = ap (λ os. with_one os (standing (innermost ∷ callers) input trace) (λ w rest. To (standing (advanced innermost (w % 256 ∷ rest) ∷ callers) input (trace ++ Output (w % 256) ∷ [])))) last;
+  next = state_of (advanced innermost (word % 256 ∷ drop 1 operands) ∷ callers) input (trace ++ Output (word % 256) ∷ []);
+  goes = ap (λ os. with_one os (state_of (innermost ∷ callers) input trace) (λ w rest. To (state_of (advanced innermost (w % 256 ∷ rest) ∷ callers) input (trace ++ Output (w % 256) ∷ [])))) last;
   same = ap (λ (f : Activation). f ∷ callers) (sym (is ∙ ap (λ b. advanced innermost (b ∷ drop 1 operands)) low));
   left_at = (told, written_more base trace (word % 256) written written' old (rw low at adds));
 }

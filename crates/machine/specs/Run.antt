@@ -7,10 +7,10 @@ use Rattle.image_form.specs.declared.image.MachineLimits.{MachineLimits}
 use Rattle.pool_isa.specs.Machine.{Function, Activation, State, act}
 use Rattle.machine.specs.declared.ends.RunEnd.{RunEnd}
 use Rattle.machine.specs.declared.ends.RunEnd.TheVariants as ends
-use Rattle.machine.specs.Steps.{IsLeftAt}
+use Rattle.machine.specs.Steps.{LeftAt}
 
 -- a machine that stands between two steps: its functions, its limits, and its activations, the innermost first
-pub record Standing : Type 0 where
+pub record Ready : Type 0 where
   pub functions : List Function
   pub limits : MachineLimits
   pub activations : List Activation
@@ -19,13 +19,13 @@ pub record Standing : Type 0 where
 pub record HaltsAt (functions : List Function) (state : State) (base : List ℕ) (steps : ℕ) (final : Final) (left written : Option (List ℕ)) : Type 0 where
   pub last : State
   pub halts : moves (act functions) steps state ≡ Halt final last
-  pub left_at : IsLeftAt base last left written
+  pub left_at : LeftAt base last left written
 
 -- the run has made these steps, and is not over
 pub record ComesTo (functions : List Function) (state : State) (base : List ℕ) (steps : ℕ) (left written : Option (List ℕ)) : Type 0 where
   pub last : State
   pub comes : moves (act functions) steps state ≡ To last
-  pub left_at : IsLeftAt base last left written
+  pub left_at : LeftAt base last left written
 
 -- the run was broken off after some of these steps
 pub record BreaksOff (functions : List Function) (state : State) (base : List ℕ) (steps : ℕ) (left written : Option (List ℕ)) : Type 0 where

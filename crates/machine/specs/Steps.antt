@@ -10,26 +10,26 @@ use Rattle.machine.specs.declared.ends.Step.{Step}
 use Rattle.machine.specs.declared.ends.Step.TheVariants.{On, Over}
 
 -- the state of these activations, with this input left and this trace
-abbrev pub standing : List Activation → List ℕ → Trace → State
-standing activations input trace = record { activations = activations; input = input; trace = trace }
+abbrev pub state_of : List Activation → List ℕ → Trace → State
+state_of activations input trace = record { activations = activations; input = input; trace = trace }
 
 -- the left input and the written bytes, where a source and a sink tell them, are those of the state
-abbrev pub IsLeftAt : List ℕ → State → Option (List ℕ) → Option (List ℕ) → Type 0
-IsLeftAt base state left written = (left ≡ Some state.input) × (written ≡ Some (base ++ output_of state.trace))
+abbrev pub LeftAt : List ℕ → State → Option (List ℕ) → Option (List ℕ) → Type 0
+LeftAt base state left written = (left ≡ Some state.input) × (written ≡ Some (base ++ output_of state.trace))
 
 -- The move that the machine's meaning makes from a state is the one that a step made, which touched neither input nor
--- output and left these activations.
-abbrev pub Leads : Move State → State → Step → List Activation → Type 0
-Leads move old On new = move ≡ To (record old { activations = new })
-Leads move old (Over (ends.Ended status)) new = move ≡ Halt (runs.Ended status) old
-Leads move old (Over ends.Depth) new = move ≡ Halt runs.DepthReached old
-Leads move old (Over ends.HeapExhausted) new = move ≡ Halt runs.HeapExhausted old
-Leads move old (Over ends.IndexExhausted) new = move ≡ Halt runs.IndexExhausted old
-Leads move old (Over (ends.Trapped kind)) new = move ≡ Halt (runs.Trapped kind) old
-Leads move old (Over ends.OutOfMemory) new = new ≡ old.activations
-Leads move old (Over ends.StepsSpent) new = ⊥
-Leads move old (Over ends.ReadFault) new = ⊥
-Leads move old (Over ends.WriteFault) new = ⊥
+-- output and left these activations. A step that lacked memory left those that there were.
+abbrev pub Makes : Move State → State → Step → List Activation → Type 0
+Makes move old On new = move ≡ To (record old { activations = new })
+Makes move old (Over (ends.Ended status)) new = move ≡ Halt (runs.Ended status) old
+Makes move old (Over ends.Depth) new = move ≡ Halt runs.DepthReached old
+Makes move old (Over ends.HeapExhausted) new = move ≡ Halt runs.HeapExhausted old
+Makes move old (Over ends.IndexExhausted) new = move ≡ Halt runs.IndexExhausted old
+Makes move old (Over (ends.Trapped kind)) new = move ≡ Halt (runs.Trapped kind) old
+Makes move old (Over ends.OutOfMemory) new = new ≡ old.activations
+Makes move old (Over ends.StepsSpent) new = ⊥
+Makes move old (Over ends.ReadFault) new = ⊥
+Makes move old (Over ends.WriteFault) new = ⊥
 
 -- the activations of a machine: there is always an innermost one
 pub record CallStack : Type 0 where
@@ -48,26 +48,27 @@ IsInside _ = Unit {0}
 -- An instruction, which touches neither input nor output, was performed as the machine's meaning says.
 abbrev pub Performs : List Function → Function → Instr → CallStack → Step → CallStack → Type 0
 Performs functions function instr old result new =
-    (input : List ℕ) (trace : Trace) → Leads (perform (Some instr) functions function old.innermost old.callers (standing (activations_of old) input trace)) (standing (activations_of old) input trace) result (activations_of new)
+    (input : List ℕ) (trace : Trace) → Makes (perform (Some instr) functions function old.innermost old.callers (state_of (activations_of old) input trace)) (state_of (activations_of old) input trace) result (activations_of new)
 
 -- the machine halts there, with what is left and written
 pub record Halts (move : Move State) (final : Final) (base : List ℕ) (old : State) (left written : Option (List ℕ)) : Type 0 where
   pub halts : move ≡ Halt final old
-  pub left_at : IsLeftAt base old left written
+  pub left_at : LeftAt base old left written
 
 -- the step could not be made, and nothing has changed
 pub record IsUndone (base : List ℕ) (old : State) (new : List Activation) (left written : Option (List ℕ)) : Type 0 where
   pub same : new ≡ old.activations
-  pub left_at : IsLeftAt base old left written
+  pub left_at : LeftAt base old left written
 
 -- the machine goes on there
 pub record GoesOn (move : Move State) (base : List ℕ) (new : List Activation) (left written : Option (List ℕ)) : Type 0 where
   pub next : State
   pub goes : move ≡ To next
   pub same : next.activations ≡ new
-  pub left_at : IsLeftAt base next left written
+  pub left_at : LeftAt base next left written
 
--- The move from a state is the one that a step made, with what is left of the input and what is written after it.
+-- The move from a state is the one that a step made, with what is left of the input and what is written after it. A step
+-- that failed or lacked memory left all as it was.
 abbrev pub Gives : Move State → List ℕ → State → Step → List Activation → Option (List ℕ) → Option (List ℕ) → Type 0
 Gives move base old On new left written = GoesOn move base new left written
 Gives move base old (Over (ends.Ended status)) new left written = Halts move (runs.Ended status) base old left written
@@ -84,7 +85,7 @@ Gives move base old (Over ends.StepsSpent) new left written = ⊥
 -- before it, where they are told, to what is left and written after it.
 abbrev pub Does : List Function → Function → Instr → CallStack → Option (List ℕ) → Option (List ℕ) → Step → CallStack → Option (List ℕ) → Option (List ℕ) → Type 0
 Does functions function instr old left written result new left' written' =
-    (input base : List ℕ) (trace : Trace) → left ≡ Some input → written ≡ Some (base ++ output_of trace) → Gives (perform (Some instr) functions function old.innermost old.callers (standing (activations_of old) input trace)) base (standing (activations_of old) input trace) result (activations_of new) left' written'
+    (input base : List ℕ) (trace : Trace) → left ≡ Some input → written ≡ Some (base ++ output_of trace) → Gives (perform (Some instr) functions function old.innermost old.callers (state_of (activations_of old) input trace)) base (state_of (activations_of old) input trace) result (activations_of new) left' written'
 
 -- A step that reads has pushed the word of what was left, or it could not be made, and nothing has changed.
 abbrev pub PushesNext : Step → Activation → Option (List ℕ) → Activation → Option (List ℕ) → Type 0
@@ -93,7 +94,7 @@ PushesNext (Over ends.ReadFault) old left new left' = (new ≡ old) × (left' �
 PushesNext (Over ends.OutOfMemory) old left new left' = (new ≡ old) × (left' ≡ left)
 PushesNext (Over _) old left new left' = ⊥
 
--- each frame ends where the depth allows: a function's parameters and extra bytes are below 2 ^ 36
+-- No frame ends past where that many frames of 2 ^ 36 bytes would: parameters and extra bytes are fewer.
 abbrev pub IsRoomy : List Activation → Type 0
 IsRoomy [] = Unit {0}
 IsRoomy (frame ∷ frames) = (next_start frame ≤ 2 ^ 40 + 2 ^ 36 * (length frames + 1)) × IsRoomy frames

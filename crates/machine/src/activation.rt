@@ -51,7 +51,7 @@ impl Activation {
     ) -> Result<Activation, AllocError>
         ensures { IfOk result (λ a. a ≡ record { function = function; place = 0; operands = []; start = start; bytes = flat_map (little_bytes 8) parameters.now ++ replicate extra 0 }) }
     {
-        let mut bytes = Vec::new(alloc);
+        let mut bytes = Vec::with_capacity(alloc, 8 * parameters.len() + extra as usize)?;
         let mut word_bytes = [0u8; 8];
         for word in parameters {
             LittleEndian::write_u64(&mut word_bytes, *word);
