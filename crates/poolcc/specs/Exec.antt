@@ -1,5 +1,5 @@
 -- What `exec` answers, and what a whole command does.
-use Rattle.std.specs.Prelude.{◌≡◌, ℕ, ◌<◌, ◌⊎◌, List, Option, Some, length}
+use Rattle.std.specs.Prelude.{◌≡◌, ℕ, ◌<◌, ◌≤◌, ◌⊎◌, List, Option, Some, length}
 use Rattle.pcc_outside.specs.Outside.{Told, Missing, Holds}
 use Rattle.pool_isa.specs.Machine.{initial}
 use Rattle.image_form.specs.declared.image.MachineLimits.{MachineLimits}
@@ -14,9 +14,14 @@ use Rattle.poolcc.specs.Command.{Line, NoCommand, NoLine, Exec}
 use Rattle.poolcc.specs.Compiled.{Compiles}
 use Rattle.poolcc.specs.Refused.{IsRefused}
 
--- The text was compiled, and the machine has run its image from the first step: this is its answer, this is what is
--- left of the input, and this is what was written, the new output behind the base.
+-- a source has at most so many bytes
+abbrev pub source_limit : ℕ
+source_limit = 1048576
+
+-- The text, which is within the limit, was compiled, and the machine has run its image from the first step: this is its
+-- answer, this is what is left of the input, and this is what was written, the new output behind the base.
 pub record Executes (text : List ℕ) (limits : MachineLimits) (steps : ℕ) (left base : List ℕ) (answer : RunEnd) (left' written' : Option (List ℕ)) : Type 0 where
+  pub short : length text ≤ source_limit
   pub form : Form
   pub compiles : Compiles text limits form
   pub ran : RunGives form.functions (initial form.functions left) base steps answer left' written'
@@ -35,8 +40,8 @@ ExecGives text limits steps left base S.HeapExhausted left' written' = Executes 
 ExecGives text limits steps left base S.IndexExhausted left' written' = Executes text limits steps left base E.IndexExhausted left' written'
 ExecGives text limits steps left base S.StepsSpent left' written' = Executes text limits steps left base E.StepsSpent left' written'
 ExecGives text limits steps left base (S.Trapped kind) left' written' = Executes text limits steps left base (E.Trapped kind) left' written'
-ExecGives text limits steps left base (S.Refused refusal) left' written' = IsRefused text refusal × IsUntouched left base left' written'
-ExecGives text limits steps left base S.SourceTooLong left' written' = (1048576 < length text) × IsUntouched left base left' written'
+ExecGives text limits steps left base (S.Refused refusal) left' written' = (length text ≤ source_limit) × IsRefused text refusal × IsUntouched left base left' written'
+ExecGives text limits steps left base S.SourceTooLong left' written' = (source_limit < length text) × IsUntouched left base left' written'
 ExecGives text limits steps left base S.ReadFault left' written' = IsUntouched left base left' written' ⊎ Executes text limits steps left base E.ReadFault left' written'
 ExecGives text limits steps left base S.WriteFault left' written' = Executes text limits steps left base E.WriteFault left' written'
 ExecGives text limits steps left base S.OutOfMemory left' written' = IsUntouched left base left' written' ⊎ Executes text limits steps left base E.OutOfMemory left' written'
