@@ -1,1 +1,3 @@
-mod Rows
+pub mod Rows
+pub mod SyntaxRows
+pub mod TypedRows

@@ -1,3 +1,4 @@
 pub mod Reference
-pub mod Trees
+pub mod Syntax
+pub mod Typed
 pub mod Values
