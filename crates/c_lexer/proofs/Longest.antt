@@ -1,13 +1,12 @@
 -- Where the longest piece at the front of a text ends.
-use Rattle.std.proofs.Common.{◌≡◌, ℕ, suc, ◌+◌, ◌≤◌, ◌<◌, ◌==◌, List, [], ◌∷◌, ◌++◌, Some, None, Bool, true, false, ◌&&◌, leb, length, take, drop, get_or, sym, refl, ap, ◌∙◌, append_assoc, append-nil, arith, take-append-drop, ne_eqb, length-take-le, le-leb}
+use Rattle.std.proofs.Common.{◌≡◌, ℕ, ◌+◌, ◌≤◌, ◌<◌, List, [], ◌∷◌, ◌++◌, Some, None, Bool, true, false, ◌&&◌, leb, length, take, drop, get_or, sym, refl, ap, ◌∙◌, append_assoc, append-nil, arith, take-append-drop, length-take-le, le-leb}
 use Rattle.std.proofs.lemmas.Bool.{false≢true, both_ways, and_parts, and_left, or_parts, cond-true, cond-false, lt-leb}
 use Rattle.std.proofs.lemmas.Bool.Decides.{nat_tests}
 use Rattle.std.proofs.lemmas.List.{take_more, at_drop_more, at_drop_all}
 use Rattle.std.proofs.lemmas.List.Folds.{list_all-append}
 use Rattle.std.specs.List.{list_all}
-use Rattle.c_lexer.specs.declared.token.Lexeme.{Lexeme}
-use Rattle.c_lexer.specs.Tokens.{is_letter, is_digit, is_word_byte, is_punctuator, punctuator_token, goes_on_number, has_shape, token_of, word_token, word_lexeme, IsLongest}
-use Rattle.c_lexer.specs.Pieces.{begins_with, goes_on, IsFirstToken, HasNoToken}
+use Rattle.c_lexer.specs.Tokens.{is_letter, is_digit, is_word_byte, goes_on_number, has_shape, token_of, word_token, word_lexeme, IsLongest}
+use Rattle.c_lexer.specs.Pieces.{begins_with, goes_on, HasNoToken}
 use Rattle.c_lexer.proofs.Dividing.{longest_is_one}
 
 -- A piece is the longest where the text stops what it accepts behind itself.
@@ -92,19 +91,3 @@ pub number_longest : (text : List ℕ) (count last : ℕ) → IsNumberBefore tex
 number_longest text count last before stop =
     stops_longest (goes_on_number last) (take count text) (drop count text) before.goes refl
     (λ byte more behind begins. and_left (goes_on last byte) (goes_on_number byte more) (ap (begins_with (goes_on last)) (sym begins) ∙ stop))
-
-punctuator_passes : (byte : ℕ) (lexeme : Lexeme) → Some lexeme ≡ punctuator_token byte → is_punctuator byte ≡ true
-punctuator_passes byte lexeme is = grind (arith, nat_tests)
-
--- a punctuator is one byte
-pub punctuator_first : (text : List ℕ) (lexeme : Lexeme) → 0 < length text → is_letter (get_or text 0 0) ≡ false → is_digit (get_or text 0 0) ≡ false → (get_or text 0 0 ≡ 39 → ⊥) → Some lexeme ≡ punctuator_token (get_or text 0 0) → IsFirstToken text 1 lexeme
-punctuator_first [] lexeme some letter digit quote is = absurd (omega arith)
-punctuator_first (byte ∷ text) lexeme some letter digit quote is = record {
-  within = omega arith;
-  longest =
-      stops_longest (λ more. length more == 0) (byte ∷ []) text
-      (λ more. cond-false (is_letter byte) _ _ letter ∙ cond-false (is_digit byte) _ _ digit ∙ cond-false (byte == 39) _ _ (ne_eqb byte 39 quote) ∙ ap (λ v. v && length more == 0) (punctuator_passes byte lexeme is))
-      refl
-      (λ next more behind begins. ne_eqb (suc (length more)) 0 (λ e. omega arith));
-  is = cond-false (is_letter byte) _ _ letter ∙ cond-false (is_digit byte) _ _ digit ∙ cond-false (byte == 39) _ _ (ne_eqb byte 39 quote) ∙ sym is;
-}

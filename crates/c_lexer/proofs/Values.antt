@@ -1,5 +1,5 @@
 -- The values of constants.
-use Rattle.std.proofs.Common.{◌≡◌, ◌⊎◌, inl, inr, ℕ, zero, suc, ◌+◌, ◌-◌, ◌*◌, ◌^◌, ◌≤◌, ◌<◌, ◌==◌, List, [], ◌∷◌, Option, Some, None, Bool, true, cond, ◌&&◌, ltb, length, take, drop, get_or, sym, refl, ap, ◌∙◌, subst, arith, eqb-true, le-ltb, lt-ltb, le-leb, ne_eqb}
+use Rattle.std.proofs.Common.{◌≡◌, ◌⊎◌, inl, inr, ℕ, zero, suc, ◌+◌, ◌-◌, ◌*◌, ◌^◌, ◌≤◌, ◌<◌, ◌==◌, List, [], ◌∷◌, Option, Some, None, Bool, true, false, cond, ◌&&◌, ltb, length, take, drop, get_or, sym, refl, ap, ◌∙◌, subst, arith, eqb-true, eq-eqb, le-ltb, lt-ltb, le-leb, ne_eqb}
 use Rattle.std.proofs.lemmas.Bool.{false≢true, cases_Bool, cond-true, cond-false, cond_both}
 use Rattle.std.proofs.lemmas.List.{at_drop_more, at_drop_all}
 use Rattle.std.specs.List.{list_all}
@@ -36,6 +36,20 @@ decimal_token (first ∷ next ∷ rest) digit single =
     as_number first (next ∷ rest) digit
     ∙ cond-false (first == 48) _ _ (ne_eqb first 48 (λ same. elim single [ inl short ↦ absurd (omega arith) | inr other ↦ other same ]))
     ∙ ap fitting_int (sym (from_first first (next ∷ rest) digit))
+
+-- digits that begin with 0 are no decimal number
+pub octal_none : (number : List ℕ) → begins_with is_digit number ≡ true → get_or number 0 0 ≡ 48 → 1 < length number → token_of number ≡ None
+octal_none [] digit octal long = absurd (false≢true digit)
+octal_none (first ∷ []) digit octal long = absurd (omega arith)
+octal_none (first ∷ next ∷ rest) digit octal long =
+    as_number first (next ∷ rest) digit ∙ cond-true (first == 48) _ _ (eq-eqb first 48 octal)
+    ∙ cond-false (length (next ∷ rest) == 0) _ _ (ne_eqb (length (next ∷ rest)) 0 (λ none. omega arith))
+
+-- nor is what goes on with another byte
+pub decimal_other : (number : List ℕ) (i value : ℕ) → i < length number → is_digit (get_or number i 0) ≡ false → fitting_int (decimal_from value (drop i number)) ≡ None
+decimal_other number i value within other =
+    at_drop_more (λ digits. fitting_int (decimal_from value digits)) number i 0 within
+    ∙ ap fitting_int (cond-false (is_digit (get_or number i 0)) _ _ other)
 
 -- one digit more of a decimal number
 pub decimal_more : (number : List ℕ) (i value : ℕ) → i < length number → is_digit (get_or number i 0) ≡ true → fitting_int (decimal_from value (drop i number)) ≡ fitting_int (decimal_from (10 * value + (get_or number i 0 - 48)) (drop (i + 1) number))

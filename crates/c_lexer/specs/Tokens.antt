@@ -2,15 +2,20 @@
 --
 -- A text is cut from the left: white space is passed, and then the longest piece that has the shape of a token is
 -- taken, whatever follows (C17 6.4 paragraph 4). Each piece must then be a token of the language.
-use Rattle.std.specs.Prelude.{◌≡◌, ℕ, ◌+◌, ◌-◌, ◌*◌, ◌^◌, ◌≤◌, List, [], ◌∷◌, ◌++◌, Option, Some, None, Bool, true, false, ◌&&◌, ◌||◌, ◌==◌, nat_lt, nat_le, if◌then◌else◌, length, map, slice_range, codes, Vec, Result, Ok, Err}
-use Rattle.std.specs.List.{list_all}
+use Rattle.std.specs.Prelude.{◌≡◌, ℕ, ◌+◌, ◌-◌, ◌*◌, ◌^◌, ◌≤◌, List, [], ◌∷◌, ◌++◌, Option, Some, None, Bool, true, false, ◌&&◌, ◌||◌, ◌==◌, nat_lt, nat_le, if◌then◌else◌, is_some, length, slice_range, codes, Vec, Result, Ok, Err}
+use Rattle.std.specs.List.{list_all, list_any}
 use Rattle.std.specs.Str.{bytes_eq}
 use Rattle.std.specs.declared.alloc.Global.{Global}
+use Rattle.run_theory.specs.declared.ends.Pos.{Pos}
+use Rattle.run_theory.specs.Places.{place_after, place_behind}
+use Rattle.c_lexer.specs.declared.token.Symbol.{Symbol}
+use Rattle.c_lexer.specs.declared.token.Symbol.TheVariants as S
 use Rattle.c_lexer.specs.declared.token.Lexeme.{Lexeme}
+use Rattle.c_lexer.specs.declared.token.Lexeme.TheVariants as L
 use Rattle.c_lexer.specs.declared.token.Token.{Token}
 use Rattle.c_lexer.specs.declared.token.LexErr.{LexErr}
 use Rattle.c_lexer.specs.declared.token.LexErr.TheVariants.{BadByte, BadLiteral, Unclosed, BadDirective, NameTooLong, OutOfMemory}
-use Rattle.c_lexer.specs.declared.token.Lexeme.TheVariants as L
+use Rattle.c_lexer.specs.Leaves.{Leaf, leaves_of}
 
 abbrev pub is_between : ℕ → ℕ → ℕ → Bool
 is_between low high byte = nat_le low byte && nat_le byte high
@@ -35,10 +40,6 @@ is_letter byte = is_between 65 90 byte || is_between 97 122 byte || byte == 95
 abbrev pub is_word_byte : ℕ → Bool
 is_word_byte byte = is_letter byte || is_digit byte
 
--- the punctuators of the grammar: ( ) { } ;
-abbrev pub is_punctuator : ℕ → Bool
-is_punctuator byte = byte == 40 || byte == 41 || byte == 123 || byte == 125 || byte == 59
-
 -- a sign that stands directly after e, E, p or P (C17 6.4.8)
 abbrev pub is_exponent_sign : ℕ → ℕ → Bool
 is_exponent_sign before byte =
@@ -59,6 +60,49 @@ closes_character (byte ∷ next ∷ bytes) =
     if byte == 92 then (if next == 10 then false else closes_character bytes)
     else if byte == 39 || byte == 10 then false else closes_character (next ∷ bytes)
 
+-- the words of the grammar that have one spelling: keywords (C17 6.4.1), `main`, and three names of the library
+abbrev pub words : List (List ℕ × Symbol)
+words =
+    (codes "int", S.Int) ∷ (codes "void", S.Void) ∷ (codes "if", S.If) ∷ (codes "else", S.Else) ∷ (codes "while", S.While)
+    ∷ (codes "return", S.Return) ∷ (codes "main", S.Main) ∷ (codes "getchar", S.GetChar) ∷ (codes "putchar", S.PutChar)
+    ∷ (codes "EOF", S.EndOfFile) ∷ []
+
+-- the other keywords (C17 6.4.1), and names of the library that are no names of variables either
+abbrev pub reserved_words : List (List ℕ)
+reserved_words =
+    codes "auto" ∷ codes "break" ∷ codes "case" ∷ codes "char" ∷ codes "const" ∷ codes "continue" ∷ codes "default"
+    ∷ codes "do" ∷ codes "double" ∷ codes "enum" ∷ codes "extern" ∷ codes "float" ∷ codes "for" ∷ codes "goto"
+    ∷ codes "inline" ∷ codes "long" ∷ codes "register" ∷ codes "restrict" ∷ codes "short" ∷ codes "signed"
+    ∷ codes "sizeof" ∷ codes "static" ∷ codes "struct" ∷ codes "switch" ∷ codes "typedef" ∷ codes "union"
+    ∷ codes "unsigned" ∷ codes "volatile" ∷ codes "_Alignas" ∷ codes "_Alignof" ∷ codes "_Atomic" ∷ codes "_Bool"
+    ∷ codes "_Complex" ∷ codes "_Generic" ∷ codes "_Imaginary" ∷ codes "_Noreturn" ∷ codes "_Static_assert"
+    ∷ codes "_Thread_local" ∷ codes "NULL" ∷ codes "malloc" ∷ codes "free" ∷ codes "exit" ∷ []
+
+-- the punctuators of the grammar (C17 6.4.6)
+abbrev pub punctuators : List (List ℕ × Symbol)
+punctuators =
+    (codes "(", S.OpenParenthesis) ∷ (codes ")", S.CloseParenthesis) ∷ (codes "{", S.OpenBrace)
+    ∷ (codes "}", S.CloseBrace) ∷ (codes ";", S.Semicolon) ∷ (codes "=", S.Equal) ∷ (codes "!", S.Exclamation)
+    ∷ (codes "*", S.Star) ∷ (codes "/", S.Slash) ∷ (codes "%", S.Percent) ∷ (codes "+", S.Plus) ∷ (codes "-", S.Minus)
+    ∷ (codes "<", S.Less) ∷ (codes ">", S.Greater) ∷ (codes "<=", S.LessEqual) ∷ (codes ">=", S.GreaterEqual)
+    ∷ (codes "==", S.EqualEqual) ∷ (codes "!=", S.ExclamationEqual) ∷ (codes "&&", S.AmpersandAmpersand)
+    ∷ (codes "||", S.BarBar) ∷ []
+
+-- the symbol that stands beside a spelling in a table
+abbrev pub symbol_in : List (List ℕ × Symbol) → List ℕ → Option Symbol
+symbol_in [] spelling = None
+symbol_in (row ∷ rows) spelling = if bytes_eq spelling row.0 then Some row.1 else symbol_in rows spelling
+
+abbrev pub is_reserved : List ℕ → Bool
+is_reserved word = list_any (λ reserved. bytes_eq reserved word) reserved_words
+
+-- `//` and `/*`, which begin a comment (C17 6.4.9): they have the shape of a token, and are none
+abbrev pub begins_comment : List ℕ → Bool
+begins_comment piece = bytes_eq piece (codes "//") || bytes_eq piece (codes "/*")
+
+abbrev pub is_punctuator : List ℕ → Bool
+is_punctuator piece = is_some (symbol_in punctuators piece) || begins_comment piece
+
 -- the bytes have the shape of a token
 abbrev pub has_shape : List ℕ → Bool
 has_shape [] = false
@@ -66,7 +110,7 @@ has_shape (byte ∷ bytes) =
     if is_letter byte then list_all is_word_byte bytes
     else if is_digit byte then goes_on_number byte bytes
     else if byte == 39 then closes_character bytes
-    else (is_punctuator byte && length bytes == 0)
+    else is_punctuator (byte ∷ bytes)
 
 -- a decimal number, read from the left
 abbrev pub decimal_from : ℕ → List ℕ → Option ℕ
@@ -132,23 +176,21 @@ abbrev pub as_character : Option ℕ → Option Lexeme
 as_character None = None
 as_character (Some byte) = Some (L.Character byte)
 
--- a name or a keyword
-abbrev pub word_lexeme : List ℕ → Lexeme
-word_lexeme word =
-    if bytes_eq word (codes "int") then L.Int else if bytes_eq word (codes "void") then L.Void
-    else if bytes_eq word (codes "return") then L.Return else if bytes_eq word (codes "main") then L.Main
-    else if bytes_eq word (codes "getchar") then L.GetChar else if bytes_eq word (codes "putchar") then L.PutChar
-    else if bytes_eq word (codes "EOF") then L.EndOfFile else L.Word
+-- the symbol, where there is one
+abbrev pub symbol_or : Option Symbol → Lexeme → Lexeme
+symbol_or None other = other
+symbol_or (Some symbol) other = L.Symbol symbol
 
--- a name has at most 255 bytes
+abbrev pub word_lexeme : List ℕ → Lexeme
+word_lexeme word = symbol_or (symbol_in words word) (if is_reserved word then L.Reserved else L.Name word)
+
+-- a word has at most 255 bytes
 abbrev pub word_token : List ℕ → Option Lexeme
 word_token word = if nat_le (length word) 255 then Some (word_lexeme word) else None
 
-abbrev pub punctuator_token : ℕ → Option Lexeme
-punctuator_token byte =
-    if byte == 40 then Some L.OpenParenthesis else if byte == 41 then Some L.CloseParenthesis
-    else if byte == 123 then Some L.OpenBrace else if byte == 125 then Some L.CloseBrace
-    else if byte == 59 then Some L.Semicolon else None
+abbrev pub as_symbol : Option Symbol → Option Lexeme
+as_symbol None = None
+as_symbol (Some symbol) = Some (L.Symbol symbol)
 
 -- the token that a piece of a text is, where it is one
 abbrev pub token_of : List ℕ → Option Lexeme
@@ -157,21 +199,19 @@ token_of (byte ∷ bytes) =
     if is_letter byte then word_token (byte ∷ bytes)
     else if is_digit byte then number_token byte bytes
     else if byte == 39 then as_character (character_value (without_last bytes))
-    else punctuator_token byte
+    else as_symbol (symbol_in punctuators (byte ∷ bytes))
 
 -- The piece has the shape of a token, and no longer piece of the text has.
 pub record IsLongest (piece rest : List ℕ) : Type 0 where
   pub shape : has_shape piece ≡ true
   pub longest : (more behind : List ℕ) → rest ≡ more ++ behind → has_shape (piece ++ more) ≡ true → more ≡ []
 
--- The text divides into these tokens, each the longest possible, and white space; the end of the text is the last.
-pub data Divides : List ℕ → List Lexeme → Type 0 where
-  at_end : Divides [] (L.EndOfText ∷ [])
-  space : (byte : ℕ) (text : List ℕ) (tokens : List Lexeme) → is_space byte ≡ true → Divides text tokens → Divides (byte ∷ text) tokens
-  token : (text piece rest : List ℕ) (lexeme : Lexeme) (tokens : List Lexeme) → text ≡ piece ++ rest → IsLongest piece rest → token_of piece ≡ Some lexeme → Divides rest tokens → Divides text (lexeme ∷ tokens)
-
-abbrev pub lexemes_of : List Token → List Lexeme
-lexemes_of tokens = map (λ (token : Token). token.lexeme) tokens
+-- From a place on, the text divides into these leaves, each the longest token possible, and white space; the end of the
+-- text is the last.
+pub data Divides : Pos → List ℕ → List Leaf → Type 0 where
+  at_end : (place : Pos) → Divides place [] (record { lexeme = L.EndOfText; place = place } ∷ [])
+  space : (place : Pos) (byte : ℕ) (text : List ℕ) (leaves : List Leaf) → is_space byte ≡ true → Divides (place_after place byte) text leaves → Divides place (byte ∷ text) leaves
+  token : (place : Pos) (text piece rest : List ℕ) (lexeme : Lexeme) (leaves : List Leaf) → text ≡ piece ++ rest → IsLongest piece rest → token_of piece ≡ Some lexeme → Divides (place_behind place piece) rest leaves → Divides place text (record { lexeme = lexeme; place = place } ∷ leaves)
 
 -- The bytes of a text spell this token; none spell its end.
 abbrev pub Spells : List ℕ → Lexeme → Type 0
@@ -186,11 +226,11 @@ StandFrom text from (first ∷ tokens) =
     (from ≤ first.start) × (first.start ≤ first.end) × (first.end ≤ length text) × Spells (slice_range text first.start first.end) first.lexeme × StandFrom text first.end tokens
 
 -- What was found is these, unless memory ran out.
-abbrev pub IsFoundUnlessMemory : Result (Vec Token Global) LexErr → List Lexeme → Type 0
-IsFoundUnlessMemory (Ok tokens) lexemes = lexemes_of tokens.items ≡ lexemes
-IsFoundUnlessMemory (Err OutOfMemory) lexemes = Unit {0}
-IsFoundUnlessMemory (Err (BadByte place)) lexemes = ⊥
-IsFoundUnlessMemory (Err (BadLiteral place)) lexemes = ⊥
-IsFoundUnlessMemory (Err (Unclosed place)) lexemes = ⊥
-IsFoundUnlessMemory (Err (BadDirective place)) lexemes = ⊥
-IsFoundUnlessMemory (Err (NameTooLong place)) lexemes = ⊥
+abbrev pub IsFoundUnlessMemory : Result (Vec Token Global) LexErr → List Leaf → Type 0
+IsFoundUnlessMemory (Ok tokens) leaves = leaves_of tokens.items ≡ leaves
+IsFoundUnlessMemory (Err OutOfMemory) leaves = Unit {0}
+IsFoundUnlessMemory (Err (BadByte place)) leaves = ⊥
+IsFoundUnlessMemory (Err (BadLiteral place)) leaves = ⊥
+IsFoundUnlessMemory (Err (Unclosed place)) leaves = ⊥
+IsFoundUnlessMemory (Err (BadDirective place)) leaves = ⊥
+IsFoundUnlessMemory (Err (NameTooLong place)) leaves = ⊥

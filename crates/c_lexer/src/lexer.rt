@@ -1,8 +1,9 @@
 // The tokens of a text, from left to right.
 
-ghost use Rattle.std.specs.Prelude.{◌≡◌, List, IfOk};
-ghost use Rattle.c_lexer.specs.declared.token.Lexeme.{Lexeme};
-ghost use Rattle.c_lexer.specs.Tokens.{Divides, lexemes_of, StandFrom, IsFoundUnlessMemory};
+ghost use Rattle.std.specs.Prelude.{◌≡◌, ◌+◌, ◌^◌, ◌<◌, ◌≤◌, List, length, IfOk};
+ghost use Rattle.run_theory.specs.Places.{first_place, place_behind};
+ghost use Rattle.c_lexer.specs.Leaves.{Leaf, leaves_of};
+ghost use Rattle.c_lexer.specs.Tokens.{Divides, StandFrom, IsFoundUnlessMemory};
 
 use crate::classes::is_space;
 use crate::pieces::first_token;
@@ -12,23 +13,24 @@ use std::alloc::Global;
 
 /// The tokens of a text, the last one the end of the text.
 pub fn tokens(alloc: Global, text: &[u8]) -> Result<Vec<Token>, LexErr>
-    ensures found { IfOk result (λ tokens. Divides text.now (lexemes_of tokens.items)) }
+    requires { length text.now < 2 ^ 31 }
+    ensures found { IfOk result (λ tokens. Divides first_place text.now (leaves_of tokens.items)) }
     ensures spans { IfOk result (λ tokens. StandFrom text.now 0 tokens.items) }
     // no other: whatever the text divides into is what was found, or memory ran out
-    ensures only { (lexemes : List Lexeme) → Divides text.now lexemes → IsFoundUnlessMemory result lexemes }
+    ensures only { (leaves : List Leaf) → Divides first_place text.now leaves → IsFoundUnlessMemory result leaves }
 {
     let mut found = Vec::new(alloc);
     let mut rest = text;
     let mut start: usize = 0;
-    let mut place = Pos { line: 1, column: 1 };
+    let mut place = Pos::start();
     while let Some((first, others)) = rest.split_first() {
         if is_space(*first) {
             rest = others;
             start += 1;
-            place = behind(place, *first);
+            place = place.after(*first);
             continue;
         }
-        let piece = first_token(rest, place)?;
+        let piece = first_token(alloc, rest, place)?;
         let end = start + piece.length;
         let token = Token {
             lexeme: piece.lexeme,
@@ -39,9 +41,9 @@ pub fn tokens(alloc: Global, text: &[u8]) -> Result<Vec<Token>, LexErr>
         if found.push(token).is_err() {
             return Err(LexErr::OutOfMemory);
         }
+        place = behind(place, &rest[..piece.length]);
         rest = &rest[piece.length..];
         start = end;
-        place = further(place, piece.length);
     }
     let end = Token {
         lexeme: Lexeme::EndOfText,
@@ -55,23 +57,15 @@ pub fn tokens(alloc: Global, text: &[u8]) -> Result<Vec<Token>, LexErr>
     }
 }
 
-/// The place behind a byte of white space. Lines and columns past the greatest number stand still.
-fn behind(place: Pos, byte: u8) -> Pos {
-    if byte == b'\n' {
-        Pos {
-            line: place.line.saturating_add(1),
-            column: 1,
-        }
-    } else {
-        further(place, 1)
+/// The place behind bytes, the first of which stands at `place`.
+fn behind(place: Pos, bytes: &[u8]) -> Pos
+    requires line_room { place.line + length bytes.now < 2 ^ 32 }
+    requires column_room { place.column + length bytes.now < 2 ^ 32 }
+    ensures { result ≡ place_behind place bytes.now }
+{
+    let mut place = place;
+    for byte in bytes {
+        place = place.after(*byte);
     }
-}
-
-/// The place so many bytes further on the same line.
-fn further(place: Pos, bytes: usize) -> Pos {
-    let bytes = u32::try_from(bytes).unwrap_or(u32::MAX);
-    Pos {
-        line: place.line,
-        column: place.column.saturating_add(bytes),
-    }
+    place
 }

@@ -6,10 +6,11 @@ mod classes;
 mod lexer;
 mod numbers;
 mod pieces;
+mod punctuators;
 #[cfg(test)]
 mod tests;
 mod token;
 mod words;
 
 pub use lexer::tokens;
-pub use token::{LexErr, Lexeme, Token};
+pub use token::{LexErr, Lexeme, Symbol, Token};

@@ -1,15 +1,22 @@
 // What the lexer makes.
 
+use c_ast::Name;
 use run_theory::Pos;
 use thiserror::Error;
 
-/// What a token is.
+/// A token that has one spelling: a word or punctuator of the grammar.
 #[derive(Clone, Copy, Debug, PartialEq, Eq)]
-pub enum Lexeme {
+pub enum Symbol {
     /// `int`
     Int,
     /// `void`
     Void,
+    /// `if`
+    If,
+    /// `else`
+    Else,
+    /// `while`
+    While,
     /// `return`
     Return,
     /// `main`
@@ -20,12 +27,6 @@ pub enum Lexeme {
     PutChar,
     /// `EOF`
     EndOfFile,
-    /// Another name or keyword, which stands in no rule of the grammar yet.
-    Word,
-    /// A decimal constant that fits `int`: `0`, or digits that begin with 1 to 9 (C17 6.4.4.1).
-    Decimal(u32),
-    /// A character constant: the byte between its quotes, or the one that its escape stands for (C17 6.4.4.4).
-    Character(u8),
     /// `(`
     OpenParenthesis,
     /// `)`
@@ -36,12 +37,56 @@ pub enum Lexeme {
     CloseBrace,
     /// `;`
     Semicolon,
+    /// `=`
+    Equal,
+    /// `!`
+    Exclamation,
+    /// `*`
+    Star,
+    /// `/`
+    Slash,
+    /// `%`
+    Percent,
+    /// `+`
+    Plus,
+    /// `-`
+    Minus,
+    /// `<`
+    Less,
+    /// `>`
+    Greater,
+    /// `<=`
+    LessEqual,
+    /// `>=`
+    GreaterEqual,
+    /// `==`
+    EqualEqual,
+    /// `!=`
+    ExclamationEqual,
+    /// `&&`
+    AmpersandAmpersand,
+    /// `||`
+    BarBar,
+}
+
+/// What a token is.
+#[derive(Debug, Drop)]
+pub enum Lexeme {
+    Symbol(Symbol),
+    /// A name (C17 6.4.2.1).
+    Name(Name),
+    /// Another keyword or name of the library, which stands in no rule of the grammar yet.
+    Reserved,
+    /// A decimal constant that fits `int`: `0`, or digits that begin with 1 to 9 (C17 6.4.4.1).
+    Decimal(u32),
+    /// A character constant: the byte between its quotes, or the one that its escape stands for (C17 6.4.4.4).
+    Character(u8),
     /// The end of the text.
     EndOfText,
 }
 
 /// A token, with the bytes `start..end` of the text that spell it and the place of the first.
-#[derive(Clone, Copy, Debug, PartialEq, Eq)]
+#[derive(Debug, Drop)]
 pub struct Token {
     pub lexeme: Lexeme,
     pub start: usize,
