@@ -1,43 +1,57 @@
--- A tree is no greater than the text that reads as it: each node has a leaf of its own, and each leaf a byte.
-use Rattle.std.proofs.Common.{ℕ, ◌+◌, ◌<◌, ◌≤◌, ◌≡◌, List, [], ◌∷◌, Some, length, ap, arith, length-append}
-use Rattle.c_ast.specs.Trees.{ExprTree, Decimal, Character, EndOfFile, GetChar, PutChar, Parenthesized, StmtTree, Empty, Expression, Return, ProgramTree, expr_size, stmt_size, body_size, program_size}
-use Rattle.c_lexer.specs.declared.token.Lexeme.{Lexeme}
-use Rattle.c_lexer.specs.Tokens.{token_of, Divides, at_end, space, token}
-use Rattle.c_reader.specs.Grammar.{expr_leaves, stmt_leaves, body_leaves, program_leaves, Reads}
+-- A tree has no more nodes than leaves: each node has a leaf of its own.
+use Rattle.std.proofs.Common.{ℕ, ◌+◌, ◌<◌, ◌≤◌, List, [], ◌∷◌, ◌++◌, Option, length, arith, length-append}
+use Rattle.c_ast.specs.Syntax.{ExprTree, StmtTree, BlockTree, ProgramTree, expr_size, value_size, stmt_size, block_size, program_size}
+use Rattle.c_lexer.specs.Leaves.{Leaf}
+use Rattle.c_reader.specs.Grammar.{IsUnary, decimal, character, end_of_file, variable, parenthesized, get_char, put_char, operation, IsLevel, unary, joined, Joined, alone, more, IsExpr, binary, assignment, IsInitializer, without_value, with_value, IsStmt, block, empty, expression, if_alone, if_else, while, return, IsBlock, braces, IsItems, close, declaration, statement, IsProgram, main, Parses}
 
--- no token is empty
-token_nonempty : (piece : List ℕ) (lexeme : Lexeme) → token_of piece ≡ Some lexeme → 0 < length piece
-token_nonempty [] lexeme spells = absurd (cc)
-token_nonempty (byte ∷ bytes) lexeme spells = omega arith
+mutual
+  unary_length : {leaves : List Leaf} {tree : ExprTree} → IsUnary leaves tree → expr_size tree ≤ length leaves
+  unary_length (decimal value place) = omega arith
+  unary_length (character byte place) = omega arith
+  unary_length (end_of_file place) = omega arith
+  unary_length (variable name place) = omega arith
+  unary_length (parenthesized open_place close_place inner) = omega (arith, expr_length inner, length-append {A = Leaf})
+  unary_length (get_char place open_place close_place) = omega arith
+  unary_length (put_char place open_place close_place value) = omega (arith, expr_length value, length-append {A = Leaf})
+  unary_length (operation operator place operand) = omega (arith, unary_length operand)
 
--- a text has at most as many tokens as bytes, and its end
-pub tokens_length : (text : List ℕ) (tokens : List Lexeme) → Divides text tokens → length tokens ≤ length text + 1
-tokens_length text tokens at_end = omega arith
-tokens_length text tokens (space byte rest _ is divides) = omega (arith, tokens_length rest tokens divides)
-tokens_length text all (token _ piece rest lexeme tokens cut longest spells divides) =
-    omega (arith, ap length cut, length-append {A = ℕ}, token_nonempty piece lexeme spells, tokens_length rest tokens divides)
+  level_length : {level : ℕ} {leaves : List Leaf} {tree : ExprTree} → IsLevel level leaves tree → expr_size tree ≤ length leaves
+  level_length (unary spelled) = unary_length spelled
+  level_length (joined first others) = omega (arith, level_length first, joined_length others, length-append {A = Leaf})
 
-expr_leaves_length : (tree : ExprTree) → expr_size tree ≤ length (expr_leaves tree)
-expr_leaves_length (Decimal value) = omega arith
-expr_leaves_length (Character byte) = omega arith
-expr_leaves_length EndOfFile = omega arith
-expr_leaves_length GetChar = omega arith
-expr_leaves_length (PutChar value) = omega (arith, expr_leaves_length value, length-append {A = Lexeme})
-expr_leaves_length (Parenthesized inner) = omega (arith, expr_leaves_length inner, length-append {A = Lexeme})
+  joined_length : {level : ℕ} {left tree : ExprTree} {leaves : List Leaf} → Joined level left leaves tree → expr_size tree ≤ expr_size left + length leaves
+  joined_length alone = omega arith
+  joined_length (more kind place operator joins binds operand others) = omega (arith, level_length operand, joined_length others, length-append {A = Leaf})
 
-stmt_leaves_length : (tree : StmtTree) → stmt_size tree ≤ length (stmt_leaves tree)
-stmt_leaves_length Empty = omega arith
-stmt_leaves_length (Expression value) = omega (arith, expr_leaves_length value, length-append {A = Lexeme})
-stmt_leaves_length (Return value) = omega (arith, expr_leaves_length value, length-append {A = Lexeme})
+  expr_length : {leaves : List Leaf} {tree : ExprTree} → IsExpr leaves tree → expr_size tree ≤ length leaves
+  expr_length (binary spelled) = level_length spelled
+  expr_length (assignment name place equal_place value) = omega (arith, expr_length value)
 
-body_leaves_length : (trees : List StmtTree) → body_size trees ≤ length (body_leaves trees)
-body_leaves_length [] = omega arith
-body_leaves_length (tree ∷ trees) = omega (arith, stmt_leaves_length tree, body_leaves_length trees, length-append {A = Lexeme})
+initializer_length : {leaves : List Leaf} {value : Option ExprTree} → IsInitializer leaves value → value_size value < length leaves
+initializer_length (without_value end_place) = omega arith
+initializer_length (with_value equal_place end_place value) = omega (arith, expr_length value, length-append {A = Leaf})
 
-program_leaves_length : (program : ProgramTree) → program_size program ≤ length (program_leaves program)
-program_leaves_length program = omega (arith, body_leaves_length program.body, length-append {A = Lexeme})
+mutual
+  stmt_length : {leaves : List Leaf} {tree : StmtTree} → IsStmt leaves tree → stmt_size tree ≤ length leaves
+  stmt_length (block items) = omega (arith, block_length items)
+  stmt_length (empty place) = omega arith
+  stmt_length (expression end_place value) = omega (arith, expr_length value, length-append {A = Leaf})
+  stmt_length (if_alone place open_place close_place condition taken) = omega (arith, expr_length condition, stmt_length taken, length-append {A = Leaf})
+  stmt_length (if_else place open_place close_place else_place condition taken closed otherwise) = omega (arith, expr_length condition, stmt_length taken, stmt_length otherwise, length-append {A = Leaf})
+  stmt_length (while place open_place close_place condition body) = omega (arith, expr_length condition, stmt_length body, length-append {A = Leaf})
+  stmt_length (return place end_place value) = omega (arith, expr_length value, length-append {A = Leaf})
 
--- a program has at most as many nodes as its text has bytes, and one
-pub reads_size : (text : List ℕ) (program : ProgramTree) → Reads text program → program_size program ≤ length text + 1
-reads_size text program reads =
-    omega (arith, tokens_length text reads.tokens reads.divides, ap length reads.parses.leaves, program_leaves_length program)
+  block_length : {leaves : List Leaf} {items : BlockTree} → IsBlock leaves items → block_size items < length leaves
+  block_length (braces place items) = omega (arith, items_length items)
+
+  items_length : {leaves : List Leaf} {items : BlockTree} → IsItems leaves items → block_size items < length leaves
+  items_length (close place) = omega arith
+  items_length (declaration int_place name place value others) = omega (arith, initializer_length value, items_length others, length-append {A = Leaf})
+  items_length (statement stmt others) = omega (arith, stmt_length stmt, items_length others, length-append {A = Leaf})
+
+program_length : {leaves : List Leaf} {program : ProgramTree} → IsProgram leaves program → program_size program ≤ length leaves
+program_length (main int_place main_place open_place void_place close_place end_place body) = omega (arith, block_length body, length-append {A = Leaf})
+
+-- a program has at most as many nodes as leaves
+pub parses_size : (leaves : List Leaf) (program : ProgramTree) → Parses leaves program → program_size program ≤ length leaves
+parses_size leaves program parses = program_length parses.spelled

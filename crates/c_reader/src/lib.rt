@@ -1,8 +1,10 @@
-//! From tokens to the tree of a program (C17 6.5, 6.8, 6.9).
+//! From tokens to the tree of a program (C17 6.5, 6.7, 6.8, 6.9).
 #![tactic(auto)]
 
 mod expr;
+mod operator;
 mod program;
+mod stmt;
 mod syntax_err;
 mod token;
 

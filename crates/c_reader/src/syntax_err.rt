@@ -4,7 +4,7 @@ ghost use Rattle.std.specs.Prelude.{◌≡◌};
 ghost use Rattle.c_reader.specs.declared.syntax_err.SyntaxErr.TheVariants.{OutOfMemory};
 
 use run_theory::Pos;
-use std::alloc::AllocFailed;
+use std::alloc::{AllocError, AllocFailed};
 use thiserror::Error;
 
 /// Why tokens are no program.
@@ -18,6 +18,14 @@ pub enum SyntaxErr {
     TooDeep(Pos),
     #[error("out of memory")]
     OutOfMemory,
+}
+
+impl From<AllocError> for SyntaxErr {
+    ghost from_gives = { λ _ e. e ≡ OutOfMemory };
+
+    fn from(_failed: AllocError) -> SyntaxErr {
+        SyntaxErr::OutOfMemory
+    }
 }
 
 impl<T: Drop> From<AllocFailed<T>> for SyntaxErr {

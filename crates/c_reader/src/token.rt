@@ -1,46 +1,66 @@
-// Steps over tokens that have to stand there.
+// Steps over tokens that have to stand there, and over what nests.
 
-ghost use Rattle.std.specs.Prelude.{◌≡◌, List, ◌∷◌, ◌++◌, IfOk, OnErr};
-ghost use Rattle.c_lexer.specs.declared.token.Lexeme.{Lexeme};
-ghost use Rattle.c_reader.specs.Grammar.{lexemes_of};
-ghost use Rattle.c_reader.specs.Reading.{front_place};
+ghost use Rattle.std.specs.Prelude.{◌≡◌, List, ◌∷◌, ◌+◌, ◌<◌, ◌≤◌, length, IfOk, IfErr, OnErr, IfSome, IfNone};
+ghost use Rattle.c_lexer.specs.Leaves.{Leaf, leaves_of};
+ghost use Rattle.c_reader.specs.Grammar.{symbol};
+ghost use Rattle.c_reader.specs.Reading.{Passes};
 
 use crate::SyntaxErr;
-use c_lexer::{Lexeme, Token};
+use c_lexer::{Lexeme, Symbol, Token};
 use run_theory::Pos;
 
+/// A symbol at the front of tokens, and the tokens behind it.
+#[derive(Clone, Copy)]
+pub struct SymbolAt<'a> {
+    pub place: Pos,
+    pub rest: &'a [Token],
+}
+
 /// The refusal at the first of the tokens, or at the start of the text where there is none.
-pub fn misfit(tokens: &[Token]) -> SyntaxErr
-    ensures { result ≡ SyntaxErr.At (front_place tokens.now) }
-{
+pub fn misfit(tokens: &[Token]) -> SyntaxErr {
     match tokens.first() {
         Some(token) => SyntaxErr::At(token.place),
         None => SyntaxErr::At(Pos { line: 1, column: 1 }),
     }
 }
 
-/// Passes the token that has to stand at the front.
-pub fn pass(tokens: &[Token], wanted: Lexeme) -> Result<&[Token], SyntaxErr>
-    ensures found { IfOk result (λ rest. lexemes_of tokens.now ≡ wanted ∷ lexemes_of rest.now) }
-    ensures none { OnErr result ((rest : List Lexeme) → lexemes_of tokens.now ≡ wanted ∷ rest → ⊥) }
+/// The symbol at the front, if it is this one.
+pub fn symbol_at(tokens: &[Token], kind: Symbol) -> Option<SymbolAt<'_>>
+    ensures found { IfSome result (λ at. leaves_of tokens.now ≡ symbol kind at.place ∷ leaves_of at.rest.now) }
+    ensures shorter { IfSome result (λ at. length at.rest.now < length tokens.now) }
+    ensures none { IfNone result ((behind : List Leaf) → Passes kind (leaves_of tokens.now) behind → ⊥) }
 {
-    let Some((token, rest)) = tokens.split_first() else {
-        return Err(misfit(tokens));
-    };
-    if token.lexeme != wanted {
-        return Err(misfit(tokens));
+    let (token, rest) = tokens.split_first()?;
+    match token.lexeme {
+        Lexeme::Symbol(found) => (found == kind).then_some(SymbolAt {
+            place: token.place,
+            rest,
+        }),
+        _ => None,
     }
-    Ok(rest)
 }
 
-/// Passes the tokens that have to stand at the front.
-pub fn pass_all<'a>(tokens: &'a [Token], wanted: &[Lexeme]) -> Result<&'a [Token], SyntaxErr>
-    ensures found { IfOk result (λ rest. lexemes_of tokens.now ≡ wanted.now ++ lexemes_of rest.now) }
-    ensures none { OnErr result ((rest : List Lexeme) → lexemes_of tokens.now ≡ wanted.now ++ rest → ⊥) }
+/// Passes the symbol that has to stand at the front.
+pub fn pass(tokens: &[Token], kind: Symbol) -> Result<&[Token], SyntaxErr>
+    ensures found { IfOk result (λ rest. Passes kind (leaves_of tokens.now) (leaves_of rest.now)) }
+    ensures shorter { IfOk result (λ rest. length rest.now < length tokens.now) }
+    ensures none { OnErr result ((behind : List Leaf) → Passes kind (leaves_of tokens.now) behind → ⊥) }
 {
-    let mut rest = tokens;
-    for lexeme in wanted {
-        rest = pass(rest, *lexeme)?;
+    match symbol_at(tokens, kind) {
+        Some(at) => Ok(at.rest),
+        None => Err(misfit(tokens)),
     }
-    Ok(rest)
+}
+
+/// The room below a node at this place. `least` is the least height of what stands below it.
+pub fn room_below(room: u32, least: u32, place: Pos) -> Result<u32, SyntaxErr>
+    ensures found { IfOk result (λ below. below + 1 ≡ room) }
+    ensures fits { IfOk result (λ below. least ≤ below) }
+    ensures none { OnErr result (room ≤ least) }
+    ensures deep { IfErr result (λ fault. fault ≡ SyntaxErr.TooDeep place) }
+{
+    if room <= least {
+        return Err(SyntaxErr::TooDeep(place));
+    }
+    Ok(room - 1)
 }
