@@ -1,0 +1,5 @@
+pub mod Checking
+pub mod Names
+pub mod Operations
+pub mod SymbolTable
+pub mod Typing
