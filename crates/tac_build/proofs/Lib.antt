@@ -1,5 +1,9 @@
--- What is proved of code: that it still stands when points are appended, that it has no more points than the program
--- has nodes, and that it does what the program does.
-pub mod Sizes
+-- What is proved of code: how the points grow as it is made, that it still stands then, and that it does what the
+-- program does.
+pub mod Points
 pub mod Standing
+pub mod Forms
+pub mod Items
+pub mod Registers
+pub mod Values
 pub mod Simulation

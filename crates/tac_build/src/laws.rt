@@ -2,7 +2,7 @@
 
 ghost use Rattle.std.specs.Prelude.{ℕ, List};
 ghost use Rattle.run_theory.specs.Runs.{Simulates};
-ghost use Rattle.c_ast.specs.Trees.{ProgramTree};
+ghost use Rattle.c_ast.specs.Typed.{TypedProgram};
 ghost use Rattle.c_ast.specs.Reference.{reference};
 ghost use Rattle.tac_ir.specs.Meaning.{tac_run};
 ghost use Rattle.tac_ir.specs.declared.Tac.{Tac};
@@ -11,5 +11,5 @@ ghost use Rattle.tac_build.specs.Code.{Code};
 /// The code of a program does what the program does, on every input: within a bounded number of steps it answers as
 /// the program does within a budget, and it goes on as long as the program does.
 pub fn code_follows_reference()
-    ensures { (program : ProgramTree) (tac : Tac) (input : List ℕ) → Code program tac → Simulates (reference program input) (tac_run tac input) 4 0 }
+    ensures { (program : TypedProgram) (tac : Tac) (input : List ℕ) → Code program tac → Simulates (reference program input) (tac_run tac input) 4 0 }
 {}

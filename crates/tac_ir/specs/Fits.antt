@@ -6,9 +6,16 @@ use Rattle.tac_ir.specs.declared.Op.TheVariants as O
 use Rattle.tac_ir.specs.declared.Func.{Func}
 use Rattle.tac_ir.specs.declared.Tac.{Tac}
 
--- the registers of the operation, and the point that follows, are among so many
+-- the registers of the operation, and the points that follow, are among so many
 abbrev pub NamesBelow : ℕ → ℕ → Op → Type 0
+NamesBelow registers points O.Reserved = Unit {0}
 NamesBelow registers points (O.Constant to value next) = (to.0 < registers) × (next.0 < points)
+NamesBelow registers points (O.Copy from to next) = (from.0 < registers) × (to.0 < registers) × (next.0 < points)
+NamesBelow registers points (O.Negate type operand to next) = (operand.0 < registers) × (to.0 < registers) × (next.0 < points)
+NamesBelow registers points (O.Not type operand to next) = (operand.0 < registers) × (to.0 < registers) × (next.0 < points)
+NamesBelow registers points (O.Arithmetic operator type left right to next) = (left.0 < registers) × (right.0 < registers) × (to.0 < registers) × (next.0 < points)
+NamesBelow registers points (O.Compare relation type left right to next) = (left.0 < registers) × (right.0 < registers) × (to.0 < registers) × (next.0 < points)
+NamesBelow registers points (O.Branch type condition holds fails) = (condition.0 < registers) × (holds.0 < points) × (fails.0 < points)
 NamesBelow registers points (O.GetChar to next) = (to.0 < registers) × (next.0 < points)
 NamesBelow registers points (O.PutChar from to next) = (from.0 < registers) × (to.0 < registers) × (next.0 < points)
 NamesBelow registers points (O.Return from) = from.0 < registers

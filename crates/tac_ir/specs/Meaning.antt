@@ -1,9 +1,14 @@
 -- What three-address code does. A state is a point, the values of the registers, the input that is left and the trace.
--- Where a point or a register isn't there, the run is undefined: what is compiled from it owes nothing then.
-use Rattle.std.specs.Prelude.{ℕ, ◌+◌, ℤ, pos, List, [], ◌∷◌, ◌++◌, Option, Some, None, length, nat_lt, if◌then◌else◌, slice_get, slice_set, replicate}
+-- Where a point or a register isn't there, an operand is no value of its type, or arithmetic is undefined, the run is
+-- undefined: what is compiled from it owes nothing then.
+use Rattle.std.specs.Prelude.{ℕ, ◌+◌, ℤ, pos, List, [], ◌∷◌, ◌++◌, Option, Some, None, Result, Ok, Err, length, nat_lt, if◌then◌else◌, slice_get, slice_set, replicate}
 use Rattle.run_theory.specs.declared.ends.UbKind.TheVariants as Ub
 use Rattle.run_theory.specs.Runs.{Trace, Output, Ended, Undefined, Move, To, Halt, steps, Run}
-use Rattle.c_ast.specs.Values.{byte_of, next_char, after_next}
+use Rattle.c_num.specs.declared.IntType.{IntType}
+use Rattle.c_num.specs.declared.ArithUb.{ArithUb}
+use Rattle.c_num.specs.Types.{is_value}
+use Rattle.c_num.specs.Arith.{outcome_of, negated_of, compare_of}
+use Rattle.c_ast.specs.Values.{byte_of, next_char, after_next, is_zero, truth}
 use Rattle.tac_ir.specs.declared.Op.{Op}
 use Rattle.tac_ir.specs.declared.Op.TheVariants as O
 use Rattle.tac_ir.specs.declared.Tac.{Tac}
@@ -30,9 +35,36 @@ abbrev pub read : Option ℤ → State → (ℤ → Move State) → Move State
 read None state go = lost state
 read (Some value) state go = go value
 
+-- goes on with the value of a register, if it is a value of the type
+abbrev pub operand : IntType → Option ℤ → State → (ℤ → Move State) → Move State
+operand type None state go = lost state
+operand type (Some value) state go = if is_value type value then go value else lost state
+
+-- goes on with the result of arithmetic, where it is defined
+abbrev pub defined : Result ℤ ArithUb → State → (ℤ → Move State) → Move State
+defined (Ok value) state go = go value
+defined (Err ub) state go = lost state
+
+-- goes on at a point
+abbrev pub go_to : ℕ → State → Move State
+go_to next state = To (record state { at = next })
+
 abbrev pub execute : Option Op → State → Move State
 execute None state = lost state
+execute (Some O.Reserved) state = lost state
 execute (Some (O.Constant to value next)) state = write to.0 value next.0 state.input state.trace state
+execute (Some (O.Copy from to next)) state =
+    read (slice_get state.registers from.0) state (λ value. write to.0 value next.0 state.input state.trace state)
+execute (Some (O.Negate type from to next)) state =
+    operand type (slice_get state.registers from.0) state (λ a. defined (negated_of type a) state (λ value. write to.0 value next.0 state.input state.trace state))
+execute (Some (O.Not type from to next)) state =
+    operand type (slice_get state.registers from.0) state (λ a. write to.0 (truth (is_zero a)) next.0 state.input state.trace state)
+execute (Some (O.Arithmetic operator type left right to next)) state =
+    operand type (slice_get state.registers left.0) state (λ a. operand type (slice_get state.registers right.0) state (λ b. defined (outcome_of operator type a b) state (λ value. write to.0 value next.0 state.input state.trace state)))
+execute (Some (O.Compare relation type left right to next)) state =
+    operand type (slice_get state.registers left.0) state (λ a. operand type (slice_get state.registers right.0) state (λ b. write to.0 (truth (compare_of relation a b)) next.0 state.input state.trace state))
+execute (Some (O.Branch type condition holds fails)) state =
+    operand type (slice_get state.registers condition.0) state (λ value. if is_zero value then go_to fails.0 state else go_to holds.0 state)
 execute (Some (O.GetChar to next)) state = write to.0 (next_char state.input) next.0 (after_next state.input) state.trace state
 execute (Some (O.PutChar from to next)) state =
     read (slice_get state.registers from.0) state (λ value. write to.0 (pos (byte_of value)) next.0 state.input (state.trace ++ Output (byte_of value) ∷ []) state)

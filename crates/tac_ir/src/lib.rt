@@ -5,6 +5,8 @@
 //! says what the code does.
 #![tactic(auto)]
 
+use c_num::{BinOp, IntType, Relation};
+
 /// A register of a function.
 #[derive(Clone, Copy, Debug, PartialEq, Eq)]
 pub struct Register(pub usize);
@@ -16,11 +18,58 @@ pub struct PointId(pub usize);
 /// What is done at a point, and where it goes on.
 #[derive(Clone, Copy, Debug, PartialEq, Eq)]
 pub enum Op {
+    /// A point that is not filled in yet. No run comes to one.
+    Reserved,
     /// Writes a value to a register.
     Constant {
         to: Register,
         value: i64,
         next: PointId,
+    },
+    /// Writes what a register holds to another.
+    Copy {
+        from: Register,
+        to: Register,
+        next: PointId,
+    },
+    /// Negates a value of the type (C17 6.5.3.3).
+    Negate {
+        int_type: IntType,
+        operand: Register,
+        to: Register,
+        next: PointId,
+    },
+    /// Writes 1 where a value of the type is 0, else 0 (C17 6.5.3.3).
+    Not {
+        int_type: IntType,
+        operand: Register,
+        to: Register,
+        next: PointId,
+    },
+    /// Arithmetic on two values of the type (C17 6.5.5 to 6.5.12).
+    Arithmetic {
+        operator: BinOp,
+        int_type: IntType,
+        left: Register,
+        right: Register,
+        to: Register,
+        next: PointId,
+    },
+    /// Compares two values of the type, and writes 1 or 0 (C17 6.5.8, 6.5.9).
+    Compare {
+        relation: Relation,
+        int_type: IntType,
+        left: Register,
+        right: Register,
+        to: Register,
+        next: PointId,
+    },
+    /// Goes on at one of two points: at the second where a value of the type is 0.
+    Branch {
+        int_type: IntType,
+        condition: Register,
+        nonzero: PointId,
+        zero: PointId,
     },
     /// Writes what `getchar` gives to a register.
     GetChar {

@@ -1,0 +1,10 @@
+use Rattle.std.proofs.Common.{arith}
+use Rattle.tac_ir.specs.declared.Op.TheVariants as O
+use Rattle.tac_build.proofs.Points.{named_appended}
+use Rattle.tac_build.proofs.builder.Builder.reserve.Goals as goal
+
+pub returns-clause-ready : goal.returns-clause-ready
+returns-clause-ready c = record {
+  named = named_appended _ _ _ _ O.Reserved c.in_ok-push.ensures.items (omega arith) c.requires tt;
+  within = omega (arith, c.in_ok-push.ensures.len, c.len.ensures);
+}

@@ -1,0 +1,82 @@
+// The points that stand so far. What follows a part stands before the part is lowered, so points are only appended, but
+// for the branch of a loop, whose point is reserved first and filled in last.
+
+use std::alloc::{AllocError, Global};
+use tac_ir::{Op, PointId, Register};
+
+/// The points of a function that stand so far, and how many registers they name.
+#[derive(Drop)]
+pub struct Builder {
+    pub points: Vec<Op>,
+    pub registers: usize,
+}
+
+impl Builder {
+    ghost use Rattle.std.specs.Prelude.{◌≡◌, ◌+◌, ◌<◌, max, length, [], slice_set, OnOk, IfOk};
+    ghost use Rattle.tac_ir.specs.declared.Op.TheVariants as O;
+    ghost use Rattle.tac_ir.specs.Fits.{NamesBelow};
+    ghost use Rattle.tac_build.specs.Code.{HasOp};
+    ghost use Rattle.tac_build.specs.Bounds.{IsNamed, IsReady, Grows};
+
+    /// Neither points nor registers.
+    pub fn new(alloc: Global) -> Builder
+        ensures points { result.points.items ≡ [] }
+        ensures registers { result.registers ≡ 0 }
+    {
+        Builder {
+            points: Vec::new(alloc),
+            registers: 0,
+        }
+    }
+
+    /// One more point, whose registers are the last one at most.
+    pub fn append(&mut self, op: Op, last: Register) -> Result<PointId, AllocError>
+        requires all_named { IsNamed self.old }
+        requires op_named { NamesBelow (last.0 + 1) (length self.old.points.items) op }
+        ensures code { IfOk result (λ at. HasOp self.new.points.items at.0 op) }
+        ensures grows { OnOk result (Grows self.old self.new 1 (last.0 + 1)) }
+        ensures ready { IfOk result (λ at. IsReady self.new at.0) }
+    {
+        self.reach(last)?;
+        let at = PointId(self.points.len());
+        self.points.push(op)?;
+        Ok(at)
+    }
+
+    /// A point that is to be filled in.
+    pub fn reserve(&mut self) -> Result<PointId, AllocError>
+        requires { IsNamed self.old }
+        ensures code { IfOk result (λ at. HasOp self.new.points.items at.0 O.Reserved) }
+        ensures is_new { IfOk result (λ at. at.0 ≡ length self.old.points.items) }
+        ensures grows { OnOk result (Grows self.old self.new 1 0) }
+        ensures ready { IfOk result (λ at. IsReady self.new at.0) }
+    {
+        let at = PointId(self.points.len());
+        self.points.push(Op::Reserved)?;
+        Ok(at)
+    }
+
+    /// Fills in a point. The registers of the operation are the last one at most.
+    pub fn fill(&mut self, at: PointId, op: Op, last: Register) -> Result<(), AllocError>
+        requires there { at.0 < length self.old.points.items }
+        requires all_named { IsNamed self.old }
+        requires op_named { NamesBelow (last.0 + 1) (length self.old.points.items) op }
+        ensures points { OnOk result (self.new.points.items ≡ slice_set self.old.points.items at.0 op) }
+        ensures registers { OnOk result (self.new.registers ≡ max self.old.registers (last.0 + 1)) }
+        ensures named { OnOk result (IsNamed self.new) }
+    {
+        self.reach(last)?;
+        self.points[at.0] = op;
+        Ok(())
+    }
+
+    /// Sees that a register is there. It is out of memory where the numbers of registers end.
+    fn reach(&mut self, last: Register) -> Result<(), AllocError>
+        ensures points { self.new.points.items ≡ self.old.points.items }
+        ensures registers { OnOk result (self.new.registers ≡ max self.old.registers (last.0 + 1)) }
+    {
+        let needed = last.0.checked_add(1).ok_or(AllocError)?;
+        self.registers = self.registers.max(needed);
+        Ok(())
+    }
+}
