@@ -1,6 +1,7 @@
 -- Lists read from the other end.
 use Rattle.std.proofs.Common.{◌≡◌, ℕ, suc, ◌+◌, ◌-◌, ◌<◌, ◌≤◌, List, [], ◌∷◌, ◌++◌, length, take, drop, set, reverse, sym, ap, ◌∙◌, arith}
-use Rattle.std.proofs.lemmas.List.{reverse-append, length-reverse, length-append, length-take, length-drop, take-append-drop, drop_at, take_at, take_rest, set_split, drop_all, drop-drop, append_assoc, reverse-reverse}
+use Rattle.std.proofs.lemmas.List.{reverse-append, length-reverse, length-append, length-take, length-drop, take-append-drop, drop_at, take_at, take_rest, length-set, set_split, drop_all, drop-drop, append_assoc, reverse-reverse}
+use Rattle.std.proofs.Math.Seq.{take-set-lt}
 use Rattle.pool_isa.specs.Machine.{spliced}
 
 -- what is left when the last ones are dropped
@@ -19,6 +20,23 @@ reverse-set_last xs x lt =
     let none : drop (suc k) xs ≡ [] = drop_all (suc k) xs (omega arith) in
     let pushed : set xs k x ≡ take k xs ++ x ∷ [] = cut ∙ ap (λ rest. take k xs ++ x ∷ rest) none in
     ap reverse pushed ∙ reverse-append (take k xs) (x ∷ []) ∙ ap (λ rest. x ∷ rest) (reverse-take xs 1 (omega arith))
+
+-- the last but one replaced, and the last one dropped
+pub reverse-combined : {X : Type 0} → (xs : List X) (x : X) → 2 ≤ length xs → reverse (set (take (length xs - 1) xs) (length xs - 2) x) ≡ x ∷ drop 2 (reverse xs)
+reverse-combined xs x le =
+    let front = take (length xs - 1) xs in
+    let long : length front ≡ length xs - 1 = simp length-take (omega arith) in
+    let at : length xs - 2 ≡ length front - 1 = omega arith in
+    ap (λ n. reverse (set front n x)) at ∙ reverse-set_last front x (omega arith) ∙ ap (λ ys. x ∷ drop 1 ys) (reverse-take xs 1 (omega arith)) ∙ ap (λ ys. x ∷ ys) (drop-drop 1 1 (reverse xs))
+
+-- the last two replaced
+pub reverse-set_two : {X : Type 0} → (xs : List X) (x y : X) → 2 ≤ length xs → reverse (set (set xs (length xs - 2) x) (length xs - 1) y) ≡ y ∷ x ∷ drop 2 (reverse xs)
+reverse-set_two xs x y le =
+    let ys = set xs (length xs - 2) x in
+    let long : length ys ≡ length xs = length-set xs (length xs - 2) x in
+    let at : length xs - 1 ≡ length ys - 1 = omega arith in
+    let front : take (length ys - 1) ys ≡ set (take (length xs - 1) xs) (length xs - 2) x = ap (λ n. take n ys) (sym at) ∙ take-set-lt (length xs - 1) xs (length xs - 2) x (omega arith) in
+    ap (λ n. reverse (set ys n y)) at ∙ reverse-set_last ys y (omega arith) ∙ ap (λ zs. y ∷ zs) (sym (reverse-take ys 1 (omega arith)) ∙ ap reverse front ∙ reverse-combined xs x le)
 
 -- the last ones in their order
 pub reverse-take_reverse : {X : Type 0} → (xs : List X) (count : ℕ) → count ≤ length xs → take (length xs - (length xs - count)) (drop (length xs - count) xs) ≡ reverse (take count (reverse xs))

@@ -10,9 +10,6 @@ use Rattle.machine.specs.Steps.{state_of, activations_of, LeftAt, CallStack, Mak
 
 module _ (functions : List Function) (function : Function) (old : CallStack) (result : Step) (new : CallStack) where
   -- an instruction by another name
-  pub performs_as : (instr instr' : Instr) → instr' ≡ instr → Performs functions function instr old result new → Performs functions function instr' old result new
-  performs_as instr instr' e = subst (λ i. Performs functions function i old result new) (sym e)
-
   pub does_as : (instr instr' : Instr) (left written left' written' : Option (List ℕ)) → instr' ≡ instr → Does functions function instr old left written result new left' written' → Does functions function instr' old left written result new left' written'
   does_as instr instr' left written left' written' e = subst (λ i. Does functions function i old left written result new left' written') (sym e)
 

@@ -50,6 +50,22 @@ abbrev pub Performs : List Function → Function → Instr → CallStack → Ste
 Performs functions function instr old result new =
     (input : List ℕ) (trace : Trace) → Makes (perform (Some instr) functions function old.innermost old.callers (state_of (activations_of old) input trace)) (state_of (activations_of old) input trace) result (activations_of new)
 
+-- an instruction that concerns the innermost activation alone: neither its caller nor memory, input or output
+abbrev pub IsAlone : Instr → Type 0
+IsAlone (instrs.Load type) = ⊥
+IsAlone (instrs.Store width) = ⊥
+IsAlone (instrs.Call callee) = ⊥
+IsAlone instrs.Return = ⊥
+IsAlone instrs.ReturnValue = ⊥
+IsAlone instrs.GetChar = ⊥
+IsAlone instrs.PutChar = ⊥
+IsAlone _ = Unit {0}
+
+-- The same of an instruction that concerns the innermost activation alone, whatever callers there are.
+abbrev pub PerformsAlone : Function → Instr → Activation → Step → Activation → Type 0
+PerformsAlone function instr old result new =
+    (functions : List Function) (callers : List Activation) → Performs functions function instr (record { innermost = old; callers = callers }) result (record { innermost = new; callers = callers })
+
 -- the machine halts there, with what is left and written
 pub record Halts (move : Move State) (final : Final) (base : List ℕ) (old : State) (left written : Option (List ℕ)) : Type 0 where
   pub halts : move ≡ Halt final old

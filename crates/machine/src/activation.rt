@@ -156,6 +156,30 @@ impl Activation {
         self.place += 1;
     }
 
+    /// Puts two operands in the place of the last two, and goes to the next instruction.
+    pub(crate) fn replace_two(&mut self, first: u64, last: u64)
+        requires next { self.old.place + 1 < 2 ^ 64 }
+        requires there { 2 ≤ length self.old.operands }
+        ensures { self.new ≡ advanced self.old (last ∷ first ∷ drop 2 self.old.operands) }
+    {
+        let count = self.operands.len();
+        self.operands[count - 2] = first;
+        self.operands[count - 1] = last;
+        self.place += 1;
+    }
+
+    /// Puts an operand in the place of the last two, and goes to the next instruction.
+    pub(crate) fn combine(&mut self, word: u64)
+        requires next { self.old.place + 1 < 2 ^ 64 }
+        requires there { 2 ≤ length self.old.operands }
+        ensures { self.new ≡ advanced self.old (word ∷ drop 2 self.old.operands) }
+    {
+        let left = self.operands.len() - 1;
+        self.operands.truncate(left);
+        self.operands[left - 1] = word;
+        self.place += 1;
+    }
+
     /// Drops the last operands, and goes to the next instruction.
     pub(crate) fn discard(&mut self, count: usize)
         requires next { self.old.place + 1 < 2 ^ 64 }

@@ -11,7 +11,7 @@ use crate::activation::Activation;
 use crate::ends::{RunEnd, Step};
 use crate::memory::{read_from, write_to};
 use crate::outside::write_byte;
-use crate::words::{bytes_in, loaded_word, size_of};
+use crate::words::{bytes_in, converted_word, size_of};
 use c_num::IntType;
 use image_form::Function;
 use pcc_outside::{Sink, Source};
@@ -68,50 +68,6 @@ impl Calls {
         &self.innermost
     }
 
-    /// Pushes a word, where the function may hold one more operand.
-    fn push(&mut self, word: u64, height: u32) -> Step
-        requires { self.old.innermost.place + 1 < 2 ^ 64 }
-        ensures { (functions : List machine.Function) (function : machine.Function) → function.height ≡ height → Performs functions function (Instr.Constant word) self.old result self.new }
-    {
-        if self.innermost.is_full(height) {
-            return Step::trap(TrapKind::StackFull);
-        }
-        match self.innermost.push(word) {
-            Ok(()) => Step::On,
-            Err(_) => Step::Over(RunEnd::OutOfMemory),
-        }
-    }
-
-    /// Drops the last operand.
-    fn discard(&mut self) -> Step
-        requires { self.old.innermost.place + 1 < 2 ^ 64 }
-        ensures { (functions : List machine.Function) (function : machine.Function) → Performs functions function Instr.Discard self.old result self.new }
-    {
-        if self.innermost.height() == 0 {
-            return Step::trap(TrapKind::StackEmpty);
-        }
-        self.innermost.discard(1);
-        Step::On
-    }
-
-    /// Goes on at another instruction.
-    fn jump(&mut self, target: u64) -> Step
-        ensures { (functions : List machine.Function) (function : machine.Function) → Performs functions function (Instr.Jump target) self.old result self.new }
-    {
-        self.innermost.jump(target as usize);
-        Step::On
-    }
-
-    /// Ends the run with the last operand, modulo 256.
-    fn exit(&self) -> Step
-        ensures { (functions : List machine.Function) (function : machine.Function) → Performs functions function Instr.Exit self.now result self.now }
-    {
-        match self.innermost.last() {
-            Some(word) => Step::Over(RunEnd::Ended((word % 256) as u8)),
-            None => Step::trap(TrapKind::StackEmpty),
-        }
-    }
-
     /// The number in the `size` bytes from `address` on, if they lie in one living frame.
     fn read(&self, address: u64, size: usize) -> Option<u64>
         requires low { 1 ≤ size }
@@ -145,7 +101,7 @@ impl Calls {
         let Some(number) = self.read(address, size_of(int_type)) else {
             return Step::trap(TrapKind::BadAccess);
         };
-        self.innermost.replace(loaded_word(number, int_type));
+        self.innermost.replace(converted_word(number, int_type));
         Step::On
     }
 
@@ -299,21 +255,12 @@ impl Calls {
         ensures { (function : machine.Function) → function.height ≡ height → Performs (map function_of functions.now) function instr self.old result self.new }
     {
         match instr {
-            Instr::Constant(word) => self.push(word, height),
-            Instr::Local(offset) => {
-                let address = self.innermost.address(offset);
-                self.push(address, height)
-            }
-            Instr::Discard => self.discard(),
             Instr::Load(int_type) => self.load(int_type),
             Instr::Store(width) => self.store(width),
-            Instr::Jump(target) => self.jump(target),
             Instr::Call(callee) => self.call(alloc, functions, callee),
             Instr::Return => self.finish(),
             Instr::ReturnValue => self.finish_with_value(functions),
-            Instr::Exit => self.exit(),
-            // The forms that are compiled need no other instruction.
-            _ => Step::trap(TrapKind::Reached),
+            _ => self.innermost.perform_alone(height, instr),
         }
     }
 

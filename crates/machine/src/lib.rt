@@ -4,10 +4,12 @@
 #![tactic(auto)]
 
 mod activation;
+mod arithmetic;
 mod calls;
 mod ends;
 mod loaded;
 mod memory;
+mod operands;
 mod outside;
 #[cfg(test)]
 mod tests;

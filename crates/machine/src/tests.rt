@@ -1,5 +1,5 @@
 use crate::{Machine, RunEnd};
-use c_num::IntType;
+use c_num::{BinOp, IntType, Relation};
 use image_form::{Function, Globals, Image, MachineLimits};
 use pcc_outside::{MemSink, MemSource};
 use pool_isa::{Instr, Width};
@@ -167,6 +167,260 @@ fn bytes_lie_low_one_first_and_signs_fill_words(rt: HostRuntime) -> Result<(), F
         Instr::Exit,
     ];
     assert_eq!(rt; end_of(alloc, &sign)?, RunEnd::Ended(255));
+    Ok(())
+}
+
+/// The word that an instruction leaves of these operands: it is stored, and its bytes are written out.
+fn left_by(alloc: Global, instr: Instr, operands: &[u64]) -> Result<Vec<u8>, AllocError> {
+    let mut code = Vec::new(alloc);
+    for word in operands {
+        code.push(Instr::Constant(*word))?;
+    }
+    code.extend_from_slice(&[
+        instr,
+        Instr::Local(0),
+        Instr::Swap,
+        Instr::Store(Width::Eight),
+    ])?;
+    for offset in 0..8 {
+        code.push(Instr::Local(offset))?;
+        code.push(Instr::Load(IntType::UChar))?;
+        code.push(Instr::PutChar)?;
+        code.push(Instr::Discard)?;
+    }
+    code.push(Instr::Return)?;
+    Ok(ran(alloc, &image(alloc, &code, 0, &[])?, b"", &[], 1000)?.2)
+}
+
+/// The word of a value of a signed type.
+fn word(value: i64) -> u64 {
+    value.cast_unsigned()
+}
+
+// Values as C17 6.5.5 to 6.5.12 has them; where those leave them undefined, results are reduced modulo 2^width, the
+// amount of a shift modulo the width, and a divisor of zero gives 0 and leaves all.
+#[test]
+fn binary_operators(rt: HostRuntime) -> Result<(), Fail> {
+    let least_int = word(-0x8000_0000);
+    let table: [(BinOp, IntType, u64, u64, u64); 29] = [
+        (BinOp::Add, IntType::Int, 0x7FFF_FFFF, 1, least_int),
+        (BinOp::Add, IntType::UInt, 0xFFFF_FFFF, 1, 0),
+        (BinOp::Add, IntType::Char, 127, 1, word(-128)),
+        (BinOp::Add, IntType::Int, 0x1_0000_0001, 1, 2),
+        (BinOp::Sub, IntType::UChar, 0, 1, 255),
+        (BinOp::Sub, IntType::Int, 3, 5, word(-2)),
+        (BinOp::Sub, IntType::Long, 1 << 63, 1, 0x7FFF_FFFF_FFFF_FFFF),
+        (BinOp::Mul, IntType::Short, 256, 256, 0),
+        (BinOp::Mul, IntType::ULong, u64::MAX, u64::MAX, 1),
+        (BinOp::Mul, IntType::Int, word(-3), 5, word(-15)),
+        (BinOp::Div, IntType::Int, word(-7), 2, word(-3)),
+        (BinOp::Div, IntType::UInt, word(-7), 2, 2147483644),
+        (BinOp::Div, IntType::Int, least_int, word(-1), least_int),
+        (BinOp::Div, IntType::Long, 5, 0, 0),
+        (BinOp::Rem, IntType::Int, word(-7), 2, word(-1)),
+        (BinOp::Rem, IntType::ULong, u64::MAX, 10, 5),
+        (BinOp::Rem, IntType::Short, word(-2), 0, word(-2)),
+        (BinOp::Rem, IntType::Int, least_int, word(-1), 0),
+        (BinOp::Shl, IntType::Int, 1, 31, least_int),
+        (BinOp::Shl, IntType::Int, 1, 33, 2),
+        (BinOp::Shl, IntType::Int, 1, word(-1), least_int),
+        (BinOp::Shl, IntType::UChar, 0x81, 1, 2),
+        (BinOp::Shr, IntType::Int, word(-8), 1, word(-4)),
+        (BinOp::Shr, IntType::UInt, word(-8), 1, 0x7FFF_FFFC),
+        (BinOp::Shr, IntType::Long, 1 << 63, 63, word(-1)),
+        (BinOp::And, IntType::Char, 0xF0, 0x8F, word(-128)),
+        (BinOp::Or, IntType::UShort, 0xFF00, 0x00FF, 0xFFFF),
+        (BinOp::Xor, IntType::Int, word(-1), 1, word(-2)),
+        (BinOp::Xor, IntType::UShort, word(-1), 0x0F0F, 0xF0F0),
+    ];
+    for (operator, int_type, left, right, wanted) in table {
+        let found = left_by(
+            rt.alloc(),
+            Instr::Binary(operator, int_type),
+            &[left, right],
+        )?;
+        assert_eq!(rt;
+            found.as_slice(),
+            wanted.to_le_bytes().as_slice(),
+            "{left} {operator:?} {right} at {int_type:?}"
+        );
+    }
+    Ok(())
+}
+
+// C17 6.5.8 and 6.5.9, at values that differ by type.
+#[test]
+fn relations(rt: HostRuntime) -> Result<(), Fail> {
+    let table: [(Relation, IntType, u64, u64, u64); 15] = [
+        (Relation::Lt, IntType::Int, 1, 2, 1),
+        (Relation::Lt, IntType::Int, 2, 1, 0),
+        (Relation::Lt, IntType::Int, word(-1), 0, 1),
+        (Relation::Lt, IntType::UInt, word(-1), 0, 0),
+        (Relation::Lt, IntType::Char, 0x80, 0x7F, 1),
+        (Relation::Lt, IntType::UChar, 0x80, 0x7F, 0),
+        (Relation::Gt, IntType::Long, 1 << 63, 1, 0),
+        (Relation::Gt, IntType::ULong, 1 << 63, 1, 1),
+        (Relation::Le, IntType::Short, 7, 7, 1),
+        (Relation::Le, IntType::UShort, 8, 7, 0),
+        (Relation::Ge, IntType::Short, 7, 7, 1),
+        (Relation::Ge, IntType::Short, word(-8), 7, 0),
+        (Relation::Eq, IntType::Int, 0x1_0000_0001, 1, 1),
+        (Relation::Eq, IntType::Long, 0x1_0000_0001, 1, 0),
+        (Relation::Ne, IntType::UChar, 0x101, 1, 0),
+    ];
+    for (relation, int_type, left, right, wanted) in table {
+        let found = left_by(
+            rt.alloc(),
+            Instr::Compare(relation, int_type),
+            &[left, right],
+        )?;
+        assert_eq!(rt;
+            found.as_slice(),
+            wanted.to_le_bytes().as_slice(),
+            "{left} {relation:?} {right} at {int_type:?}"
+        );
+    }
+    Ok(())
+}
+
+// C17 6.5.3.3 and 6.3.1.3.
+#[test]
+fn unary_operators_and_conversions(rt: HostRuntime) -> Result<(), Fail> {
+    let least_int = word(-0x8000_0000);
+    let table: [(Instr, u64, u64); 12] = [
+        (Instr::Negate(IntType::Int), 5, word(-5)),
+        (Instr::Negate(IntType::Int), least_int, least_int),
+        (Instr::Negate(IntType::UInt), 1, 0xFFFF_FFFF),
+        (Instr::Negate(IntType::Char), 0x80, word(-128)),
+        (Instr::Complement(IntType::Int), 0, word(-1)),
+        (Instr::Complement(IntType::UChar), 0x0F, 0xF0),
+        (Instr::Complement(IntType::ULong), 1, u64::MAX - 1),
+        (Instr::Convert(IntType::Char), 0x80, word(-128)),
+        (Instr::Convert(IntType::UShort), word(-1), 0xFFFF),
+        (Instr::Convert(IntType::Int), 0x1_8000_0000, least_int),
+        (Instr::Convert(IntType::UInt), least_int, 0x8000_0000),
+        (Instr::Convert(IntType::Long), u64::MAX, u64::MAX),
+    ];
+    for (instr, operand, wanted) in table {
+        let found = left_by(rt.alloc(), instr, &[operand])?;
+        assert_eq!(rt;
+            found.as_slice(),
+            wanted.to_le_bytes().as_slice(),
+            "{instr:?} of {operand}"
+        );
+    }
+    Ok(())
+}
+
+// A function may hold two operands here.
+#[test]
+fn operands_and_places(rt: HostRuntime) -> Result<(), Fail> {
+    let empty = RunEnd::Trapped(TrapKind::StackEmpty);
+    let full = RunEnd::Trapped(TrapKind::StackFull);
+    let table: [(&[Instr], RunEnd); 20] = [
+        (&[Instr::Duplicate], empty),
+        (
+            &[Instr::Constant(1), Instr::Constant(2), Instr::Duplicate],
+            full,
+        ),
+        (
+            &[
+                Instr::Constant(7),
+                Instr::Duplicate,
+                Instr::Binary(BinOp::Add, IntType::Int),
+                Instr::Exit,
+            ],
+            RunEnd::Ended(14),
+        ),
+        (&[Instr::Constant(1), Instr::Swap], empty),
+        (
+            &[
+                Instr::Constant(3),
+                Instr::Constant(5),
+                Instr::Swap,
+                Instr::Binary(BinOp::Sub, IntType::Int),
+                Instr::Exit,
+            ],
+            RunEnd::Ended(2),
+        ),
+        (&[Instr::JumpIfZero(0)], empty),
+        (
+            &[
+                Instr::Constant(0),
+                Instr::JumpIfZero(3),
+                Instr::Return,
+                Instr::Trap,
+            ],
+            RunEnd::Trapped(TrapKind::Reached),
+        ),
+        (
+            &[
+                Instr::Constant(256),
+                Instr::JumpIfZero(3),
+                Instr::Return,
+                Instr::Trap,
+            ],
+            RunEnd::Ended(0),
+        ),
+        (&[Instr::JumpIfNotZero(0)], empty),
+        (
+            &[
+                Instr::Constant(0),
+                Instr::JumpIfNotZero(3),
+                Instr::Return,
+                Instr::Trap,
+            ],
+            RunEnd::Ended(0),
+        ),
+        (
+            &[
+                Instr::Constant(1 << 63),
+                Instr::JumpIfNotZero(3),
+                Instr::Return,
+                Instr::Trap,
+            ],
+            RunEnd::Trapped(TrapKind::Reached),
+        ),
+        // The jumps have popped their words.
+        (
+            &[Instr::Constant(0), Instr::JumpIfZero(2), Instr::Exit],
+            empty,
+        ),
+        (
+            &[Instr::Constant(0), Instr::JumpIfNotZero(2), Instr::Exit],
+            empty,
+        ),
+        (
+            &[Instr::Constant(1), Instr::Binary(BinOp::Div, IntType::Int)],
+            empty,
+        ),
+        (
+            &[
+                Instr::Constant(1),
+                Instr::Compare(Relation::Eq, IntType::Int),
+            ],
+            empty,
+        ),
+        (&[Instr::Negate(IntType::Int)], empty),
+        (&[Instr::Complement(IntType::Int)], empty),
+        (&[Instr::Convert(IntType::Int)], empty),
+        // Two operands leave one, so that there is room for another.
+        (
+            &[
+                Instr::Constant(9),
+                Instr::Constant(2),
+                Instr::Binary(BinOp::Sub, IntType::Int),
+                Instr::Constant(3),
+                Instr::Discard,
+                Instr::Exit,
+            ],
+            RunEnd::Ended(7),
+        ),
+        (&[Instr::Trap], RunEnd::Trapped(TrapKind::Reached)),
+    ];
+    for (code, wanted) in table {
+        assert_eq!(rt; end_of(rt.alloc(), code)?, wanted, "{code:?}");
+    }
     Ok(())
 }
 

@@ -1,4 +1,4 @@
-// Words of memory: the sizes of types, and the words of loaded values.
+// Words of memory: the sizes of types, and the words of values.
 
 ghost use Rattle.std.specs.Prelude.{◌≡◌, ◌≤◌, pos};
 ghost use Rattle.c_num.specs.Conversion.{word_of};
@@ -34,9 +34,9 @@ pub(crate) fn bytes_in(width: Width) -> usize
     }
 }
 
-/// The word of the value of type `int_type` whose bits are the lowest ones of a number.
+/// The word of a number that is converted to a type: of the value whose bits are the number's lowest ones.
 #[tactic(auto, using(crate::proofs::Values::wide_word), unfolding(c_num::specs::Conversion::word_of, c_num::specs::Conversion::convert_to))]
-pub(crate) fn loaded_word(number: u64, int_type: IntType) -> u64
+pub(crate) fn converted_word(number: u64, int_type: IntType) -> u64
     ensures { result ≡ word_of int_type (pos number) }
 {
     match int_type {

@@ -6,7 +6,7 @@ use Rattle.c_num.specs.declared.IntType.{IntType}
 use Rattle.c_num.specs.declared.IntType.TheVariants as kinds
 use Rattle.c_num.specs.declared.BinOp.TheVariants as operators
 use Rattle.pool_isa.specs.declared.instr.Width.TheVariants as widths
-use Rattle.pool_isa.specs.declared.instr.Comparison.TheVariants as comparisons
+use Rattle.c_num.specs.declared.Relation.TheVariants as relations
 use Rattle.pool_isa.specs.declared.instr.Instr.{Instr}
 use Rattle.pool_isa.specs.declared.instr.Instr.TheVariants.{Constant, Discard, Duplicate, Swap, Local, Load, Store, LoadLink, StoreLink, Jump, JumpIfZero, JumpIfNotZero, Call, CallIndirect, Return, ReturnValue, Exit, Trap, Binary, Negate, Complement, Compare, Convert, PoolInit, PoolDestroy, PoolAlloc, PoolFree, GetChar, PutChar}
 use Rattle.pool_isa.specs.declared.head.NumberForm.{NumberForm}
@@ -107,12 +107,12 @@ heads =
     ∷ Some (Typed (types.Binary operators.Xor))
     ∷ Some (Typed types.Negate)
     ∷ Some (Typed types.Complement)
-    ∷ Some (Typed (types.Compare comparisons.Eq))
-    ∷ Some (Typed (types.Compare comparisons.Ne))
-    ∷ Some (Typed (types.Compare comparisons.Lt))
-    ∷ Some (Typed (types.Compare comparisons.Le))
-    ∷ Some (Typed (types.Compare comparisons.Gt))
-    ∷ Some (Typed (types.Compare comparisons.Ge))
+    ∷ Some (Typed (types.Compare relations.Eq))
+    ∷ Some (Typed (types.Compare relations.Ne))
+    ∷ Some (Typed (types.Compare relations.Lt))
+    ∷ Some (Typed (types.Compare relations.Le))
+    ∷ Some (Typed (types.Compare relations.Gt))
+    ∷ Some (Typed (types.Compare relations.Ge))
     ∷ Some (Typed types.Convert)
     ∷ None
     ∷ None
@@ -195,12 +195,12 @@ head_of_code (Binary operators.Or t) = refl
 head_of_code (Binary operators.Xor t) = refl
 head_of_code (Negate t) = refl
 head_of_code (Complement t) = refl
-head_of_code (Compare comparisons.Eq t) = refl
-head_of_code (Compare comparisons.Ne t) = refl
-head_of_code (Compare comparisons.Lt t) = refl
-head_of_code (Compare comparisons.Le t) = refl
-head_of_code (Compare comparisons.Gt t) = refl
-head_of_code (Compare comparisons.Ge t) = refl
+head_of_code (Compare relations.Eq t) = refl
+head_of_code (Compare relations.Ne t) = refl
+head_of_code (Compare relations.Lt t) = refl
+head_of_code (Compare relations.Le t) = refl
+head_of_code (Compare relations.Gt t) = refl
+head_of_code (Compare relations.Ge t) = refl
 head_of_code (Convert t) = refl
 head_of_code (PoolInit n) = refl
 head_of_code PoolDestroy = refl

@@ -6,8 +6,8 @@ use Rattle.c_num.specs.declared.BinOp.{BinOp}
 use Rattle.c_num.specs.declared.BinOp.TheVariants.{Add, Sub, Mul, Div, Rem, Shl, Shr, And, Or, Xor}
 use Rattle.pool_isa.specs.declared.instr.Width.{Width}
 use Rattle.pool_isa.specs.declared.instr.Width.TheVariants.{One, Two, Four, Eight}
-use Rattle.pool_isa.specs.declared.instr.Comparison.{Comparison}
-use Rattle.pool_isa.specs.declared.instr.Comparison.TheVariants.{Eq, Ne, Lt, Le, Gt, Ge}
+use Rattle.c_num.specs.declared.Relation.{Relation}
+use Rattle.c_num.specs.declared.Relation.TheVariants.{Eq, Ne, Lt, Le, Gt, Ge}
 
 abbrev pub type_code : IntType → ℕ
 type_code Char = 0
@@ -41,10 +41,10 @@ operator_code And = 7
 operator_code Or = 8
 operator_code Xor = 9
 
-abbrev pub comparison_code : Comparison → ℕ
-comparison_code Eq = 0
-comparison_code Ne = 1
-comparison_code Lt = 2
-comparison_code Le = 3
-comparison_code Gt = 4
-comparison_code Ge = 5
+abbrev pub relation_code : Relation → ℕ
+relation_code Eq = 0
+relation_code Ne = 1
+relation_code Lt = 2
+relation_code Le = 3
+relation_code Gt = 4
+relation_code Ge = 5

@@ -4,7 +4,7 @@ use Rattle.pool_isa.specs.declared.instr.Instr.{Instr}
 use Rattle.pool_isa.specs.declared.instr.Instr.TheVariants.{Constant, Discard, Duplicate, Swap, Local, Load, Store, LoadLink, StoreLink, Jump, JumpIfZero, JumpIfNotZero, Call, CallIndirect, Return, ReturnValue, Exit, Trap, Binary, Negate, Complement, Compare, Convert, PoolInit, PoolDestroy, PoolAlloc, PoolFree, GetChar, PutChar}
 use Rattle.pool_isa.specs.declared.code.Operand.{Operand}
 use Rattle.pool_isa.specs.declared.code.Operand.TheVariants.{Nothing, Number, Typed}
-use Rattle.pool_isa.specs.Code.{type_code, width_code, operator_code, comparison_code}
+use Rattle.pool_isa.specs.Code.{type_code, width_code, operator_code, relation_code}
 use Rattle.pool_isa.specs.Number.{number_bytes}
 
 -- the byte that an instruction begins with
@@ -30,7 +30,7 @@ code_of Trap = 0x28
 code_of (Binary op t) = 0x30 + operator_code op
 code_of (Negate t) = 0x3A
 code_of (Complement t) = 0x3B
-code_of (Compare c t) = 0x3C + comparison_code c
+code_of (Compare c t) = 0x3C + relation_code c
 code_of (Convert t) = 0x42
 code_of (PoolInit n) = 0x50
 code_of PoolDestroy = 0x51

@@ -4,17 +4,20 @@
 -- to 16 bytes. A frame holds its parameters in words from its offset 0, then its extra bytes, zero at entry. Each call
 -- has operands of its own, empty at entry. A step is one executed instruction; one that traps or ends counts.
 --
--- The forms of the language that are there need no more instructions than those below; what is compiled has no
--- others, and the machine stops at them as at a place that is never reached.
-use Rattle.std.specs.Prelude.{ℕ, ◌+◌, ◌-◌, ◌*◌, ◌/◌, ◌%◌, ◌^◌, pos, Bool, ◌&&◌, nat_lt, nat_le, if◌then◌else◌, List, [], ◌∷◌, ◌++◌, length, take, drop, reverse, replicate, slice_get, Option, Some, None}
+-- Of pools, of cells named by their indices and of calls through words nothing is said yet: the machine stops at those
+-- instructions as at a place that is never reached.
+use Rattle.std.specs.Prelude.{ℕ, ◌+◌, ◌-◌, ◌*◌, ◌/◌, ◌%◌, ◌^◌, ℤ, pos, Bool, not, ◌&&◌, nat_eq, nat_lt, nat_le, if◌then◌else◌, List, [], ◌∷◌, ◌++◌, length, take, drop, reverse, replicate, slice_get, Option, Some, None}
 use Rattle.std.specs.List.{flat_map}
 use Rattle.byteorder.specs.Endian.{little_bytes, little_number}
 use Rattle.run_theory.specs.declared.ends.TrapKind.{TrapKind}
 use Rattle.run_theory.specs.declared.ends.TrapKind.TheVariants as traps
 use Rattle.run_theory.specs.Runs.{Trace, Output, Ended, DepthReached, Trapped, Move, To, Halt, steps, Run}
 use Rattle.c_num.specs.declared.IntType.{IntType}
+use Rattle.c_num.specs.declared.BinOp.{BinOp}
+use Rattle.c_num.specs.declared.Relation.{Relation}
 use Rattle.c_num.specs.Types.{width_of}
-use Rattle.c_num.specs.Conversion.{word_of}
+use Rattle.c_num.specs.Conversion.{convert_to, word_of}
+use Rattle.c_num.specs.Arith.{wrapped, wrapped_negation, complement_of, compare_of}
 use Rattle.pool_isa.specs.declared.instr.Width.{Width}
 use Rattle.pool_isa.specs.declared.instr.Width.TheVariants as widths
 use Rattle.pool_isa.specs.declared.instr.Instr.{Instr}
@@ -104,6 +107,32 @@ with_two [] state go = trap traps.StackEmpty state
 with_two (last ∷ []) state go = trap traps.StackEmpty state
 with_two (last ∷ first ∷ operands) state go = go first last operands
 
+-- the value of a type that a word holds: the word converted to the type
+abbrev pub value_in : IntType → ℕ → ℤ
+value_in type word = convert_to type (pos word)
+
+-- What is pushed in the place of operands: the word of what the operator gives on their values. No operator on words is
+-- undefined.
+abbrev pub binary_word : BinOp → IntType → ℕ → ℕ → ℕ
+binary_word op type left right = word_of type (wrapped op type (value_in type left) (value_in type right))
+
+abbrev pub negated_word : IntType → ℕ → ℕ
+negated_word type word = word_of type (wrapped_negation type (value_in type word))
+
+abbrev pub complement_word : IntType → ℕ → ℕ
+complement_word type word = word_of type (complement_of type (value_in type word))
+
+-- 1 where the relation holds between the values, otherwise 0 (C17 6.5.8 paragraph 6, 6.5.9 paragraph 3)
+abbrev pub compared_word : Relation → IntType → ℕ → ℕ → ℕ
+compared_word relation type left right = if compare_of relation (value_in type left) (value_in type right) then 1 else 0
+
+abbrev pub converted_word : IntType → ℕ → ℕ
+converted_word type word = word_of type (pos word)
+
+-- the activation at this place if the test holds, otherwise at its next instruction, with these operands left
+abbrev pub branched : Bool → ℕ → Activation → List ℕ → Activation
+branched test target top operands = if test then record top { place = target; operands = operands } else advanced top operands
+
 -- goes on with what was loaded
 abbrev pub loaded : IntType → Option (List ℕ) → List ℕ → Activation → List Activation → State → Move State
 loaded type None operands top callers state = trap traps.BadAccess state
@@ -147,7 +176,7 @@ returned_value functions word (caller ∷ outer) state = given word caller outer
 -- the word that getchar pushes: the next byte, or the word of -1 at the end of the input
 abbrev pub input_word : List ℕ → ℕ
 input_word [] = 2 ^ 64 - 1
-input_word (byte ∷ input) = byte % 2 ^ 64
+input_word (byte ∷ input) = byte % 256
 
 abbrev pub after_next : List ℕ → List ℕ
 after_next [] = []
@@ -157,16 +186,35 @@ after_next (byte ∷ input) = input
 abbrev pub perform : Option Instr → List Function → Function → Activation → List Activation → State → Move State
 perform (Some (instrs.Constant word)) functions function top callers state = pushed function.height word top.operands top callers state
 perform (Some instrs.Discard) functions function top callers state = with_one top.operands state (λ word rest. resumed (advanced top rest ∷ callers) state)
+perform (Some instrs.Duplicate) functions function top callers state =
+    with_one top.operands state (λ word rest. pushed function.height word top.operands top callers state)
+perform (Some instrs.Swap) functions function top callers state =
+    with_two top.operands state (λ first last rest. resumed (advanced top (first ∷ last ∷ rest) ∷ callers) state)
 perform (Some (instrs.Local offset)) functions function top callers state = pushed function.height ((top.start + offset) % 2 ^ 64) top.operands top callers state
 perform (Some (instrs.Load type)) functions function top callers state =
     with_one top.operands state (λ address rest. loaded type (bytes_at (top ∷ callers) address (size_of type)) rest top callers state)
 perform (Some (instrs.Store width)) functions function top callers state =
     with_two top.operands state (λ address word rest. stored (with_bytes_at (advanced top rest ∷ callers) address (little_bytes (bytes_in width) word)) state)
 perform (Some (instrs.Jump target)) functions function top callers state = resumed (record top { place = target } ∷ callers) state
+perform (Some (instrs.JumpIfZero target)) functions function top callers state =
+    with_one top.operands state (λ word rest. resumed (branched (nat_eq word 0) target top rest ∷ callers) state)
+perform (Some (instrs.JumpIfNotZero target)) functions function top callers state =
+    with_one top.operands state (λ word rest. resumed (branched (not (nat_eq word 0)) target top rest ∷ callers) state)
 perform (Some (instrs.Call callee)) functions function top callers state = called callee (slice_get functions callee) top callers state
 perform (Some instrs.Return) functions function top callers state = returned callers state
 perform (Some instrs.ReturnValue) functions function top callers state = with_one top.operands state (λ word rest. returned_value functions word callers state)
 perform (Some instrs.Exit) functions function top callers state = with_one top.operands state (λ word rest. Halt (Ended (word % 256)) state)
+perform (Some instrs.Trap) functions function top callers state = trap traps.Reached state
+perform (Some (instrs.Binary op type)) functions function top callers state =
+    with_two top.operands state (λ left right rest. resumed (advanced top (binary_word op type left right ∷ rest) ∷ callers) state)
+perform (Some (instrs.Negate type)) functions function top callers state =
+    with_one top.operands state (λ word rest. resumed (advanced top (negated_word type word ∷ rest) ∷ callers) state)
+perform (Some (instrs.Complement type)) functions function top callers state =
+    with_one top.operands state (λ word rest. resumed (advanced top (complement_word type word ∷ rest) ∷ callers) state)
+perform (Some (instrs.Compare relation type)) functions function top callers state =
+    with_two top.operands state (λ left right rest. resumed (advanced top (compared_word relation type left right ∷ rest) ∷ callers) state)
+perform (Some (instrs.Convert type)) functions function top callers state =
+    with_one top.operands state (λ word rest. resumed (advanced top (converted_word type word ∷ rest) ∷ callers) state)
 perform (Some instrs.GetChar) functions function top callers state =
     if nat_lt (length top.operands) function.height
     then To (record { activations = advanced top (input_word state.input ∷ top.operands) ∷ callers; input = after_next state.input; trace = state.trace })

@@ -1,11 +1,11 @@
 // The codes of instructions, and of the types, widths and operators in them.
 
 ghost use Rattle.std.specs.Prelude.{◌≡◌, ◌<◌};
-ghost use Rattle.pool_isa.specs.Code.{type_code, width_code, operator_code, comparison_code};
+ghost use Rattle.pool_isa.specs.Code.{type_code, width_code, operator_code, relation_code};
 ghost use Rattle.pool_isa.specs.Instr.{code_of, operand_of};
 
-use crate::instr::{Comparison, Instr, Width};
-use c_num::{BinOp, IntType};
+use crate::instr::{Instr, Width};
+use c_num::{BinOp, IntType, Relation};
 
 /// What follows the code of an instruction.
 #[derive(Clone, Copy, Debug, PartialEq, Eq)]
@@ -62,17 +62,17 @@ fn operator_byte(operator: BinOp) -> u8
     }
 }
 
-fn comparison_byte(comparison: Comparison) -> u8
-    ensures code { result ≡ comparison_code comparison }
+fn relation_byte(relation: Relation) -> u8
+    ensures code { result ≡ relation_code relation }
     ensures small { result < 6 }
 {
-    match comparison {
-        Comparison::Eq => 0,
-        Comparison::Ne => 1,
-        Comparison::Lt => 2,
-        Comparison::Le => 3,
-        Comparison::Gt => 4,
-        Comparison::Ge => 5,
+    match relation {
+        Relation::Eq => 0,
+        Relation::Ne => 1,
+        Relation::Lt => 2,
+        Relation::Le => 3,
+        Relation::Gt => 4,
+        Relation::Ge => 5,
     }
 }
 
@@ -103,7 +103,7 @@ impl Instr {
             Instr::Binary(operator, _) => 0x30 + operator_byte(operator),
             Instr::Negate(_) => 0x3A,
             Instr::Complement(_) => 0x3B,
-            Instr::Compare(comparison, _) => 0x3C + comparison_byte(comparison),
+            Instr::Compare(relation, _) => 0x3C + relation_byte(relation),
             Instr::Convert(_) => 0x42,
             Instr::PoolInit(_) => 0x50,
             Instr::PoolDestroy => 0x51,

@@ -3,15 +3,15 @@
 ghost use Rattle.std.specs.Prelude.{◌≡◌, ◌≢◌, IfSome, IfNone};
 ghost use Rattle.c_num.specs.declared.BinOp.{BinOp as ABinOp};
 ghost use Rattle.c_num.specs.declared.IntType.{IntType as AnIntType};
-ghost use Rattle.pool_isa.specs.declared.instr.Comparison.{Comparison as AComparison};
+ghost use Rattle.c_num.specs.declared.Relation.{Relation as ARelation};
 ghost use Rattle.pool_isa.specs.declared.instr.Instr.{Instr as AnInstr};
 ghost use Rattle.pool_isa.specs.declared.instr.Width.{Width as AWidth};
-ghost use Rattle.pool_isa.specs.Code.{type_code, width_code, operator_code, comparison_code};
+ghost use Rattle.pool_isa.specs.Code.{type_code, width_code, operator_code, relation_code};
 ghost use Rattle.pool_isa.specs.Instr.{code_of};
 ghost use Rattle.pool_isa.specs.Head.{with_number, with_type, HasCode};
 
-use crate::instr::{Comparison, Instr, Width};
-use c_num::{BinOp, IntType};
+use crate::instr::{Instr, Width};
+use c_num::{BinOp, IntType, Relation};
 
 /// What an instruction's code says of the bytes behind it.
 #[derive(Clone, Copy, Debug, PartialEq, Eq)]
@@ -43,7 +43,7 @@ pub(crate) enum TypeForm {
     Binary(BinOp),
     Negate,
     Complement,
-    Compare(Comparison),
+    Compare(Relation),
     Convert,
 }
 
@@ -74,7 +74,7 @@ impl TypeForm {
             TypeForm::Binary(operator) => Instr::Binary(operator, int_type),
             TypeForm::Negate => Instr::Negate(int_type),
             TypeForm::Complement => Instr::Complement(int_type),
-            TypeForm::Compare(comparison) => Instr::Compare(comparison, int_type),
+            TypeForm::Compare(relation) => Instr::Compare(relation, int_type),
             TypeForm::Convert => Instr::Convert(int_type),
         }
     }
@@ -130,17 +130,17 @@ fn operator_of(byte: u8) -> Option<BinOp>
     })
 }
 
-fn comparison_of(byte: u8) -> Option<Comparison>
-    ensures known { IfSome result (λ c. comparison_code c ≡ byte) }
-    ensures unknown { IfNone result ((c : AComparison) → comparison_code c ≢ byte) }
+fn relation_of(byte: u8) -> Option<Relation>
+    ensures known { IfSome result (λ r. relation_code r ≡ byte) }
+    ensures unknown { IfNone result ((r : ARelation) → relation_code r ≢ byte) }
 {
     Some(match byte {
-        0 => Comparison::Eq,
-        1 => Comparison::Ne,
-        2 => Comparison::Lt,
-        3 => Comparison::Le,
-        4 => Comparison::Gt,
-        5 => Comparison::Ge,
+        0 => Relation::Eq,
+        1 => Relation::Ne,
+        2 => Relation::Lt,
+        3 => Relation::Le,
+        4 => Relation::Gt,
+        5 => Relation::Ge,
         _ => return None,
     })
 }
@@ -172,7 +172,7 @@ pub(crate) fn head_of(code: u8) -> Option<Head>
         0x30..=0x39 => Head::Typed(TypeForm::Binary(operator_of(code - 0x30)?)),
         0x3A => Head::Typed(TypeForm::Negate),
         0x3B => Head::Typed(TypeForm::Complement),
-        0x3C..=0x41 => Head::Typed(TypeForm::Compare(comparison_of(code - 0x3C)?)),
+        0x3C..=0x41 => Head::Typed(TypeForm::Compare(relation_of(code - 0x3C)?)),
         0x42 => Head::Typed(TypeForm::Convert),
         0x50 => Head::Numbered(NumberForm::PoolInit),
         0x51 => Head::Alone(Instr::PoolDestroy),

@@ -1,6 +1,6 @@
 // The instructions of the machine.
 
-use c_num::{BinOp, IntType};
+use c_num::{BinOp, IntType, Relation};
 
 /// How many bytes a store writes.
 #[derive(Clone, Copy, Debug, PartialEq, Eq)]
@@ -9,17 +9,6 @@ pub enum Width {
     Two,
     Four,
     Eight,
-}
-
-/// A comparison of two integers of one type (C17 6.5.8 and 6.5.9).
-#[derive(Clone, Copy, Debug, PartialEq, Eq)]
-pub enum Comparison {
-    Eq,
-    Ne,
-    Lt,
-    Le,
-    Gt,
-    Ge,
 }
 
 /// An instruction of the machine. Operands are popped from the function's stack, the last one first.
@@ -67,8 +56,8 @@ pub enum Instr {
     Negate(IntType),
     /// Pops a word and pushes its bitwise complement at the type.
     Complement(IntType),
-    /// Pops two words, the right one first, and pushes whether they compare so at the type: 1 or 0.
-    Compare(Comparison, IntType),
+    /// Pops two words, the right one first, and pushes whether the relation holds between their values: 1 or 0.
+    Compare(Relation, IntType),
     /// Pops a word, and pushes it converted to the type.
     Convert(IntType),
     /// Makes a pool of this kind, and pushes its number.

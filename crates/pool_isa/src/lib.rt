@@ -9,7 +9,7 @@ mod number;
 mod reading;
 mod writing;
 
-pub use instr::{Comparison, Instr, Width};
+pub use instr::{Instr, Width};
 pub use laws::{no_instruction_begins_another, no_number_begins_another, number_grammar};
 pub use number::{BadNumber, append_number, decode_number};
 pub use reading::{BadInstr, decode_one};

@@ -1,5 +1,5 @@
 use super::*;
-use c_num::{BinOp, IntType};
+use c_num::{BinOp, IntType, Relation};
 use std::test::Fail;
 
 // One row for each code, as the table of the machine's instructions has it; 624485 is the example that LEB128 is
@@ -52,18 +52,12 @@ fn every_code(rt: HostRuntime) -> Result<(), Fail> {
         (Instr::Binary(BinOp::Xor, IntType::UChar), &[0x39, 0x01]),
         (Instr::Negate(IntType::Short), &[0x3A, 0x02]),
         (Instr::Complement(IntType::UShort), &[0x3B, 0x03]),
-        (Instr::Compare(Comparison::Eq, IntType::Int), &[0x3C, 0x04]),
-        (Instr::Compare(Comparison::Ne, IntType::UInt), &[0x3D, 0x05]),
-        (Instr::Compare(Comparison::Lt, IntType::Long), &[0x3E, 0x06]),
-        (
-            Instr::Compare(Comparison::Le, IntType::ULong),
-            &[0x3F, 0x07],
-        ),
-        (Instr::Compare(Comparison::Gt, IntType::Char), &[0x40, 0x00]),
-        (
-            Instr::Compare(Comparison::Ge, IntType::UChar),
-            &[0x41, 0x01],
-        ),
+        (Instr::Compare(Relation::Eq, IntType::Int), &[0x3C, 0x04]),
+        (Instr::Compare(Relation::Ne, IntType::UInt), &[0x3D, 0x05]),
+        (Instr::Compare(Relation::Lt, IntType::Long), &[0x3E, 0x06]),
+        (Instr::Compare(Relation::Le, IntType::ULong), &[0x3F, 0x07]),
+        (Instr::Compare(Relation::Gt, IntType::Char), &[0x40, 0x00]),
+        (Instr::Compare(Relation::Ge, IntType::UChar), &[0x41, 0x01]),
         (Instr::Convert(IntType::Short), &[0x42, 0x02]),
         (Instr::PoolInit(300), &[0x50, 0xAC, 0x02]),
         (Instr::PoolDestroy, &[0x51]),
