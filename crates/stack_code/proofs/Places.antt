@@ -1,7 +1,8 @@
 -- Where the blocks of points lie in the code of a function.
-use Rattle.std.proofs.Common.{◌≡◌, ℕ, zero, suc, ◌+◌, ◌-◌, ◌*◌, ◌<◌, ◌≤◌, Bool, true, false, List, [], ◌∷◌, ◌++◌, Option, Some, None, length, drop, refl, sym, ap, subst, ◌∙◌, arith, add-one}
+use Rattle.std.proofs.Common.{◌≡◌, ℕ, zero, suc, ◌+◌, ◌-◌, ◌*◌, ◌<◌, ◌≤◌, Bool, true, false, List, [], ◌∷◌, ◌++◌, Option, Some, None, length, drop, refl, sym, ap, subst, ◌∙◌, arith, add-one, ap₂}
 use Rattle.std.specs.Prelude.{slice_get, get_or, if◌then◌else◌, ◌==◌}
 use Rattle.std.specs.List.{AllByRecursion}
+use Rattle.std.specs.Option.{IfSome}
 use Rattle.std.proofs.lemmas.List.{length-append, length-drop, append_assoc, append-nil, drop_all}
 use Rattle.std.proofs.lemmas.Option.{slice_get-get_or}
 use Rattle.std.proofs.lemmas.Bool.{eqb-true}
@@ -9,7 +10,7 @@ use Rattle.pool_isa.specs.declared.instr.Instr.{Instr}
 use Rattle.pool_isa.specs.declared.instr.Instr.TheVariants as instrs
 use Rattle.tac_ir.specs.declared.Op.{Op}
 use Rattle.tac_ir.specs.declared.Op.TheVariants as O
-use Rattle.stack_code.specs.Emission.{op_code, successor_of, way_to, block, blocks, count, opening, place_of, function_code}
+use Rattle.stack_code.specs.Emission.{loading, op_code, successor_of, way_to, block, blocks, count, opening, place_of, function_code}
 use Rattle.tac_ir.specs.Fits.{NamesBelow}
 
 -- The instructions stand in the code from a place on.
@@ -37,9 +38,13 @@ length-way_to p q number (Some next) = go (next + 1 == number)
     go true = refl
     go false = refl
 
+length-op_code : (p q : ℕ → ℕ) (op : Op) → length (op_code p op) ≡ length (op_code q op)
+length-op_code p q (O.Branch type condition holds fails) = refl
+length-op_code p q _ = refl
+
 length-block : (p q : ℕ → ℕ) (number : ℕ) (op : Op) → length (block p number op) ≡ length (block q number op)
 length-block p q number op =
-    length-append (op_code op) (way_to p number (successor_of op)) ∙ ap (λ n. length (op_code op) + n) (length-way_to p q number (successor_of op)) ∙ sym (length-append (op_code op) (way_to q number (successor_of op)))
+    length-append (op_code p op) (way_to p number (successor_of op)) ∙ ap₂ ◌+◌ (length-op_code p q op) (length-way_to p q number (successor_of op)) ∙ sym (length-append (op_code q op) (way_to q number (successor_of op)))
 
 length-blocks : (p q : ℕ → ℕ) (number : ℕ) (ops : List Op) → length (blocks p number ops) ≡ length (blocks q number ops)
 length-blocks p q number [] = refl
@@ -69,11 +74,9 @@ drop-get (x ∷ ops) zero op e = let same : op ≡ x = cc in ap (λ o. o ∷ ops
 drop-get (x ∷ ops) (suc k) op e = drop-get ops k op e
 
 -- how many instructions there are at most
-op_code-fits : (op : Op) → (1 ≤ length (op_code op)) × (length (op_code op) ≤ 5)
-op_code-fits (O.Constant to value next) = (omega arith, omega arith)
-op_code-fits (O.GetChar to next) = (omega arith, omega arith)
-op_code-fits (O.PutChar from to next) = (omega arith, omega arith)
-op_code-fits (O.Return from) = (omega arith, omega arith)
+pub op_code-fits : (place : ℕ → ℕ) (op : Op) → (1 ≤ length (op_code place op)) × (length (op_code place op) ≤ 7)
+op_code-fits place O.Reserved = (omega arith, omega arith)
+op_code-fits place _ = (omega arith, omega arith)
 
 pub way_to-fits : (place : ℕ → ℕ) (number : ℕ) (next : Option ℕ) → length (way_to place number next) ≤ 1
 way_to-fits place number None = omega arith
@@ -83,24 +86,40 @@ way_to-fits place number (Some next) = go (next + 1 == number)
     go true = omega arith
     go false = omega arith
 
-pub blocks-fits : (place : ℕ → ℕ) (number : ℕ) (ops : List Op) → length (blocks place number ops) ≤ 6 * length ops
+pub blocks-fits : (place : ℕ → ℕ) (number : ℕ) (ops : List Op) → length (blocks place number ops) ≤ 8 * length ops
 blocks-fits place number [] = omega arith
 blocks-fits place number (op ∷ ops) =
     let parts = length-append (blocks place (number + 1) ops) (block place number op) in
-    let own = length-append (op_code op) (way_to place number (successor_of op)) in
-    let few = (op_code-fits op).1 in
+    let own = length-append (op_code place op) (way_to place number (successor_of op)) in
+    let few = (op_code-fits place op).1 in
     omega (arith, way_to-fits place number (successor_of op), blocks-fits place (number + 1) ops)
+
+-- the point that follows is there
+pub names-successor : (registers points : ℕ) (op : Op) → NamesBelow registers points op → IfSome (successor_of op) (λ n. n < points)
+names-successor registers points O.Reserved names = tt
+names-successor registers points (O.Constant to value next) names = names.1
+names-successor registers points (O.Copy from to next) names = names.2
+names-successor registers points (O.Negate type operand to next) names = names.2
+names-successor registers points (O.Not type operand to next) names = names.2
+names-successor registers points (O.Arithmetic operator type left right to next) names = names.3
+names-successor registers points (O.Compare relation type left right to next) names = names.3
+names-successor registers points (O.Branch type condition holds fails) names = names.1
+names-successor registers points (O.GetChar to next) names = names.1
+names-successor registers points (O.PutChar from to next) names = names.2
+names-successor registers points (O.Return from) names = tt
 
 -- blocks are alike where the places of the points that they name are
 module _ (p q : ℕ → ℕ) (points : ℕ) (same : (number : ℕ) → number < points → p number ≡ q number) where
-  pub way_to-same : (number next : ℕ) → next < points → way_to p number (Some next) ≡ way_to q number (Some next)
-  way_to-same number next there = ap (λ place. if next + 1 == number then [] else instrs.Jump place ∷ []) (same next there)
+  way_to-same : (number : ℕ) (next : Option ℕ) → IfSome next (λ n. n < points) → way_to p number next ≡ way_to q number next
+  way_to-same number None there = refl
+  way_to-same number (Some next) there = ap (λ place. if next + 1 == number then [] else instrs.Jump place ∷ []) (same next there)
+
+  op_code-same : (registers : ℕ) (op : Op) → NamesBelow registers points op → op_code p op ≡ op_code q op
+  op_code-same registers (O.Branch type condition holds fails) names = ap (λ place. loading condition ++ instrs.JumpIfZero place ∷ []) (same fails.0 names.2)
+  op_code-same registers _ names = refl
 
   block-same : (registers number : ℕ) (op : Op) → NamesBelow registers points op → block p number op ≡ block q number op
-  block-same registers number (O.Constant to value next) names = ap (λ way. op_code (O.Constant to value next) ++ way) (way_to-same number next.0 names.1)
-  block-same registers number (O.GetChar to next) names = ap (λ way. op_code (O.GetChar to next) ++ way) (way_to-same number next.0 names.1)
-  block-same registers number (O.PutChar from to next) names = ap (λ way. op_code (O.PutChar from to next) ++ way) (way_to-same number next.0 names.2)
-  block-same registers number (O.Return from) names = refl
+  block-same registers number op names = ap₂ ◌++◌ (op_code-same registers op names) (way_to-same number (successor_of op) (names-successor registers points op names))
 
   pub blocks-same : (registers number : ℕ) (ops : List Op) → AllByRecursion (NamesBelow registers points) ops → blocks p number ops ≡ blocks q number ops
   blocks-same registers number [] names = refl
@@ -147,23 +166,23 @@ module _ (points : List Op) (entry : ℕ) where
   abbrev pub behind : ℕ → ℕ
   behind number = length (opening (λ _. 0) points entry) + count number (drop number points)
 
-  pub behind-more : (k : ℕ) (op : Op) → slice_get points k ≡ Some op → behind k ≡ behind (k + 1) + (length (op_code op) + length (way_to (λ _. 0) k (successor_of op)))
+  pub behind-more : (k : ℕ) (op : Op) → slice_get points k ≡ Some op → behind k ≡ behind (k + 1) + (length (op_code (λ _. 0) op) + length (way_to (λ _. 0) k (successor_of op)))
   behind-more k op e =
       let own : count k (drop k points) ≡ count k (op ∷ drop (k + 1) points) = ap (count k) (drop-get points k op e ∙ ap (λ n. op ∷ drop n points) (sym (add-one k))) in
       let whole : count k (op ∷ drop (k + 1) points) ≡ count (k + 1) (drop (k + 1) points) + length (block (λ _. 0) k op) = length-append (blocks (λ _. 0) (k + 1) (drop (k + 1) points)) (block (λ _. 0) k op) in
-      let size : length (block (λ _. 0) k op) ≡ length (op_code op) + length (way_to (λ _. 0) k (successor_of op)) = length-append (op_code op) (way_to (λ _. 0) k (successor_of op)) in
+      let size : length (block (λ _. 0) k op) ≡ length (op_code (λ _. 0) op) + length (way_to (λ _. 0) k (successor_of op)) = length-append (op_code (λ _. 0) op) (way_to (λ _. 0) k (successor_of op)) in
       omega arith
 
   pub behind-all : behind (length points) ≡ length (opening (λ _. 0) points entry)
   behind-all = ap (λ ops. length (opening (λ _. 0) points entry) + count (length points) ops) (drop_all (length points) points (omega arith)) ∙ omega arith
 
   -- the point that follows by falling through lies behind the instructions of this one
-  pub place_of-falls : (k next : ℕ) (op : Op) → slice_get points k ≡ Some op → successor_of op ≡ Some next → (next + 1 == k) ≡ true → place_of points entry next ≡ place_of points entry k + length (op_code op)
+  pub place_of-falls : (k next : ℕ) (op : Op) → slice_get points k ≡ Some op → successor_of op ≡ Some next → (next + 1 == k) ≡ true → place_of points entry next ≡ place_of points entry k + length (op_code (λ _. 0) op)
   place_of-falls k next op e successor falls =
       let before : next + 1 ≡ k = eqb-true (next + 1) k falls in
       let no_way : way_to (λ _. 0) k (successor_of op) ≡ [] = ap (way_to (λ _. 0) k) successor ∙ ap (λ b. if b then [] else instrs.Jump 0 ∷ []) falls in
       let none : length (way_to (λ _. 0) k (successor_of op)) ≡ 0 = ap length no_way in
-      let more : behind k ≡ behind (k + 1) + (length (op_code op) + length (way_to (λ _. 0) k (successor_of op))) = behind-more k op e in
+      let more : behind k ≡ behind (k + 1) + (length (op_code (λ _. 0) op) + length (way_to (λ _. 0) k (successor_of op))) = behind-more k op e in
       let there : behind (next + 1) ≡ behind k = ap behind before in
       omega arith
 
@@ -175,14 +194,14 @@ module _ (points : List Op) (entry : ℕ) where
       let none : drop (entry + 1) points ≡ [] = drop_all (entry + 1) points (omega arith) in
       sym (ap (λ o. length o + count (entry + 1) (drop (entry + 1) points)) no_way ∙ ap (λ ops. 0 + count (entry + 1) ops) none)
 
-  pub behind-fits : (k : ℕ) → behind k ≤ 1 + 6 * length points
+  pub behind-fits : (k : ℕ) → behind k ≤ 1 + 8 * length points
   behind-fits k =
       let few = blocks-fits (λ _. 0) k (drop k points) in
       let left = length-drop k points in
       omega (arith, way_to-fits (λ _. 0) (length points) (Some entry))
 
   -- the point before, which begins there, reaches to the place where the one before it begins
-  pub behind-before : (number : ℕ) (op : Op) → 0 < number → number ≤ length points → op ≡ get_or points (number - 1) op → behind (number - 1) ≡ behind number + (length (op_code op) + length (way_to (λ _. 0) (number - 1) (successor_of op)))
+  pub behind-before : (number : ℕ) (op : Op) → 0 < number → number ≤ length points → op ≡ get_or points (number - 1) op → behind (number - 1) ≡ behind number + (length (op_code (λ _. 0) op) + length (way_to (λ _. 0) (number - 1) (successor_of op)))
   behind-before number op some within read =
       let more = behind-more (number - 1) op (get_read points (number - 1) op (omega arith) read) in
       let here : behind (number - 1 + 1) ≡ behind number = ap behind (let e : number - 1 + 1 ≡ number = omega arith in e) in
@@ -192,5 +211,5 @@ module _ (points : List Op) (entry : ℕ) where
   pub function_code-by : (place : ℕ → ℕ) (registers : ℕ) → ((number : ℕ) → number < length points → place number ≡ place_of points entry number) → entry < length points → AllByRecursion (NamesBelow registers (length points)) points →
       opening place points entry ++ blocks place 0 points ≡ function_code points entry
   function_code-by place registers same there names =
-      ap (λ front. front ++ blocks place 0 points) (way_to-same place (place_of points entry) (length points) same (length points) entry there)
+      ap (λ front. front ++ blocks place 0 points) (way_to-same place (place_of points entry) (length points) same (length points) (Some entry) there)
       ∙ ap (λ rest. opening (place_of points entry) points entry ++ rest) (blocks-same place (place_of points entry) (length points) same registers 0 points names)

@@ -1,26 +1,36 @@
 -- The machine, in the code of a function, does what the three-address code does.
-use Rattle.std.proofs.Common.{◌≡◌, ℕ, suc, ◌+◌, ◌*◌, ◌%◌, ◌==◌, ◌<◌, ◌≤◌, ◌⊎◌, inl, inr, Bool, true, false, ℤ, pos, List, [], ◌∷◌, ◌++◌, Option, Some, None, length, refl, sym, ap, subst, ◌∙◌, arith}
-use Rattle.std.specs.Prelude.{slice_get, slice_set, nat_lt, replicate, if◌then◌else◌}
+use Rattle.std.proofs.Common.{◌≡◌, ℕ, suc, ◌+◌, ◌*◌, ◌%◌, ◌==◌, ◌<◌, ◌≤◌, ◌⊎◌, inl, inr, Bool, true, false, ℤ, pos, List, [], ◌∷◌, ◌++◌, Option, Some, None, Result, Ok, Err, length, refl, sym, ap, subst, ◌∙◌, arith}
+use Rattle.std.specs.Prelude.{slice_get, slice_set, nat_eq, nat_lt, replicate, if◌then◌else◌}
 use Rattle.std.proofs.lemmas.Bool.{ltb-true}
 use Rattle.std.proofs.lemmas.Option.{slice_get_within}
 use Rattle.std.proofs.lemmas.List.{length-set, length-replicate}
 use Rattle.run_theory.specs.Runs.{Trace, Output, Final, Ended, Over, IsUndefined, IsProgramEnd, IsResourceEnd, Move, To, Halt, Leads, here, Locks, Simulates}
 use Rattle.run_theory.proofs.Machines.{one_step, leads_compose, leads_more, locked_from}
 use Rattle.run_theory.proofs.Simulations.{simulates_within}
-use Rattle.c_ast.specs.Values.{byte_of, next_char}
+use Rattle.c_num.specs.declared.IntType.{IntType}
+use Rattle.c_num.specs.declared.IntType.TheVariants as types
+use Rattle.c_num.specs.declared.BinOp.{BinOp}
+use Rattle.c_num.specs.declared.Relation.{Relation}
+use Rattle.c_num.specs.declared.Relation.TheVariants as relations
+use Rattle.c_num.specs.declared.ArithUb.{ArithUb}
+use Rattle.c_num.specs.Types.{IsValue, is_value}
+use Rattle.c_num.specs.Arith.{outcome_of, negated_of, compare_of}
+use Rattle.c_num.proofs.Outcomes.{is_value-Decides, zero_in_range}
+use Rattle.c_ast.specs.Values.{byte_of, next_char, is_zero, truth}
+use Rattle.pool_isa.specs.declared.instr.Width.TheVariants as widths
 use Rattle.pool_isa.specs.declared.instr.Instr.{Instr}
 use Rattle.pool_isa.specs.declared.instr.Instr.TheVariants as instrs
 use Rattle.pool_isa.specs.Machine as machine
 use Rattle.tac_ir.specs.declared.Op.{Op}
 use Rattle.tac_ir.specs.declared.Op.TheVariants as O
 use Rattle.tac_ir.specs.declared.Tac.{Tac}
-use Rattle.tac_ir.specs.Meaning.{State, execute, lost, write, read, act, initial, tac_run}
+use Rattle.tac_ir.specs.Meaning.{State, execute, lost, write, read, operand, defined, go_to, act, initial, tac_run}
 use Rattle.stack_code.specs.Emission.{op_code, successor_of, way_to, block, place_of, function_code, functions_of}
 use Rattle.stack_code.specs.Laws.{EmissionFollowsCode}
-use Rattle.stack_code.proofs.Words.{word, word-byte, word-pos_byte, input_word-next}
+use Rattle.stack_code.proofs.Words.{word, word-byte, word-pos_byte, input_word-next, word-is_zero, binary_word-outcome, negated_word-outcome, compared_word-truth}
 use Rattle.stack_code.proofs.Frames.{zero_frame}
 use Rattle.stack_code.proofs.Places.{StandsAt, block_stands, opening_stands, place_of-falls, place_of-entry}
-use Rattle.stack_code.proofs.Steps.{in_main, in_start, running, leaving, address_of, constant_step, local_step, load_step, store_step, getchar_step, putchar_step, jump_step, return_step, end_step}
+use Rattle.stack_code.proofs.Steps.{in_main, in_start, running, leaving, address_of, constant_step, local_step, load_step, store_step, negate_step, binary_step, compare_step, zero_step, nonzero_step, getchar_step, putchar_step, jump_step, return_step, end_step}
 
 module _ (tac : Tac) where
   abbrev points : List Op
@@ -65,7 +75,7 @@ module _ (tac : Tac) where
 
   -- an operation that goes on: its instructions lead to the way behind them
   finish : (registers : List ℤ) (input : List ℕ) (trace : Trace) (other : machine.State) (number next k : ℕ) (op : Op) →
-      slice_get points number ≡ Some op → successor_of op ≡ Some next → length (op_code op) ≡ k → 1 ≤ k → k ≤ 7 →
+      slice_get points number ≡ Some op → successor_of op ≡ Some next → length (op_code (λ _. 0) op) ≡ k → 1 ≤ k → k ≤ 7 →
       (at : ℕ) → at ≡ place number + k → StandsAt code at (way_to place number (Some next)) → Leads step other k (running at [] registers input trace) →
       length registers ≡ tac.main.registers → GoesOn other (record { at = next; registers = registers; input = input; trace = trace })
   finish registers input trace other number next k op e successor size some few at behind stands leads fits =
@@ -83,8 +93,18 @@ module _ (tac : Tac) where
     abbrev start : machine.State
     start = stand_in state
 
+    abbrev at : ℕ
+    at = place state.at
+
+    abbrev extra : ℕ
+    extra = 8 * tac.main.registers
+
+    -- at a place, with these operands, and nothing written yet
+    abbrev standing : ℕ → List ℕ → machine.State
+    standing spot operands = running spot operands state.registers state.input state.trace
+
     abbrev Steps : Op → Type 0
-    Steps op = slice_get points state.at ≡ Some op → StandsAt code (place state.at) (block place state.at op) → Answers start (execute (Some op) state)
+    Steps op = slice_get points state.at ≡ Some op → StandsAt code at (block place state.at op) → Answers start (execute (Some op) state)
 
     -- what is written to a register that isn't there is lost
     written : (to : ℕ) (value : ℤ) (next : ℕ) (input : List ℕ) (trace : Trace) →
@@ -97,30 +117,6 @@ module _ (tac : Tac) where
         go true holds = goes (holds refl)
         go false holds = inl tt
 
-    kept : (to : ℕ) (value : ℤ) → length (slice_set state.registers to value) ≡ tac.main.registers
-    kept to value = length-set state.registers to value ∙ fits
-
-    constant : (to : _) (value : ℤ) (next : _) → Steps (O.Constant to value next)
-    constant to value next e stands = written to.0 value next.0 state.input state.trace (λ within.
-        let extra = 8 * tac.main.registers in
-        let at = place state.at in
-        let one = one_step step _ _ (local_step code extra state.registers state.input state.trace at to.0 [] stands.0 refl (omega arith)) in
-        let two = leads_more step _ _ _ 1 one (constant_step code extra state.registers state.input state.trace (at + 1) (word value) (address_of to.0 ∷ []) stands.1.0 refl) in
-        let three = leads_more step _ _ _ 2 two (store_step code extra state.registers state.input state.trace (at + 1 + 1) to.0 value [] stands.1.1.0 within) in
-        finish (slice_set state.registers to.0 value) state.input state.trace start state.at next.0 3 (O.Constant to value next) e refl refl (omega arith) (omega arith) (at + 1 + 1 + 1) (omega arith) stands.1.1.1 three (kept to.0 value))
-
-    get_char : (to : _) (next : _) → Steps (O.GetChar to next)
-    get_char to next e stands = written to.0 (next_char state.input) next.0 _ state.trace (λ within.
-        let extra = 8 * tac.main.registers in
-        let at = place state.at in
-        let value = next_char state.input in
-        let one = one_step step _ _ (local_step code extra state.registers state.input state.trace at to.0 [] stands.0 refl (omega arith)) in
-        let got = getchar_step code extra state.registers state.input state.trace (at + 1) (address_of to.0 ∷ []) stands.1.0 refl
-        ∙ ap (λ w. To (running (at + 1 + 1) (w ∷ address_of to.0 ∷ []) state.registers (machine.after_next state.input) state.trace)) (input_word-next state.input) in
-        let two = leads_more step _ _ _ 1 one got in
-        let three = leads_more step _ _ _ 2 two (store_step code extra state.registers (machine.after_next state.input) state.trace (at + 1 + 1) to.0 value [] stands.1.1.0 within) in
-        finish (slice_set state.registers to.0 value) (machine.after_next state.input) state.trace start state.at next.0 3 (O.GetChar to next) e refl refl (omega arith) (omega arith) (at + 1 + 1 + 1) (omega arith) stands.1.1.1 three (kept to.0 value))
-
     -- a register that isn't there has no value
     known : (from : ℕ) (go : ℤ → Move State) → ((value : ℤ) → slice_get state.registers from ≡ Some value → Answers start (go value)) → Answers start (read (slice_get state.registers from) state go)
     known from go answers = by_value (slice_get state.registers from) answers
@@ -129,36 +125,147 @@ module _ (tac : Tac) where
         by_value None answers = inl tt
         by_value (Some value) answers = answers value refl
 
+    -- a register that holds no value of the type is lost too
+    typed : (type : IntType) (from : ℕ) (go : ℤ → Move State) → ((value : ℤ) → slice_get state.registers from ≡ Some value → IsValue type value → Answers start (go value)) → Answers start (operand type (slice_get state.registers from) state go)
+    typed type from go answers = by_value (slice_get state.registers from) answers
+      where
+        by_test : (value : ℤ) (test : Bool) → (test ≡ true → Answers start (go value)) → Answers start (if test then go value else lost state)
+        by_test value true answers = answers refl
+        by_test value false answers = inl tt
+
+        by_value : (found : Option ℤ) → ((value : ℤ) → found ≡ Some value → IsValue type value → Answers start (go value)) → Answers start (operand type found state go)
+        by_value None answers = inl tt
+        by_value (Some value) answers = by_test value (is_value type value) (λ e. answers value refl ((is_value-Decides type value).0 e))
+
+    -- arithmetic that is undefined is lost
+    resulting : (result : Result ℤ ArithUb) (go : ℤ → Move State) → ((value : ℤ) → result ≡ Ok value → Answers start (go value)) → Answers start (defined result state go)
+    resulting (Ok value) go answers = answers value refl
+    resulting (Err ub) go answers = inl tt
+
+    -- two instructions that push the word of a register
+    loads : (from : ℕ) (value : ℤ) (operands : List ℕ) (spot k : ℕ) → slice_get state.registers from ≡ Some value → nat_lt (length operands) 3 ≡ true →
+        slice_get code spot ≡ Some (instrs.Local (8 * from)) → slice_get code (spot + 1) ≡ Some (instrs.Load types.ULong) →
+        Leads step start k (standing spot operands) → Leads step start (suc (suc k)) (standing (spot + 1 + 1) (word value ∷ operands))
+    loads from value operands spot k there room local load leads =
+        let behind = slice_get_within state.registers from value there in
+        let addressed = leads_more step _ _ _ k leads (local_step code extra state.registers state.input state.trace spot from operands local room (omega arith)) in
+        leads_more step _ _ _ (suc k) addressed (load_step code extra state.registers state.input state.trace (spot + 1) from value operands load there)
+
+    -- An operation that assigns: the address of a register is pushed, then in k steps a word, which is stored there.
+    assigns : (op : Op) (to next : ℕ) (value : ℤ) (input : List ℕ) (trace : Trace) (k stored : ℕ) →
+        slice_get points state.at ≡ Some op → successor_of op ≡ Some next → length (op_code (λ _. 0) op) ≡ k + 2 → k ≤ 5 →
+        slice_get code at ≡ Some (instrs.Local (8 * to)) → stored ≡ at + 1 + k → slice_get code stored ≡ Some (instrs.Store widths.Eight) →
+        StandsAt code (stored + 1) (way_to place state.at (Some next)) →
+        (Leads step start 1 (standing (at + 1) (address_of to ∷ [])) → Leads step start (suc k) (running stored (word value ∷ address_of to ∷ []) state.registers input trace)) →
+        Answers start (write to value next input trace state)
+    assigns op to next value input trace k stored e successor size few local behind store way leads =
+        written to value next input trace (λ within.
+        let addressed = one_step step _ _ (local_step code extra state.registers state.input state.trace at to [] local refl (omega arith)) in
+        let all = leads_more step _ _ _ (suc k) (leads addressed) (store_step code extra state.registers input trace stored to value [] store within) in
+        finish (slice_set state.registers to value) input trace start state.at next (suc (suc k)) op e successor (omega (arith, size)) (omega arith) (omega arith) (stored + 1) (omega arith) way all (length-set state.registers to value ∙ fits))
+
+    constant : (to : _) (value : ℤ) (next : _) → Steps (O.Constant to value next)
+    constant to value next e stands =
+        assigns (O.Constant to value next) to.0 next.0 value state.input state.trace 1 (at + 1 + 1) e refl refl (omega arith) stands.0 (omega arith) stands.1.1.0 stands.1.1.1
+        (λ leads. leads_more step _ _ _ 1 leads (constant_step code extra state.registers state.input state.trace (at + 1) (word value) (address_of to.0 ∷ []) stands.1.0 refl))
+
+    copy : (from to : _) (next : _) → Steps (O.Copy from to next)
+    copy from to next e stands = known from.0 _ (λ value there.
+        assigns (O.Copy from to next) to.0 next.0 value state.input state.trace 2 (at + 1 + 1 + 1) e refl refl (omega arith) stands.0 (omega arith) stands.1.1.1.0 stands.1.1.1.1
+        (loads from.0 value (address_of to.0 ∷ []) (at + 1) 1 there refl stands.1.0 stands.1.1.0))
+
+    negate : (type : IntType) (from to : _) (next : _) → Steps (O.Negate type from to next)
+    negate type from to next e stands = typed type from.0 _ (λ a there is. resulting (negated_of type a) _ (λ value e'.
+        let spot = at + 1 + 1 + 1 in
+        let negated = negate_step code extra state.registers state.input state.trace spot type (word a) (address_of to.0 ∷ []) stands.1.1.1.0
+        ∙ ap (λ w. To (standing (spot + 1) (w ∷ address_of to.0 ∷ []))) (negated_word-outcome type a value is e') in
+        assigns (O.Negate type from to next) to.0 next.0 value state.input state.trace 3 (spot + 1) e refl refl (omega arith) stands.0 (omega arith) stands.1.1.1.1.0 stands.1.1.1.1.1
+        (λ leads. leads_more step _ _ _ 3 (loads from.0 a (address_of to.0 ∷ []) (at + 1) 1 there refl stands.1.0 stands.1.1.0 leads) negated)))
+
+    not : (type : IntType) (from to : _) (next : _) → Steps (O.Not type from to next)
+    not type from to next e stands = typed type from.0 _ (λ a there is.
+        let value = truth (is_zero a) in
+        let spot = at + 1 + 1 + 1 in
+        let zero = constant_step code extra state.registers state.input state.trace spot 0 (word a ∷ address_of to.0 ∷ []) stands.1.1.1.0 refl in
+        let compared = compare_step code extra state.registers state.input state.trace (spot + 1) relations.Eq type (word a) 0 (address_of to.0 ∷ []) stands.1.1.1.1.0
+        ∙ ap (λ w. To (standing (spot + 1 + 1) (w ∷ address_of to.0 ∷ []))) (compared_word-truth type relations.Eq a (pos 0) is (zero_in_range type)) in
+        assigns (O.Not type from to next) to.0 next.0 value state.input state.trace 4 (spot + 1 + 1) e refl refl (omega arith) stands.0 (omega arith) stands.1.1.1.1.1.0 stands.1.1.1.1.1.1
+        (λ leads. leads_more step _ _ _ 4 (leads_more step _ _ _ 3 (loads from.0 a (address_of to.0 ∷ []) (at + 1) 1 there refl stands.1.0 stands.1.1.0 leads) zero) compared))
+
+    -- an operation on two operands, which one instruction does
+    of_two : (op : Op) (left right to next : ℕ) (a b value : ℤ) (instr : Instr) → slice_get points state.at ≡ Some op → successor_of op ≡ Some next → length (op_code (λ _. 0) op) ≡ 7 →
+        StandsAt code at (instrs.Local (8 * to) ∷ instrs.Local (8 * left) ∷ instrs.Load types.ULong ∷ instrs.Local (8 * right) ∷ instrs.Load types.ULong ∷ instr ∷ instrs.Store widths.Eight ∷ way_to place state.at (Some next)) →
+        slice_get state.registers left ≡ Some a → slice_get state.registers right ≡ Some b →
+        ((spot : ℕ) → slice_get code spot ≡ Some instr → step (standing spot (word b ∷ word a ∷ address_of to ∷ [])) ≡ To (standing (spot + 1) (word value ∷ address_of to ∷ []))) →
+        Answers start (write to value next state.input state.trace state)
+    of_two op left right to next a b value instr e successor size stands there there' does =
+        let spot = at + 1 + 1 + 1 + 1 + 1 in
+        assigns op to next value state.input state.trace 5 (spot + 1) e successor size (omega arith) stands.0 (omega arith) stands.1.1.1.1.1.1.0 stands.1.1.1.1.1.1.1
+        (λ leads.
+        let one = loads left a (address_of to ∷ []) (at + 1) 1 there refl stands.1.0 stands.1.1.0 leads in
+        let two = loads right b (word a ∷ address_of to ∷ []) (at + 1 + 1 + 1) 3 there' refl stands.1.1.1.0 stands.1.1.1.1.0 one in
+        leads_more step _ _ _ 5 two (does spot stands.1.1.1.1.1.0))
+
+    arithmetic : (operator : BinOp) (type : IntType) (left right to : _) (next : _) → Steps (O.Arithmetic operator type left right to next)
+    arithmetic operator type left right to next e stands = typed type left.0 _ (λ a there is. typed type right.0 _ (λ b there' is'. resulting (outcome_of operator type a b) _ (λ value e'.
+        of_two (O.Arithmetic operator type left right to next) left.0 right.0 to.0 next.0 a b value (instrs.Binary operator type) e refl refl stands there there'
+        (λ spot stands. binary_step code extra state.registers state.input state.trace spot operator type (word a) (word b) (address_of to.0 ∷ []) stands
+        ∙ ap (λ w. To (standing (spot + 1) (w ∷ address_of to.0 ∷ []))) (binary_word-outcome type operator a b value is is' e')))))
+
+    compare : (relation : Relation) (type : IntType) (left right to : _) (next : _) → Steps (O.Compare relation type left right to next)
+    compare relation type left right to next e stands = typed type left.0 _ (λ a there is. typed type right.0 _ (λ b there' is'.
+        of_two (O.Compare relation type left right to next) left.0 right.0 to.0 next.0 a b (truth (compare_of relation a b)) (instrs.Compare relation type) e refl refl stands there there'
+        (λ spot stands. compare_step code extra state.registers state.input state.trace spot relation type (word a) (word b) (address_of to.0 ∷ []) stands
+        ∙ ap (λ w. To (standing (spot + 1) (w ∷ address_of to.0 ∷ []))) (compared_word-truth type relation a b is is'))))
+
+    branch : (type : IntType) (condition holds fails : _) → Steps (O.Branch type condition holds fails)
+    branch type condition holds fails e stands = typed type condition.0 _ (λ value there is. go value there (is_zero value) (word-is_zero type value is))
+      where
+        go : (value : ℤ) → slice_get state.registers condition.0 ≡ Some value → (test : Bool) → nat_eq (word value) 0 ≡ test → Answers start (if test then go_to fails.0 state else go_to holds.0 state)
+        go value there true is =
+            let two = loads condition.0 value [] at 0 there refl stands.0 stands.1.0 (here start) in
+            let three = leads_more step _ _ _ 2 two (zero_step code extra state.registers state.input state.trace (at + 1 + 1) (place fails.0) (word value) [] stands.1.1.0 is) in
+            (3, standing (place fails.0) [], omega arith, omega arith, three, (refl, fits))
+        go value there false is =
+            let two = loads condition.0 value [] at 0 there refl stands.0 stands.1.0 (here start) in
+            let three = leads_more step _ _ _ 2 two (nonzero_step code extra state.registers state.input state.trace (at + 1 + 1) (place fails.0) (word value) [] stands.1.1.0 is) in
+            finish state.registers state.input state.trace start state.at holds.0 3 (O.Branch type condition holds fails) e refl refl (omega arith) (omega arith) (at + 1 + 1 + 1) (omega arith) stands.1.1.1 three fits
+
+    get_char : (to : _) (next : _) → Steps (O.GetChar to next)
+    get_char to next e stands =
+        let left = machine.after_next state.input in
+        let got = getchar_step code extra state.registers state.input state.trace (at + 1) (address_of to.0 ∷ []) stands.1.0 refl
+        ∙ ap (λ w. To (running (at + 1 + 1) (w ∷ address_of to.0 ∷ []) state.registers left state.trace)) (input_word-next state.input) in
+        assigns (O.GetChar to next) to.0 next.0 (next_char state.input) left state.trace 1 (at + 1 + 1) e refl refl (omega arith) stands.0 (omega arith) stands.1.1.0 stands.1.1.1
+        (λ leads. leads_more step _ _ _ 1 leads got)
+
     put_char : (from to : _) (next : _) → Steps (O.PutChar from to next)
-    put_char from to next e stands = known from.0 _ (λ value there. written to.0 (pos (byte_of value)) next.0 state.input _ (λ within.
-        let extra = 8 * tac.main.registers in
-        let at = place state.at in
-        let behind = slice_get_within state.registers from.0 value there in
+    put_char from to next e stands = known from.0 _ (λ value there.
         let put = pos (byte_of value) in
         let trace = state.trace ++ Output (byte_of value) ∷ [] in
-        let one = one_step step _ _ (local_step code extra state.registers state.input state.trace at to.0 [] stands.0 refl (omega arith)) in
-        let two = leads_more step _ _ _ 1 one (local_step code extra state.registers state.input state.trace (at + 1) from.0 (address_of to.0 ∷ []) stands.1.0 refl (omega arith)) in
-        let three = leads_more step _ _ _ 2 two (load_step code extra state.registers state.input state.trace (at + 1 + 1) from.0 value (address_of to.0 ∷ []) stands.1.1.0 there) in
-        let wrote = putchar_step code extra state.registers state.input state.trace (at + 1 + 1 + 1) (word value) (address_of to.0 ∷ []) stands.1.1.1.0
-        ∙ ap (λ w. To (running (at + 1 + 1 + 1 + 1) (w ∷ address_of to.0 ∷ []) state.registers state.input (state.trace ++ Output (word value % 256) ∷ []))) (sym (word-pos_byte value))
-        ∙ ap (λ b. To (running (at + 1 + 1 + 1 + 1) (word put ∷ address_of to.0 ∷ []) state.registers state.input (state.trace ++ Output b ∷ []))) (word-byte value) in
-        let four = leads_more step _ _ _ 3 three wrote in
-        let five = leads_more step _ _ _ 4 four (store_step code extra state.registers state.input trace (at + 1 + 1 + 1 + 1) to.0 put [] stands.1.1.1.1.0 within) in
-        finish (slice_set state.registers to.0 put) state.input trace start state.at next.0 5 (O.PutChar from to next) e refl refl (omega arith) (omega arith) (at + 1 + 1 + 1 + 1 + 1) (omega arith) stands.1.1.1.1.1 five (kept to.0 put)))
+        let spot = at + 1 + 1 + 1 in
+        let wrote = putchar_step code extra state.registers state.input state.trace spot (word value) (address_of to.0 ∷ []) stands.1.1.1.0
+        ∙ ap (λ w. To (running (spot + 1) (w ∷ address_of to.0 ∷ []) state.registers state.input (state.trace ++ Output (word value % 256) ∷ []))) (sym (word-pos_byte value))
+        ∙ ap (λ b. To (running (spot + 1) (word put ∷ address_of to.0 ∷ []) state.registers state.input (state.trace ++ Output b ∷ []))) (word-byte value) in
+        assigns (O.PutChar from to next) to.0 next.0 put state.input trace 3 (spot + 1) e refl refl (omega arith) stands.0 (omega arith) stands.1.1.1.1.0 stands.1.1.1.1.1
+        (λ leads. leads_more step _ _ _ 3 (loads from.0 value (address_of to.0 ∷ []) (at + 1) 1 there refl stands.1.0 stands.1.1.0 leads) wrote))
 
     return : (from : _) → Steps (O.Return from)
     return from e stands = known from.0 _ (λ value there.
-        let extra = 8 * tac.main.registers in
-        let at = place state.at in
-        let behind = slice_get_within state.registers from.0 value there in
-        let one = one_step step _ _ (local_step code extra state.registers state.input state.trace at from.0 [] stands.0 refl (omega arith)) in
-        let two = leads_more step _ _ _ 1 one (load_step code extra state.registers state.input state.trace (at + 1) from.0 value [] stands.1.0 there) in
+        let two = loads from.0 value [] at 0 there refl stands.0 stands.1.0 (here start) in
         let three = leads_more step _ _ _ 2 two (return_step code extra state.registers state.input state.trace (at + 1 + 1) (word value) [] stands.1.1.0) in
         let last = leaving (word value) state.input state.trace in
         inr (3, last, last, omega arith, three, end_step code extra (word value) state.input state.trace ∙ ap (λ b. Halt (Ended b) last) (word-byte value), refl, inl tt))
 
     at_op : (op : Op) → Steps op
+    at_op O.Reserved = λ e stands. inl tt
     at_op (O.Constant to value next) = constant to value next
+    at_op (O.Copy from to next) = copy from to next
+    at_op (O.Negate type from to next) = negate type from to next
+    at_op (O.Not type from to next) = not type from to next
+    at_op (O.Arithmetic operator type left right to next) = arithmetic operator type left right to next
+    at_op (O.Compare relation type left right to next) = compare relation type left right to next
+    at_op (O.Branch type condition holds fails) = branch type condition holds fails
     at_op (O.GetChar to next) = get_char to next
     at_op (O.PutChar from to next) = put_char from to next
     at_op (O.Return from) = return from

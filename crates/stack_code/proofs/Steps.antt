@@ -1,17 +1,20 @@
 -- The steps of the machine in main, which start has called: its frame holds the registers.
-use Rattle.std.proofs.Common.{◌≡◌, ℕ, ◌+◌, ◌-◌, ◌*◌, ◌%◌, ◌^◌, ◌<◌, true, ◌&&◌, ℤ, pos, List, [], ◌∷◌, ◌++◌, Some, length, take, drop, refl, ap, ◌∙◌, arith}
-use Rattle.std.specs.Prelude.{slice_get, slice_set, nat_le, nat_lt, if◌then◌else◌}
+use Rattle.std.proofs.Common.{◌≡◌, ℕ, ◌+◌, ◌-◌, ◌*◌, ◌%◌, ◌^◌, ◌<◌, Bool, true, false, ◌&&◌, ℤ, pos, List, [], ◌∷◌, ◌++◌, Some, length, take, drop, refl, ap, ◌∙◌, arith}
+use Rattle.std.specs.Prelude.{slice_get, slice_set, nat_eq, nat_le, nat_lt, if◌then◌else◌}
 use Rattle.std.proofs.Math.Nat.{mod-eq_of_lt}
 use Rattle.std.proofs.lemmas.Bool.{le-leb}
 use Rattle.std.proofs.lemmas.Option.{slice_get_within}
 use Rattle.run_theory.specs.declared.ends.TrapKind.TheVariants as traps
 use Rattle.run_theory.specs.Runs.{Trace, Output, Ended, To, Halt}
+use Rattle.c_num.specs.declared.IntType.{IntType}
 use Rattle.c_num.specs.declared.IntType.TheVariants as types
+use Rattle.c_num.specs.declared.BinOp.{BinOp}
+use Rattle.c_num.specs.declared.Relation.{Relation}
 use Rattle.c_num.specs.Conversion.{word_of}
 use Rattle.pool_isa.specs.declared.instr.Width.TheVariants as widths
 use Rattle.pool_isa.specs.declared.instr.Instr.{Instr}
 use Rattle.pool_isa.specs.declared.instr.Instr.TheVariants as instrs
-use Rattle.pool_isa.specs.Machine.{Function, Activation, State, covers, bytes_at, with_bytes_at, beneath, spliced, input_word, after_next, perform, loaded, stored, trap, act}
+use Rattle.pool_isa.specs.Machine.{Function, Activation, State, covers, bytes_at, with_bytes_at, beneath, spliced, input_word, after_next, negated_word, binary_word, compared_word, branched, perform, loaded, stored, trap, act}
 use Rattle.stack_code.specs.Emission.{start_function}
 use Rattle.stack_code.proofs.Words.{word, word_fits, word_of-word}
 use Rattle.stack_code.proofs.Frames.{frame_of, length-frame_of, word_bytes, word_at, written_word, read_back}
@@ -57,7 +60,7 @@ put place operands registers n value callers within =
 
 module _ (code : List Instr) (extra : ℕ) where
   abbrev pub main : Function
-  main = record { parameters = 0; extra = extra; height = 2; signature = 0; code = code }
+  main = record { parameters = 0; extra = extra; height = 3; signature = 0; code = code }
 
   abbrev pub program : List Function
   program = start_function ∷ main ∷ []
@@ -66,11 +69,11 @@ module _ (code : List Instr) (extra : ℕ) where
     fetch : (operands : List ℕ) (instr : Instr) → slice_get code place ≡ Some instr → act program (running place operands registers input trace) ≡ perform (Some instr) program main (in_main place operands (frame_of registers)) (in_start [] ∷ []) (running place operands registers input trace)
     fetch operands instr e = ap (λ i. perform i program main (in_main place operands (frame_of registers)) (in_start [] ∷ []) (running place operands registers input trace)) e
 
-    pub constant_step : (value : ℕ) (operands : List ℕ) → slice_get code place ≡ Some (instrs.Constant value) → nat_lt (length operands) 2 ≡ true → act program (running place operands registers input trace) ≡ To (running (place + 1) (value ∷ operands) registers input trace)
+    pub constant_step : (value : ℕ) (operands : List ℕ) → slice_get code place ≡ Some (instrs.Constant value) → nat_lt (length operands) 3 ≡ true → act program (running place operands registers input trace) ≡ To (running (place + 1) (value ∷ operands) registers input trace)
     constant_step value operands e room =
         fetch operands (instrs.Constant value) e ∙ ap (λ b. if b then To (running (place + 1) (value ∷ operands) registers input trace) else trap traps.StackFull (running place operands registers input trace)) room
 
-    pub local_step : (n : ℕ) (operands : List ℕ) → slice_get code place ≡ Some (instrs.Local (8 * n)) → nat_lt (length operands) 2 ≡ true → n < 2 ^ 32 → act program (running place operands registers input trace) ≡ To (running (place + 1) (address_of n ∷ operands) registers input trace)
+    pub local_step : (n : ℕ) (operands : List ℕ) → slice_get code place ≡ Some (instrs.Local (8 * n)) → nat_lt (length operands) 3 ≡ true → n < 2 ^ 32 → act program (running place operands registers input trace) ≡ To (running (place + 1) (address_of n ∷ operands) registers input trace)
     local_step n operands e room near =
         fetch operands (instrs.Local (8 * n)) e
         ∙ ap (λ b. if b then To (running (place + 1) ((2 ^ 40 + 8 * n) % 2 ^ 64 ∷ operands) registers input trace) else trap traps.StackFull (running place operands registers input trace)) room
@@ -91,12 +94,34 @@ module _ (code : List Instr) (extra : ℕ) where
         fetch (word value ∷ address_of n ∷ operands) (instrs.Store widths.Eight) e
         ∙ ap (λ activations. stored activations state) (put (place + 1) operands registers n value (in_start [] ∷ []) within)
 
-    pub getchar_step : (operands : List ℕ) → slice_get code place ≡ Some instrs.GetChar → nat_lt (length operands) 2 ≡ true → act program (running place operands registers input trace) ≡ To (running (place + 1) (input_word input ∷ operands) registers (after_next input) trace)
+    pub getchar_step : (operands : List ℕ) → slice_get code place ≡ Some instrs.GetChar → nat_lt (length operands) 3 ≡ true → act program (running place operands registers input trace) ≡ To (running (place + 1) (input_word input ∷ operands) registers (after_next input) trace)
     getchar_step operands e room =
         fetch operands instrs.GetChar e ∙ ap (λ b. if b then To (running (place + 1) (input_word input ∷ operands) registers (after_next input) trace) else trap traps.StackFull (running place operands registers input trace)) room
 
     pub putchar_step : (w : ℕ) (operands : List ℕ) → slice_get code place ≡ Some instrs.PutChar → act program (running place (w ∷ operands) registers input trace) ≡ To (running (place + 1) (w % 256 ∷ operands) registers input (trace ++ Output (w % 256) ∷ []))
     putchar_step w operands e = fetch (w ∷ operands) instrs.PutChar e
+
+    pub negate_step : (type : IntType) (w : ℕ) (operands : List ℕ) → slice_get code place ≡ Some (instrs.Negate type) → act program (running place (w ∷ operands) registers input trace) ≡ To (running (place + 1) (negated_word type w ∷ operands) registers input trace)
+    negate_step type w operands e = fetch (w ∷ operands) (instrs.Negate type) e
+
+    pub binary_step : (operator : BinOp) (type : IntType) (left right : ℕ) (operands : List ℕ) → slice_get code place ≡ Some (instrs.Binary operator type) → act program (running place (right ∷ left ∷ operands) registers input trace) ≡ To (running (place + 1) (binary_word operator type left right ∷ operands) registers input trace)
+    binary_step operator type left right operands e = fetch (right ∷ left ∷ operands) (instrs.Binary operator type) e
+
+    pub compare_step : (relation : Relation) (type : IntType) (left right : ℕ) (operands : List ℕ) → slice_get code place ≡ Some (instrs.Compare relation type) → act program (running place (right ∷ left ∷ operands) registers input trace) ≡ To (running (place + 1) (compared_word relation type left right ∷ operands) registers input trace)
+    compare_step relation type left right operands e = fetch (right ∷ left ∷ operands) (instrs.Compare relation type) e
+
+    branch_step : (target w : ℕ) (operands : List ℕ) (test : Bool) → slice_get code place ≡ Some (instrs.JumpIfZero target) → nat_eq w 0 ≡ test →
+        act program (running place (w ∷ operands) registers input trace) ≡ To (record { activations = branched test target (in_main place (w ∷ operands) (frame_of registers)) operands ∷ in_start [] ∷ []; input = input; trace = trace })
+    branch_step target w operands test e is =
+        fetch (w ∷ operands) (instrs.JumpIfZero target) e
+        ∙ ap (λ b. To (record { activations = branched b target (in_main place (w ∷ operands) (frame_of registers)) operands ∷ in_start [] ∷ []; input = input; trace = trace })) is
+
+    -- a branch jumps at 0, and otherwise goes on
+    pub zero_step : (target w : ℕ) (operands : List ℕ) → slice_get code place ≡ Some (instrs.JumpIfZero target) → nat_eq w 0 ≡ true → act program (running place (w ∷ operands) registers input trace) ≡ To (running target operands registers input trace)
+    zero_step target w operands e is = branch_step target w operands true e is
+
+    pub nonzero_step : (target w : ℕ) (operands : List ℕ) → slice_get code place ≡ Some (instrs.JumpIfZero target) → nat_eq w 0 ≡ false → act program (running place (w ∷ operands) registers input trace) ≡ To (running (place + 1) operands registers input trace)
+    nonzero_step target w operands e is = branch_step target w operands false e is
 
     pub jump_step : (target : ℕ) (operands : List ℕ) → slice_get code place ≡ Some (instrs.Jump target) → act program (running place operands registers input trace) ≡ To (running target operands registers input trace)
     jump_step target operands e = fetch operands (instrs.Jump target) e

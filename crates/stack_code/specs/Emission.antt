@@ -6,6 +6,7 @@
 use Rattle.std.specs.Prelude.{ℕ, ◌+◌, ◌*◌, ◌^◌, ◌==◌, List, [], ◌∷◌, ◌++◌, Option, Some, None, length, drop, if◌then◌else◌}
 use Rattle.c_num.specs.Conversion.{modulo}
 use Rattle.c_num.specs.declared.IntType.TheVariants as types
+use Rattle.c_num.specs.declared.Relation.TheVariants as relations
 use Rattle.pool_isa.specs.declared.instr.Width.TheVariants as widths
 use Rattle.pool_isa.specs.declared.instr.Instr.{Instr}
 use Rattle.pool_isa.specs.declared.instr.Instr.TheVariants as instrs
@@ -19,17 +20,38 @@ use Rattle.tac_ir.specs.declared.Tac.{Tac}
 abbrev pub offset_of : Register → ℕ
 offset_of register = 8 * register.0
 
--- what is done at a point
-abbrev pub op_code : Op → List Instr
-op_code (O.Constant to value next) = instrs.Local (offset_of to) ∷ instrs.Constant (modulo value (2 ^ 64)) ∷ instrs.Store widths.Eight ∷ []
-op_code (O.GetChar to next) = instrs.Local (offset_of to) ∷ instrs.GetChar ∷ instrs.Store widths.Eight ∷ []
-op_code (O.PutChar from to next) =
-    instrs.Local (offset_of to) ∷ instrs.Local (offset_of from) ∷ instrs.Load types.ULong ∷ instrs.PutChar ∷ instrs.Store widths.Eight ∷ []
-op_code (O.Return from) = instrs.Local (offset_of from) ∷ instrs.Load types.ULong ∷ instrs.ReturnValue ∷ []
+-- pushes the word of a register
+abbrev pub loading : Register → List Instr
+loading from = instrs.Local (offset_of from) ∷ instrs.Load types.ULong ∷ []
 
--- the point that follows
+-- writes the word that these instructions push to a register
+abbrev pub assigning : Register → List Instr → List Instr
+assigning to value = instrs.Local (offset_of to) ∷ value ++ instrs.Store widths.Eight ∷ []
+
+-- What is done at a point, where the blocks of points lie at these places. A branch leads to its second point itself.
+abbrev pub op_code : (ℕ → ℕ) → Op → List Instr
+op_code place O.Reserved = instrs.Trap ∷ []
+op_code place (O.Constant to value next) = assigning to (instrs.Constant (modulo value (2 ^ 64)) ∷ [])
+op_code place (O.Copy from to next) = assigning to (loading from)
+op_code place (O.Negate type operand to next) = assigning to (loading operand ++ instrs.Negate type ∷ [])
+op_code place (O.Not type operand to next) = assigning to (loading operand ++ instrs.Constant 0 ∷ instrs.Compare relations.Eq type ∷ [])
+op_code place (O.Arithmetic operator type left right to next) = assigning to (loading left ++ loading right ++ instrs.Binary operator type ∷ [])
+op_code place (O.Compare relation type left right to next) = assigning to (loading left ++ loading right ++ instrs.Compare relation type ∷ [])
+op_code place (O.Branch type condition holds fails) = loading condition ++ instrs.JumpIfZero (place fails.0) ∷ []
+op_code place (O.GetChar to next) = assigning to (instrs.GetChar ∷ [])
+op_code place (O.PutChar from to next) = assigning to (loading from ++ instrs.PutChar ∷ [])
+op_code place (O.Return from) = loading from ++ instrs.ReturnValue ∷ []
+
+-- the point that follows: of a branch, the first one
 abbrev pub successor_of : Op → Option ℕ
+successor_of O.Reserved = None
 successor_of (O.Constant to value next) = Some next.0
+successor_of (O.Copy from to next) = Some next.0
+successor_of (O.Negate type operand to next) = Some next.0
+successor_of (O.Not type operand to next) = Some next.0
+successor_of (O.Arithmetic operator type left right to next) = Some next.0
+successor_of (O.Compare relation type left right to next) = Some next.0
+successor_of (O.Branch type condition holds fails) = Some holds.0
 successor_of (O.GetChar to next) = Some next.0
 successor_of (O.PutChar from to next) = Some next.0
 successor_of (O.Return from) = None
@@ -41,7 +63,7 @@ way_to place number (Some next) = if next + 1 == number then [] else instrs.Jump
 
 -- the instructions of the point of a number
 abbrev pub block : (ℕ → ℕ) → ℕ → Op → List Instr
-block place number op = op_code op ++ way_to place number (successor_of op)
+block place number op = op_code place op ++ way_to place number (successor_of op)
 
 -- the blocks of points that are numbered from a number on, the last point first
 abbrev pub blocks : (ℕ → ℕ) → ℕ → List Op → List Instr
@@ -69,7 +91,7 @@ start_function = record { parameters = 0; extra = 0; height = 1; signature = 0; 
 
 abbrev pub main_function : Tac → Function
 main_function tac =
-    record { parameters = 0; extra = 8 * tac.main.registers; height = 2; signature = 0; code = function_code tac.main.points.items tac.main.entry.0 }
+    record { parameters = 0; extra = 8 * tac.main.registers; height = 3; signature = 0; code = function_code tac.main.points.items tac.main.entry.0 }
 
 -- the functions of a program's image
 abbrev pub functions_of : Tac → List Function

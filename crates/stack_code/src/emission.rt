@@ -3,23 +3,16 @@
 ghost use Rattle.std.specs.Prelude.{◌≡◌, ◌+◌, ◌^◌, ◌<◌, ◌≤◌, ◌==◌, ◌++◌, length, IfOk, OnOk, slice_index};
 ghost use Rattle.std.specs.Option.{ForSome};
 ghost use Rattle.std.specs.List.{AllByRecursion};
-ghost use Rattle.c_num.specs.Conversion.{modulo};
 ghost use Rattle.pool_isa.specs.Ranges.{IsFunction};
-ghost use Rattle.stack_code.specs.Emission.{op_code, successor_of, way_to, block, function_code, start_function, main_function, functions_of, offset_of};
+ghost use Rattle.stack_code.specs.Emission.{way_to, block, function_code, start_function, main_function, functions_of};
 ghost use Rattle.tac_ir.specs.Fits.{NamesBelow, FitsFunction, FitsFrame};
 ghost use Rattle.stack_code.specs.Places.{ArePlaces};
 ghost use Rattle.stack_code.specs.Units.{unit_function, unit_functions};
 
-use c_num::IntType;
-use pool_isa::{Instr, Width};
+use crate::operation::{op_len, push_op, successor};
+use pool_isa::Instr;
 use std::alloc::{AllocError, Global};
-use tac_ir::{Func, Op, Register, Tac};
-
-/// Loads the word of a register.
-const LOAD: Instr = Instr::Load(IntType::ULong);
-
-/// Stores the word of a register.
-const STORE: Instr = Instr::Store(Width::Eight);
+use tac_ir::{Func, Op, Tac};
 
 /// A function of the machine.
 #[derive(Debug, Drop)]
@@ -39,74 +32,6 @@ pub struct Unit {
 #[derive(Debug, Drop)]
 pub struct Units {
     pub functions: Vec<Unit>,
-}
-
-/// The word that holds a value.
-fn word_of(value: i64) -> u64
-    ensures { result ≡ modulo value (2 ^ 64) }
-{
-    value.cast_unsigned()
-}
-
-/// Where a register lies in the frame.
-fn offset(register: Register) -> u64
-    requires { register.0 < 2 ^ 32 }
-    ensures { result ≡ offset_of register }
-{
-    8 * register.0 as u64
-}
-
-/// How many instructions do what is done at a point.
-fn op_len(op: Op) -> u64
-    ensures { result ≡ length (op_code op) }
-{
-    match op {
-        Op::Constant { .. } | Op::GetChar { .. } | Op::Return { .. } => 3,
-        Op::PutChar { .. } => 5,
-    }
-}
-
-/// The point that follows.
-fn successor(op: Op) -> Option<usize>
-    ensures { result ≡ successor_of op }
-{
-    match op {
-        Op::Constant { next, .. } | Op::GetChar { next, .. } | Op::PutChar { next, .. } => {
-            Some(next.0)
-        }
-        Op::Return { .. } => None,
-    }
-}
-
-/// Appends what is done at a point.
-fn push_op(code: &mut Vec<Instr>, op: Op) -> Result<(), AllocError>
-    requires { NamesBelow 8388608 (2 ^ 28) op }
-    ensures { OnOk result (code.new.items ≡ code.old.items ++ op_code op) }
-{
-    match op {
-        Op::Constant { to, value, .. } => code.extend_from_slice(&[
-            Instr::Local(offset(to)),
-            Instr::Constant(word_of(i64::from(value))),
-            STORE,
-        ]),
-        Op::GetChar { to, .. } => code.extend_from_slice(&[
-            Instr::Local(offset(to)),
-            Instr::GetChar,
-            STORE,
-        ]),
-        Op::PutChar { from, to, .. } => code.extend_from_slice(&[
-            Instr::Local(offset(to)),
-            Instr::Local(offset(from)),
-            LOAD,
-            Instr::PutChar,
-            STORE,
-        ]),
-        Op::Return { from } => code.extend_from_slice(&[
-            Instr::Local(offset(from)),
-            LOAD,
-            Instr::ReturnValue,
-        ]),
-    }
 }
 
 /// Whether a point is laid out behind the point of this number, so that no jump leads there.
@@ -166,11 +91,10 @@ fn push_block(
     number: usize,
     op: Op,
 ) -> Result<(), AllocError>
-    requires names { NamesBelow 8388608 (length places.now) op }
-    requires few { length places.now ≤ 2 ^ 28 }
+    requires { NamesBelow 8388608 (length places.now) op }
     ensures { OnOk result (code.new.items ≡ code.old.items ++ block (slice_index places.now) number op) }
 {
-    push_op(code, op)?;
+    push_op(code, places, op)?;
     push_way(code, places, number, successor(op))
 }
 
@@ -212,7 +136,7 @@ fn main_unit(alloc: Global, tac: &Tac) -> Result<Unit, AllocError>
     Ok(Unit {
         parameters: 0,
         extra: 8 * tac.main.registers as u32,
-        height: 2,
+        height: 3,
         signature: 0,
         code,
     })
