@@ -1,3 +1,8 @@
-pub mod Fronts
-pub mod Functions
-pub mod Images
+pub mod Fields
+pub mod Ranges
+pub mod Lists
+pub mod Instructions
+pub mod FunctionFields
+pub mod KindFields
+pub mod ContentFields
+pub mod ImageFields

@@ -1,5 +1,5 @@
 -- The bytes of an image, version 1: its fields in their order, each number in its shortest form and its range.
-use Rattle.std.specs.Prelude.{◌≡◌, ℕ, ◌/◌, ◌≤◌, List, [], ◌∷◌, ◌++◌, map, length, if◌then◌else◌}
+use Rattle.std.specs.Prelude.{◌≡◌, ℕ, ◌/◌, ◌%◌, ◌<◌, ◌≤◌, List, [], ◌∷◌, ◌++◌, map, length, if◌then◌else◌}
 use Rattle.std.specs.List.{flat_map, AllByRecursion}
 use Rattle.pool_isa.specs.Instr.{spelling}
 use Rattle.pool_isa.specs.Number.{number_bytes}
@@ -35,7 +35,7 @@ counted bytes_of items = number_bytes (length items) ++ flat_map bytes_of items
 abbrev pub kind_bytes : PoolKind → List ℕ
 kind_bytes Mixed = 0 ∷ []
 kind_bytes (Homogeneous source cell indexed) =
-    1 ∷ (number_bytes source ++ number_bytes (cell / 4) ++ (if indexed then 1 else 0) ∷ [])
+    1 ∷ (number_bytes source ++ (number_bytes (cell / 4) ++ (if indexed then 1 else 0) ∷ []))
 
 abbrev pub function_bytes : machine.Function → List ℕ
 function_bytes function =
@@ -59,20 +59,39 @@ abbrev pub BeginsWithStart : List machine.Function → Type 0
 BeginsWithStart [] = ⊥
 BeginsWithStart (start ∷ functions) = start.parameters ≡ 0
 
--- The fields are in their ranges. No form of the language needs globals or pools yet, so that no first contents and
--- no kind of pool is there.
+-- the list is empty, or its last number isn't 0
+abbrev pub EndsNonzero : List ℕ → Type 0
+EndsNonzero [] = Unit {0}
+EndsNonzero (byte ∷ []) = 0 < byte
+EndsNonzero (byte ∷ next ∷ bytes) = EndsNonzero (next ∷ bytes)
+
+-- The first contents of globals of so many bytes: bytes, no more than those, the last not 0. Zeros follow them, so that
+-- globals have one spelling.
+abbrev pub IsContents : ℕ → List ℕ → Type 0
+IsContents size contents = (length contents ≤ size) × AllByRecursion (λ byte. byte < 256) contents × EndsNonzero contents
+
+-- of cells of one size, a multiple of 4 bytes, for objects of one size
+abbrev pub IsKind : PoolKind → Type 0
+IsKind Mixed = Unit {0}
+IsKind (Homogeneous source cell indexed) = IsWithin 1 1048576 source × IsWithin 4 1048576 cell × (cell % 4 ≡ 0)
+
+-- the fields are in their ranges
 pub record IsImage (form : Form) : Type 0 where
   pub version : form.version ≡ 1
   pub slabs : IsWithin 1 1048576 form.limits.slabs
   pub index : IsWithin 1 4294967295 form.limits.index
   pub globals : form.globals ≤ 1073741824
-  pub contents : form.contents ≡ []
-  pub kinds : form.kinds ≡ []
+  pub contents : IsContents form.globals form.contents
+  pub kinds : (length form.kinds ≤ 1048576) × AllByRecursion IsKind form.kinds
   pub functions : length form.functions ≤ 4097
-  pub each_function : AllByRecursion (IsFunction 0 (length form.functions)) form.functions
+  pub each_function : AllByRecursion (IsFunction (length form.kinds) (length form.functions)) form.functions
   pub start : BeginsWithStart form.functions
 
 -- The bytes are those of an image of this form, and nothing follows.
 pub record ImageOf (bytes : List ℕ) (form : Form) : Type 0 where
   pub spelled : bytes ≡ image_bytes form
   pub ranges : IsImage form
+
+-- the bytes are some image's
+abbrev pub IsImageBytes : List ℕ → Type 0
+IsImageBytes bytes = (form : Form) × ImageOf bytes form

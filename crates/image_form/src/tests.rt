@@ -8,7 +8,21 @@ use std::test::Fail;
 // One function, which pushes 7 and exits with it.
 const SEVEN: &str = "5041494d01808004ffffffff0f000000010000010002010727";
 
-// That image changed, and the place of the fault, if there is one.
+// Globals of 9 bytes that begin with 3, three kinds of pools, and one function, which makes a pool of the last.
+const KINDS: &str = "5041494d0101020903410042030001088080100001e807ac0201010000010002500227";
+
+// Changes of a byte of that: where it stands, the byte that is put there, and the place of the fault.
+const FAULTY: [(usize, u8, usize); 7] = [
+    (8, 10, 8),
+    (11, 0, 11),
+    (12, 2, 21),
+    (13, 2, 13),
+    (18, 17, 18),
+    (25, 2, 25),
+    (33, 3, 33),
+];
+
+// The first image changed, and the place of the fault, if there is one.
 const CHANGED: [(&str, Option<usize>); 13] = [
     (
         "5041494d01808004ffffffff0f00000001000001000201072700",
@@ -49,74 +63,110 @@ const CHANGED: [(&str, Option<usize>); 13] = [
     ),
 ];
 
-// Images made by chance, most of them damaged, with another reader's answers.
-const OTHERS: [(&str, Option<usize>); 22] = [
+// Images made by chance, most of them damaged, and the place where another reader finds the fault, if there is one.
+const OTHERS: [(&str, Option<usize>); 30] = [
     (
-        "5041494d0101ac0200000003001305010601071339076138022503350100044203153c0325023e0501020326",
+        "5041494d0101ffffffff0f010178010001006a0601051426111827",
         None,
     ),
     (
-        "5041494d0107ffffffff0f00000003000008000730030403161d248020200100010703052101050030050327023a08030127",
+        "5041494d0101010000010110808010010100250700083d042737014104210234040226",
         None,
     ),
     (
-        "5041494d0101ac02080000040010070202340227020a040005400423005226250328050103021527011c02020711310023001a41021928",
+        "5041494d0107ffffffff0f00000101808040010101003d0203072006272716193e0428",
         None,
     ),
     (
-        "5041494d01010101000004003e0700061361310631056027003a030302018020200000240402064100161c22041926023f0200063f0740072201050035002000",
+        "5041494d01808040ffffffff0f0000030110808010010001048080100101002c01000127",
         None,
     ),
     (
-        "5041494d0107ffffffff0f01000004003608010628031d05808081808020310525032a0802063e071425370736072801050901045210400626001d040305220404115328",
+        "5041494d010101000003018080408080100001048080100001018080100001001401000126",
         None,
     ),
     (
-        "5041494d0107ffffffff0f00000004001b07000540063d071261270237080204155215270008050005370661058020252000021408030125",
+        "5041494d01070108032fae540100030005050102370126032108030127031a040103112825",
         None,
     ),
     ("5041494d018080", Some(7)),
+    ("5041494d01070108", Some(8)),
     ("5041494d0101ffffff", Some(9)),
+    ("5041494d01808040ac020000", Some(12)),
+    ("5041494d0107ffffffff0f0800", Some(13)),
+    ("5041494d0101ac020100000300c8", Some(14)),
+    ("5041494d01010100000003002d020307", Some(16)),
+    ("5041494d01808040ffffffff0f0100030001", Some(18)),
+    ("5041494d0107ffffffff0f0000020001010030", Some(17)),
+    ("5041494d0107010804fe8f7151010003002d040007", Some(21)),
+    ("5041494d0101ffffffe60f00000300000104020102002301", Some(24)),
+    (
+        "5041494d010101010002000001001e02030540002517000027",
+        Some(22),
+    ),
     (
         "5041494d0107ffffffffe60801040001003a0102023a0405012000",
         Some(10),
     ),
     (
-        "5041494d01808040ac028100000200270300082530033b0030076018272800c87e0400065253263e06340627",
-        Some(11),
-    ),
-    ("5041494d01808040ac020000", Some(12)),
-    (
-        "5041494d0101ac0200000002011b0801033e013404270001040102310227",
-        Some(12),
-    ),
-    (
-        "5041494d0107ac0201000002a000050006164106613306340425013209020127",
-        Some(12),
-    ),
-    ("5041494d0107ffffffff0f0800", Some(13)),
-    ("5041494d0101ac020100000300c8", Some(14)),
-    (
-        "5041494d0101ffffffff0f0100000180804001000001048080100102000d02000234012800110202083702601c613b00021728",
+        "5041494d01808040ac020100800100330883062730021514220427",
         Some(15),
     ),
-    ("5041494d01010100000003002d020307", Some(16)),
     (
-        "5041494d010146ffffff0f0000030000000200808080200201051230023102380427021a070302230127",
-        Some(16),
+        "5041494d0101ff01ffff0fac02016e0001000b020204151339062003",
+        Some(28),
     ),
-    ("5041494d01808040ffffffff0f00000002001106010026", Some(21)),
     (
-        "5041494d01808040ffffffff0f00000002002e0103053f0419380361280112020103310027",
+        "5041494d01808040ffffffff0f0101600100108080100104001c0801",
+        Some(19),
+    ),
+    (
+        "5041494d0101ac02ac02476478055feead8ec559c4acbafde6d8f938b30e39",
+        Some(31),
+    ),
+    (
+        "5041494d010101010001000400060300073c00101139033b075325031b0303081a3e05173b",
         Some(37),
     ),
     (
-        "5041494d0101ac020100000300390503071015173401018080808080203a0526022c08030816050026c1023504380122032002030f040002310027",
-        Some(41),
+        "5041494d0107ac020100010003001e080004282103057f2703400503022828001805000129",
+        Some(36),
     ),
     (
-        "5041494d01808040ac0200000004003f03010637021d3705300235042003010a0600023f0620010320010084022401390026010d070006121432071d0025",
-        Some(52),
+        "5041494d01808040feffffff0fac02765f2a6660c1a1f02e9b16e7fab52df133862098af3057a866723eea",
+        Some(43),
+    ),
+    (
+        "5041494d0101ffffffff0f0804dcb1a76f010003001308030501023c02185326008080802007030526145104",
+        Some(44),
+    ),
+    (
+        "5041494d01808040ac028100000200270300082530033b0030076018272800c87e0400065253263e06340627",
+        Some(11),
+    ),
+    (
+        "5041494d0107ac0208031649e200030002040201260035010206210003400618018080808080202003031e0401",
+        Some(45),
+    ),
+    (
+        "5041494d01808040010000020000030040070002310725011c0202041d19420728012604030702612700011b1025",
+        Some(41),
+    ),
+];
+
+// Images but for one byte, 54, which is no instruction's code.
+const NO_CODE: [(&str, usize); 3] = [
+    (
+        "5041494d0101010806df00769894a101018080400400020008080105350154310523012002020704030351390225",
+        30,
+    ),
+    (
+        "5041494d01010108080cbfcbcf4c9f7f690201808040040101808040020002000c0103065442001c513805270230050108350738001d2301510400002002",
+        36,
+    ),
+    (
+        "5041494d018080400108018c010003001f0202061221053004300431052601160300060224808080808020263906532500270900081d54021935003602380428",
+        54,
     ),
 ];
 
@@ -162,6 +212,32 @@ fn read_and_written(rt: HostRuntime) -> Result<(), Fail> {
     Ok(())
 }
 
+// Kinds of pools, and contents of globals, read and written again.
+#[test]
+fn kinds_and_contents(rt: HostRuntime) -> Result<(), Fail> {
+    let bytes = bytes_of(rt.alloc(), KINDS)?;
+    let image = from_bytes(rt.alloc(), &bytes)?;
+    assert_eq!(rt; image.globals.size, 9);
+    assert_eq!(rt; image.globals.contents.as_slice(), [65, 0, 66].as_slice());
+    let kinds = [
+        PoolKind::Mixed,
+        PoolKind::Homogeneous {
+            source: 8,
+            cell: 1_048_576,
+            indexed: false,
+        },
+        PoolKind::Homogeneous {
+            source: 1_000,
+            cell: 1_200,
+            indexed: true,
+        },
+    ];
+    assert_eq!(rt; image.kinds.as_slice(), kinds.as_slice());
+    let again = to_bytes(rt.alloc(), &image)?;
+    assert_eq!(rt; again.as_slice(), bytes.as_slice());
+    Ok(())
+}
+
 #[test]
 fn places_of_faults(rt: HostRuntime) -> Result<(), Fail> {
     let bytes = bytes_of(rt.alloc(), SEVEN)?;
@@ -172,9 +248,30 @@ fn places_of_faults(rt: HostRuntime) -> Result<(), Fail> {
         let bytes = bytes_of(rt.alloc(), text)?;
         assert_eq!(rt; fault_of(rt.alloc(), &bytes)?, place, "{text}");
     }
+    Ok(())
+}
+
+#[test]
+fn places_in_kinds_and_contents(rt: HostRuntime) -> Result<(), Fail> {
+    for (index, byte, place) in FAULTY {
+        let mut bytes = bytes_of(rt.alloc(), KINDS)?;
+        if let Some(changed) = bytes.get_mut(index) {
+            *changed = byte;
+        }
+        assert_eq!(rt; fault_of(rt.alloc(), &bytes)?, Some(place), "{index}");
+    }
+    Ok(())
+}
+
+#[test]
+fn other_places(rt: HostRuntime) -> Result<(), Fail> {
     for (text, place) in OTHERS {
         let bytes = bytes_of(rt.alloc(), text)?;
         assert_eq!(rt; fault_of(rt.alloc(), &bytes)?, place, "{text}");
+    }
+    for (text, place) in NO_CODE {
+        let bytes = bytes_of(rt.alloc(), text)?;
+        assert_eq!(rt; fault_of(rt.alloc(), &bytes)?, Some(place), "{text}");
     }
     Ok(())
 }

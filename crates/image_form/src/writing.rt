@@ -2,21 +2,20 @@
 
 ghost use Rattle.std.specs.Prelude.{◌≡◌, ◌++◌, map, IfOk, OnOk};
 ghost use Rattle.pool_isa.specs.Instr.{spelling};
-ghost use Rattle.image_form.specs.Form.{form_of, function_of, function_bytes, counted, header_bytes, contents_bytes, image_bytes, IsImage};
+ghost use Rattle.image_form.specs.Form.{form_of, function_of, function_bytes, kind_bytes, counted, header_bytes, contents_bytes, image_bytes};
 
-use crate::image::{Function, Image};
+use crate::image::{Function, Image, PoolKind};
 use pool_isa::{Instr, append, append_number};
 use std::alloc::{AllocError, Global};
 
 /// The bytes of an image.
 pub fn to_bytes(alloc: Global, image: &Image) -> Result<Vec<u8>, AllocError>
-    requires { IsImage (form_of image.now) }
     ensures { IfOk result (λ bytes. bytes.items ≡ image_bytes (form_of image.now)) }
 {
     let mut bytes = Vec::new(alloc);
     append_header(&mut bytes, image)?;
     append_contents(&mut bytes, &image.globals.contents)?;
-    append_number(&mut bytes, 0)?;
+    append_kinds(&mut bytes, &image.kinds)?;
     append_functions(&mut bytes, &image.functions)?;
     Ok(bytes)
 }
@@ -36,6 +35,36 @@ fn append_contents(bytes: &mut Vec<u8>, contents: &[u8]) -> Result<(), AllocErro
 {
     append_number(bytes, contents.len() as u64)?;
     bytes.extend_from_slice(contents)
+}
+
+// The kinds of pools: how many, and then each.
+fn append_kinds(bytes: &mut Vec<u8>, kinds: &[PoolKind]) -> Result<(), AllocError>
+    ensures { OnOk result (bytes.new.items ≡ bytes.old.items ++ counted kind_bytes kinds.now) }
+{
+    append_number(bytes, kinds.len() as u64)?;
+    for kind in kinds {
+        append_kind(bytes, *kind)?;
+    }
+    Ok(())
+}
+
+fn append_kind(bytes: &mut Vec<u8>, kind: PoolKind) -> Result<(), AllocError>
+    ensures { OnOk result (bytes.new.items ≡ bytes.old.items ++ kind_bytes kind) }
+{
+    match kind {
+        PoolKind::Mixed => bytes.push(0)?,
+        PoolKind::Homogeneous {
+            source,
+            cell,
+            indexed,
+        } => {
+            bytes.push(1)?;
+            append_number(bytes, u64::from(source))?;
+            append_number(bytes, u64::from(cell / 4))?;
+            bytes.push(u8::from(indexed))?;
+        }
+    }
+    Ok(())
 }
 
 // The functions of an image: how many, and then each.
