@@ -1,0 +1,2 @@
+pub mod PageAsBox
+pub mod WordsWritten
