@@ -124,7 +124,8 @@ fn put_line<E: Sink>(err: &mut E, pieces: &[&str]) -> Result<(), Failed>
 #[cfg(test)]
 mod tests {
     use super::*;
-    use crate::status::{FuncId, LexKind, LimitKind, SyntaxKind, TypeRule, UsageKind};
+    use crate::status::{FuncId, LexKind, LimitKind, SyntaxKind, UsageKind};
+    use c_types::TypeRule;
     use pcc_outside::MemSink;
     use run_theory::{TrapKind, UbKind};
     use std::test::Fail;

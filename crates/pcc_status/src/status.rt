@@ -3,6 +3,7 @@
 ghost use Rattle.std.specs.Prelude.{◌≡◌};
 ghost use Rattle.pcc_status.specs.Status.{exit_status_of};
 
+use c_types::TypeRule;
 use run_theory::{Pos, TrapKind, UbKind};
 
 /// What a command comes to.
@@ -117,71 +118,6 @@ impl SyntaxKind {
         match self {
             SyntaxKind::At => "syntax",
             SyntaxKind::TooDeep => "nesting",
-        }
-    }
-}
-
-/// A type rule, as it is printed.
-#[derive(Clone, Copy, Debug, PartialEq, Eq)]
-pub enum TypeRule {
-    T01,
-    T02,
-    T03,
-    T04,
-    T05,
-    T06,
-    T07,
-    T08,
-    T09,
-    T10,
-    T11,
-    T12,
-    T13,
-    T14,
-    T15,
-    T16,
-    T17,
-    T18,
-    T19,
-    T20,
-    T21,
-    T22,
-    T23,
-    T24,
-}
-
-impl TypeRule {
-    ghost use Rattle.pcc_status.specs.Texts.{rule_name};
-
-    /// The rule as it is printed, from `T01` to `T24`.
-    pub fn name(self) -> &'static str
-        ensures { result.now ≡ rule_name self }
-    {
-        match self {
-            TypeRule::T01 => "T01",
-            TypeRule::T02 => "T02",
-            TypeRule::T03 => "T03",
-            TypeRule::T04 => "T04",
-            TypeRule::T05 => "T05",
-            TypeRule::T06 => "T06",
-            TypeRule::T07 => "T07",
-            TypeRule::T08 => "T08",
-            TypeRule::T09 => "T09",
-            TypeRule::T10 => "T10",
-            TypeRule::T11 => "T11",
-            TypeRule::T12 => "T12",
-            TypeRule::T13 => "T13",
-            TypeRule::T14 => "T14",
-            TypeRule::T15 => "T15",
-            TypeRule::T16 => "T16",
-            TypeRule::T17 => "T17",
-            TypeRule::T18 => "T18",
-            TypeRule::T19 => "T19",
-            TypeRule::T20 => "T20",
-            TypeRule::T21 => "T21",
-            TypeRule::T22 => "T22",
-            TypeRule::T23 => "T23",
-            TypeRule::T24 => "T24",
         }
     }
 }
