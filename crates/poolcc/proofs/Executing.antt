@@ -1,5 +1,5 @@
 -- From the answer of an image's run to the answer of the command.
-use Rattle.std.proofs.Common.{ℕ, ◌≤◌, List, length, Option, ◌⊎◌, inr}
+use Rattle.std.proofs.Common.{ℕ, ◌≤◌, List, length, Option, inr}
 use Rattle.pool_isa.specs.Machine.{initial}
 use Rattle.image_form.specs.declared.image.MachineLimits.{MachineLimits}
 use Rattle.image_form.specs.Form.{Form}

@@ -1,3 +1,5 @@
-pub mod MachineRuns
-pub mod Pipeline
+pub mod Completing
 pub mod Executing
+pub mod Numerals
+pub mod Pipeline
+pub mod Sizes

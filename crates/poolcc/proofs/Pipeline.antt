@@ -1,9 +1,9 @@
 -- The instructions of a program follow the program, through its three-address code.
-use Rattle.std.proofs.Common.{◌≡◌, ℕ, ◌+◌, ◌*◌, ◌≤◌, List, refl, sym, subst, arith}
+use Rattle.std.proofs.Common.{◌≡◌, ℕ, List, refl, sym, subst, arith}
 use Rattle.std.specs.List.{AllByRecursion}
 use Rattle.run_theory.specs.Runs.{Simulates, Follows}
 use Rattle.run_theory.proofs.Simulations.{compose, follows}
-use Rattle.c_ast.specs.Trees.{ProgramTree}
+use Rattle.c_ast.specs.Typed.{TypedProgram}
 use Rattle.c_ast.specs.Reference.{reference}
 use Rattle.tac_ir.specs.declared.Tac.{Tac}
 use Rattle.tac_ir.specs.Meaning.{tac_run}
@@ -17,14 +17,14 @@ use Rattle.stack_code.proofs.Simulation.{emission_follows}
 use Rattle.image_form.specs.declared.image.MachineLimits.{MachineLimits}
 use Rattle.image_form.specs.Form.{Form, IsImage}
 use Rattle.poolcc.specs.Compiled.{IsImageFor, image_with}
-use Rattle.poolcc.proofs.MachineRuns.{mach_is_run}
+use Rattle.pool_isa.proofs.MachineRuns.{mach_is_run}
 
 -- each program step is at most 32 of the machine, and two more lead to the first
-pub simulated : (program : ProgramTree) (tac : Tac) (input : List ℕ) → Code program tac → FitsFrame tac → Simulates (reference program input) (mach (functions_of tac) input) 32 2
+pub simulated : (program : TypedProgram) (tac : Tac) (input : List ℕ) → Code program tac → FitsFrame tac → Simulates (reference program input) (mach (functions_of tac) input) 32 2
 simulated program tac input code fits =
     compose (reference program input) (tac_run tac input) (mach (functions_of tac) input) 4 0 8 2 32 2 (lowering.follows program tac input code) (emission_follows tac input fits) (λ n j le. omega arith)
 
-pub followed : (program : ProgramTree) (tac : Tac) (input : List ℕ) → Code program tac → FitsFrame tac → Follows (reference program input) (mach (functions_of tac) input)
+pub followed : (program : TypedProgram) (tac : Tac) (input : List ℕ) → Code program tac → FitsFrame tac → Follows (reference program input) (mach (functions_of tac) input)
 followed program tac input code fits =
     follows (reference program input) (mach (functions_of tac) input) 32 2 (simulated program tac input code fits) (mach_is_run (functions_of tac) input) (λ n. omega arith)
 
@@ -35,14 +35,14 @@ image_is tac limits slabs index functions = record {
   slabs = slabs;
   index = index;
   globals = omega arith;
-  contents = refl;
-  kinds = refl;
+  contents = (omega arith, tt, tt);
+  kinds = (omega arith, tt);
   functions = omega arith;
   each_function = functions;
   start = refl;
 }
 
-pub image_for : (program : ProgramTree) (tac : Tac) (limits : MachineLimits) (functions : List Function) (form : Form) → functions ≡ functions_of tac → form ≡ image_with functions limits → Code program tac → FitsFrame tac → AllByRecursion (IsFunction 0 2) functions → IsWithin 1 1048576 limits.slabs → IsWithin 1 4294967295 limits.index → IsImageFor program limits form
+pub image_for : (program : TypedProgram) (tac : Tac) (limits : MachineLimits) (functions : List Function) (form : Form) → functions ≡ functions_of tac → form ≡ image_with functions limits → Code program tac → FitsFrame tac → AllByRecursion (IsFunction 0 2) functions → IsWithin 1 1048576 limits.slabs → IsWithin 1 4294967295 limits.index → IsImageFor program limits form
 image_for program tac limits functions form are is code fits ranges slabs index =
     let whole : form ≡ image_with (functions_of tac) limits = cc in
     subst (IsImageFor program limits) (sym whole) (record {

@@ -1,12 +1,24 @@
 -- When an image is a program's.
 use Rattle.std.specs.Prelude.{◌≡◌, ℕ, List, []}
 use Rattle.run_theory.specs.Runs.{Run, Follows}
-use Rattle.c_ast.specs.Trees.{ProgramTree}
+use Rattle.c_ast.specs.Syntax.{ProgramTree}
+use Rattle.c_ast.specs.Typed.{TypedProgram}
 use Rattle.c_ast.specs.Reference.{reference}
 use Rattle.c_reader.specs.Grammar.{Reads}
+use Rattle.c_types.specs.Typing.{violations, typed_of}
 use Rattle.pool_isa.specs.Machine.{Function, mach}
 use Rattle.image_form.specs.declared.image.MachineLimits.{MachineLimits}
 use Rattle.image_form.specs.Form.{Form, IsImage, ImageOf}
+
+-- The text reads as the program, and as no other.
+pub record ReadsAs (text : List ℕ) (program : ProgramTree) : Type 0 where
+  pub reads : Reads text program
+  pub only : (other : ProgramTree) → Reads text other → other ≡ program
+
+-- The text is accepted: it reads as the program, in which no type rule is violated.
+pub record IsAccepted (text : List ℕ) (program : ProgramTree) : Type 0 where
+  pub reads : ReadsAs text program
+  pub typed : violations program ≡ []
 
 -- The run of an image on an input, within limits: no instruction that is there takes memory of the heap, so that no
 -- limit is reached yet.
@@ -15,7 +27,7 @@ machine_run form limits input = mach form.functions input
 
 -- The image is the program's: its fields are in their ranges, it holds the limits, and it follows the program on
 -- every input and within all limits.
-pub record IsImageFor (program : ProgramTree) (limits : MachineLimits) (form : Form) : Type 0 where
+pub record IsImageFor (program : TypedProgram) (limits : MachineLimits) (form : Form) : Type 0 where
   pub ranges : IsImage form
   pub holds : form.limits ≡ limits
   pub follows : (input : List ℕ) (within : MachineLimits) → Follows (reference program input) (machine_run form within input)
@@ -24,10 +36,10 @@ pub record IsImageFor (program : ProgramTree) (limits : MachineLimits) (form : F
 abbrev pub image_with : List Function → MachineLimits → Form
 image_with functions limits = record { version = 1; limits = limits; globals = 0; contents = []; kinds = []; functions = functions }
 
--- The text reads as a program, and the image, which has been encoded and decoded, is that program's.
+-- The text is accepted, and the image, which has been encoded and decoded, is its program's.
 pub record Compiles (text : List ℕ) (limits : MachineLimits) (form : Form) : Type 0 where
   pub program : ProgramTree
-  pub reads : Reads text program
+  pub accepted : IsAccepted text program
   pub encoded : List ℕ
   pub decoded : ImageOf encoded form
-  pub image : IsImageFor program limits form
+  pub image : IsImageFor (typed_of program) limits form

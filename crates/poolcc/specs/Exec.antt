@@ -60,14 +60,10 @@ IsUsage status = ⊥
 abbrev pub default_limits : MachineLimits
 default_limits = record { slabs = 65536; index = 4294967295 }
 
--- how many steps a run has where no limit is given
-abbrev pub default_steps : ℕ
-default_steps = 1000000000
-
 -- What a command line comes to, before its line on the error output, by what is told of each file, of the input and of
 -- the output.
 pub record Answers (line : Line) (contents : List ℕ → Told) (left written left' written' : Option (List ℕ)) (answer : Status) : Type 0 where
   pub no_command : line ≡ NoCommand → (answer ≡ S.Usage U.Command) × (left' ≡ left) × (written' ≡ written)
   pub no_line : line ≡ NoLine → (answer ≡ S.Usage U.Words) × (left' ≡ left) × (written' ≡ written)
-  pub exec : (file text input base : List ℕ) → line ≡ Exec file → contents file ≡ Holds text → left ≡ Some input → written ≡ Some base → ExecGives text default_limits default_steps input base answer left' written'
-  pub missing : (file : List ℕ) → line ≡ Exec file → contents file ≡ Missing → ((answer ≡ S.ReadFault) ⊎ (answer ≡ S.OutOfMemory)) × (left' ≡ left) × (written' ≡ written)
+  pub exec : (file : List ℕ) (steps : ℕ) (text input base : List ℕ) → line ≡ Exec file steps → contents file ≡ Holds text → left ≡ Some input → written ≡ Some base → ExecGives text default_limits steps input base answer left' written'
+  pub missing : (file : List ℕ) (steps : ℕ) → line ≡ Exec file steps → contents file ≡ Missing → ((answer ≡ S.ReadFault) ⊎ (answer ≡ S.OutOfMemory)) × (left' ≡ left) × (written' ≡ written)

@@ -1,5 +1,6 @@
 pub mod Command
 pub mod Compiled
+pub mod Complete
 pub mod Exec
 pub mod Refused
 pub mod Seen

@@ -10,7 +10,7 @@ use Rattle.poolcc.specs.Command.{Line, NoCommand, NoLine, Exec}
 abbrev pub line_seen : code.Line → Line
 line_seen L.NoCommand = NoCommand
 line_seen L.NoLine = NoLine
-line_seen (L.Exec file) = Exec file.now
+line_seen (L.Exec file steps) = Exec file.now steps
 
 -- the answer of the machine's run as the answer of the command
 abbrev pub status_seen : RunEnd → Status

@@ -1,24 +1,28 @@
 // From the tree of a program to its image.
 
 ghost use Rattle.std.specs.Prelude.{◌≡◌, ◌≤◌, ◌^◌, map, IfOk};
-ghost use Rattle.c_ast.specs.Trees.{program_tree, program_size};
+ghost use Rattle.c_ast.specs.Typed.{typed_program, program_size};
 ghost use Rattle.pool_isa.specs.Ranges.{IsWithin};
 ghost use Rattle.stack_code.specs.Units.{unit_functions};
 ghost use Rattle.image_form.specs.Form.{form_of};
 ghost use Rattle.poolcc.specs.Compiled.{IsImageFor, image_with};
 
-use c_ast::Program;
+use c_ast::TypedProgram;
 use image_form::{Function, Globals, Image, MachineLimits};
 use stack_code::{Units, emit};
 use std::alloc::{AllocError, Global};
 use tac_build::lower;
 
 /// The image of a program, within limits. The program is of a text within the source limit.
-pub fn compile(alloc: Global, program: &Program, limits: MachineLimits) -> Result<Image, AllocError>
-    requires size { program_size (program_tree program.now) ≤ 2 ^ 27 }
+pub fn compile(
+    alloc: Global,
+    program: &TypedProgram,
+    limits: MachineLimits,
+) -> Result<Image, AllocError>
+    requires size { program_size (typed_program program.now) ≤ 2 ^ 22 }
     requires slabs { IsWithin 1 1048576 limits.slabs }
     requires index { IsWithin 1 4294967295 limits.index }
-    ensures { IfOk result (λ image. IsImageFor (program_tree program.now) limits (form_of image)) }
+    ensures { IfOk result (λ image. IsImageFor (typed_program program.now) limits (form_of image)) }
 {
     let tac = lower(alloc, program)?;
     let units = emit(alloc, &tac)?;

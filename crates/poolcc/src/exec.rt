@@ -5,7 +5,7 @@ ghost use Rattle.pcc_outside.specs.Outside.{Rose, Missing, Holds};
 ghost use Rattle.pool_isa.specs.Machine.{initial};
 ghost use Rattle.image_form.specs.Form.{form_of};
 ghost use Rattle.machine.specs.Run.{RunGives};
-ghost use Rattle.poolcc.specs.Exec.{ExecGives, IsUsage, default_limits, default_steps};
+ghost use Rattle.poolcc.specs.Exec.{ExecGives, IsUsage, default_limits, source_limit};
 ghost use Rattle.poolcc.specs.Seen.{status_seen};
 
 use crate::text::{Stop, image_of};
@@ -18,36 +18,34 @@ use std::alloc::Global;
 /// The most bytes of a source.
 const SOURCE_LIMIT: u64 = 1_048_576;
 
-/// The steps of a run where no limit is given.
-const STEPS: u64 = 1_000_000_000;
-
 /// The limits of an image where none are given.
 const LIMITS: MachineLimits = MachineLimits {
     slabs: 65_536,
     index: u32::MAX,
 };
 
-/// Compiles a file, and runs its image on the input.
+/// Compiles a file, and runs its image on the input for at most so many steps.
 pub fn exec<F: Files, I: Source, O: Sink>(
     alloc: Global,
     file: &str,
+    steps: u64,
     files: &mut F,
     input: &mut I,
     out: &mut O,
 ) -> Status
     ensures gives { (text left base : List ℕ) → F.contents files.old file.now ≡ Holds text → I.left input.old ≡ Some left → O.written out.old ≡ Some base
-        → ExecGives text default_limits default_steps left base result (I.left input.new) (O.written out.new) }
+        → ExecGives text default_limits steps left base result (I.left input.new) (O.written out.new) }
     ensures missing { F.contents files.old file.now ≡ Missing → ((result ≡ Status.ReadFault) ⊎ (result ≡ Status.OutOfMemory)) × (I.left input.new ≡ I.left input.old) × (O.written out.new ≡ O.written out.old) }
     ensures read_cause { result ≡ Status.ReadFault → Rose (F.faults files.old file.now) (F.faults files.new file.now) ⊎ Rose (I.faults input.old) (I.faults input.new) }
     ensures write_cause { result ≡ Status.WriteFault → Rose (O.faults out.old) (O.faults out.new) }
-    ensures long_cause { result ≡ Status.SourceTooLong → 1048576 < F.reach files.new file.now }
+    ensures long_cause { result ≡ Status.SourceTooLong → source_limit < F.reach files.new file.now }
     ensures well_formed { IsUsage result → ⊥ }
     ensures files_counted { (name : List ℕ) → F.faults files.old name ≤ F.faults files.new name }
     ensures reads_counted { I.faults input.old ≤ I.faults input.new }
     ensures writes_counted { O.faults out.old ≤ O.faults out.new }
 {
     match read_all(alloc, files, file, SOURCE_LIMIT) {
-        Ok(text) => run_text(alloc, &text, input, out),
+        Ok(text) => run_text(alloc, &text, steps, input, out),
         Err(ReadErr::Failed) => Status::ReadFault,
         Err(ReadErr::TooLong) => Status::SourceTooLong,
         Err(ReadErr::OutOfMemory) => Status::OutOfMemory,
@@ -55,10 +53,16 @@ pub fn exec<F: Files, I: Source, O: Sink>(
 }
 
 // Compiles a text, and runs its image.
-fn run_text<I: Source, O: Sink>(alloc: Global, text: &[u8], input: &mut I, out: &mut O) -> Status
-    requires { length text.now ≤ 1048576 }
+fn run_text<I: Source, O: Sink>(
+    alloc: Global,
+    text: &[u8],
+    steps: u64,
+    input: &mut I,
+    out: &mut O,
+) -> Status
+    requires { length text.now ≤ source_limit }
     ensures gives { (left base : List ℕ) → I.left input.old ≡ Some left → O.written out.old ≡ Some base
-        → ExecGives text.now default_limits default_steps left base result (I.left input.new) (O.written out.new) }
+        → ExecGives text.now default_limits steps left base result (I.left input.new) (O.written out.new) }
     ensures read_cause { result ≡ Status.ReadFault → Rose (I.faults input.old) (I.faults input.new) }
     ensures write_cause { result ≡ Status.WriteFault → Rose (O.faults out.old) (O.faults out.new) }
     ensures short { result ≢ Status.SourceTooLong }
@@ -67,16 +71,22 @@ fn run_text<I: Source, O: Sink>(alloc: Global, text: &[u8], input: &mut I, out: 
     ensures writes_counted { O.faults out.old ≤ O.faults out.new }
 {
     match image_of(alloc, text, LIMITS) {
-        Ok(image) => status_of(run_image(alloc, &image, input, out)),
+        Ok(image) => status_of(run_image(alloc, &image, steps, input, out)),
         Err(Stop::Refused(refusal)) => Status::Refused(refusal),
         Err(Stop::OutOfMemory) => Status::OutOfMemory,
     }
 }
 
 // Runs an image from its first step.
-fn run_image<I: Source, O: Sink>(alloc: Global, image: &Image, input: &mut I, out: &mut O) -> RunEnd
+fn run_image<I: Source, O: Sink>(
+    alloc: Global,
+    image: &Image,
+    steps: u64,
+    input: &mut I,
+    out: &mut O,
+) -> RunEnd
     ensures gives { (left base : List ℕ) → I.left input.old ≡ Some left → O.written out.old ≡ Some base
-        → let functions = (form_of image.now).functions in RunGives functions (initial functions left) base default_steps result (I.left input.new) (O.written out.new) }
+        → let functions = (form_of image.now).functions in RunGives functions (initial functions left) base steps result (I.left input.new) (O.written out.new) }
     ensures read_cause { result ≡ RunEnd.ReadFault → Rose (I.faults input.old) (I.faults input.new) }
     ensures write_cause { result ≡ RunEnd.WriteFault → Rose (O.faults out.old) (O.faults out.new) }
     ensures reads_counted { I.faults input.old ≤ I.faults input.new }
@@ -85,7 +95,7 @@ fn run_image<I: Source, O: Sink>(alloc: Global, image: &Image, input: &mut I, ou
     let Ok(machine) = Machine::load(alloc, image, LIMITS) else {
         return RunEnd::OutOfMemory;
     };
-    machine.run(input, out, STEPS)
+    machine.run(input, out, steps)
 }
 
 // The answer of a run as the answer of the command.

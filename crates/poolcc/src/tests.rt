@@ -2,7 +2,7 @@
 
 use crate::poolcc;
 use pcc_outside::{MemFiles, MemSink, MemSource};
-use pcc_status::{LexKind, Refusal, Status, SyntaxKind, UsageKind};
+use pcc_status::{LexKind, Refusal, Status, SyntaxKind, TypeRule, UsageKind};
 use run_theory::Pos;
 use std::alloc::{AllocError, Global};
 use std::collections::BTreeMap;
@@ -85,7 +85,7 @@ fn exec(alloc: Global, text: &str, input: &[u8], failing: Failing) -> Result<Did
 #[test]
 fn programs_run(rt: HostRuntime) -> Result<(), Fail> {
     let alloc = rt.alloc();
-    let rows: [(&str, &[u8], &[u8], u8, usize); 9] = [
+    let rows: [(&str, &[u8], &[u8], u8, usize); 26] = [
         ("int main(void){return 0;}", b"", b"", 0, 0),
         ("int main(void) { return 263; }", b"", b"", 7, 0),
         (
@@ -125,6 +125,95 @@ fn programs_run(rt: HostRuntime) -> Result<(), Fail> {
             65,
             0,
         ),
+        (
+            "int main(void) { int c; while ((c = getchar()) != EOF) putchar(c); return 7; }",
+            b"ab\n",
+            b"ab\n",
+            7,
+            0,
+        ),
+        (
+            "int main(void) { int n = 0; while (getchar() != EOF) n = n + 1; putchar('0' + n % 10); return n; }",
+            b"twelve bytes",
+            b"2",
+            12,
+            0,
+        ),
+        ("int main(void) { return -249; }", b"", b"", 7, 0),
+        ("int main(void) { return 7 / -2 + 10; }", b"", b"", 7, 0),
+        ("int main(void) { return -7 % 3 + 10; }", b"", b"", 9, 0),
+        (
+            "int main(void) { return 2 + 3 * 4 == 14 && !0; }",
+            b"",
+            b"",
+            1,
+            0,
+        ),
+        ("int main(void) { return 100 - 20 - 3; }", b"", b"", 77, 0),
+        ("int main(void) { return 100 / 5 / 2; }", b"", b"", 10, 0),
+        (
+            "int main(void) { int a; int b; a = b = 5; return a * 10 + b; }",
+            b"",
+            b"",
+            55,
+            0,
+        ),
+        (
+            "int main(void) { int x = 1; { int x = 2; x = 3; } return x; }",
+            b"",
+            b"",
+            1,
+            0,
+        ),
+        (
+            "int main(void) { 0 && putchar('a'); 1 || putchar('b'); 1 && putchar('c'); 0 || putchar('d'); return 0; }",
+            b"",
+            b"cd",
+            0,
+            0,
+        ),
+        (
+            "int main(void) { if (1) if (0) putchar('a'); else putchar('b'); return 0; }",
+            b"",
+            b"b",
+            0,
+            0,
+        ),
+        (
+            "int main(void) { return (-1 < 1) + 2 * (3 >= 3) + 4 * (2 > 2) + 8 * (1 <= 0) + 16 * (5 != 4) + 32 * (5 == 5); }",
+            b"",
+            b"",
+            51,
+            0,
+        ),
+        (
+            "int main(void) { int i = 0; while (i < 3) { int j = 0; while (j < 2) { putchar('0' + i * 2 + j); j = j + 1; } i = i + 1; } return i; }",
+            b"",
+            b"012345",
+            3,
+            0,
+        ),
+        (
+            "int main(void) { int x = 1; return (x = 40) + x + 2; }",
+            b"",
+            b"",
+            82,
+            0,
+        ),
+        (
+            "int main(void) { return (-2147483647 - 1) / 16777216; }",
+            b"",
+            b"",
+            128,
+            0,
+        ),
+        (
+            "int main(void) { int x; if (getchar() == 'a') x = 1; else { x = 2; } while (x) { return x; } return 9; }",
+            b"b",
+            b"",
+            2,
+            0,
+        ),
     ];
     for (text, input, out, status, left) in rows {
         let did = exec(alloc, text, input, NONE)?;
@@ -141,6 +230,7 @@ fn refusals_name_their_place(rt: HostRuntime) -> Result<(), Fail> {
     let alloc = rt.alloc();
     let lex = |kind, line, column| Refusal::Lex(kind, Pos { line, column });
     let at = |line, column| Refusal::Syntax(SyntaxKind::At, Pos { line, column });
+    let rule = |kind, line, column| Refusal::TypeRule(kind, Pos { line, column });
     let rows = [
         ("", at(1, 1), "poolcc: refused syntax at 1:1\n"),
         (
@@ -179,9 +269,44 @@ fn refusals_name_their_place(rt: HostRuntime) -> Result<(), Fail> {
             "poolcc: refused syntax at 1:30\n",
         ),
         (
-            "int main(void) { x; }",
-            at(1, 18),
-            "poolcc: refused syntax at 1:18\n",
+            "int main(void) { return x; }",
+            rule(TypeRule::T03, 1, 25),
+            "poolcc: refused T03 at 1:25\n",
+        ),
+        (
+            "int main(void) { int x; int x; }",
+            rule(TypeRule::T04, 1, 29),
+            "poolcc: refused T04 at 1:29\n",
+        ),
+        (
+            "int main(void) { int x; { int x; x = y; } }",
+            rule(TypeRule::T03, 1, 38),
+            "poolcc: refused T03 at 1:38\n",
+        ),
+        (
+            "int main(void) { return x; @ }",
+            lex(LexKind::BadByte, 1, 28),
+            "poolcc: refused BadByte at 1:28\n",
+        ),
+        (
+            "int main(void) { x; return ; }",
+            at(1, 28),
+            "poolcc: refused syntax at 1:28\n",
+        ),
+        (
+            "int main(void) { if (1) int x; }",
+            at(1, 25),
+            "poolcc: refused syntax at 1:25\n",
+        ),
+        (
+            "int main(void) { 5 = 1; }",
+            at(1, 20),
+            "poolcc: refused syntax at 1:20\n",
+        ),
+        (
+            "int main(void) { int getchar; }",
+            at(1, 22),
+            "poolcc: refused syntax at 1:22\n",
         ),
     ];
     for (text, refusal, line) in rows {
@@ -233,6 +358,22 @@ fn faults_and_faulty_words_are_told(rt: HostRuntime) -> Result<(), Fail> {
         assert_eq!(rt; did.out.as_slice(), out.as_bytes(), "{err}");
         assert_eq!(rt; did.err.as_slice(), err.as_bytes(), "{err}");
     }
+    let copies = "int main(void) { int c; while ((c = getchar()) != EOF) putchar(c); return 7; }";
+    for call in 1..=4u64 {
+        let failing = Failing {
+            input: call,
+            ..NONE
+        };
+        let did = exec(alloc, copies, b"ab\n", failing)?;
+        assert_eq!(rt; did.status, Status::ReadFault, "{call}");
+        assert_eq!(rt; did.out.as_slice(), &b"ab\n"[..call as usize - 1], "{call}");
+    }
+    for call in 1..=3u64 {
+        let failing = Failing { out: call, ..NONE };
+        let did = exec(alloc, copies, b"ab\n", failing)?;
+        assert_eq!(rt; did.status, Status::WriteFault, "{call}");
+        assert_eq!(rt; did.out.as_slice(), &b"ab\n"[..call as usize - 1], "{call}");
+    }
     let did = exec(alloc, "", b"", Failing { err: 1, ..NONE })?;
     assert_eq!(rt; did.status, Status::WriteFault);
     let usage =
@@ -271,15 +412,82 @@ fn faults_and_faulty_words_are_told(rt: HostRuntime) -> Result<(), Fail> {
 }
 
 #[test]
+fn steps_are_counted(rt: HostRuntime) -> Result<(), Fail> {
+    let alloc = rt.alloc();
+    let forever = "int main(void) { while (1) ; }";
+    let zero = "int main(void) { return 0; }";
+    let words = Status::Usage(UsageKind::Words);
+    // `return 0;` takes 8 steps: the call of main, three to put 0 into its register, three to return it, and the end.
+    let rows: [(&str, &[&str], Status); 16] = [
+        (forever, &["--steps", "1000"], Status::StepsSpent),
+        (zero, &["--steps", "8"], Status::Program(0)),
+        (zero, &["--steps", "7"], Status::StepsSpent),
+        (zero, &["--steps", "+8"], Status::Program(0)),
+        (zero, &["--steps", "008"], Status::Program(0)),
+        (zero, &["--steps", "1"], Status::StepsSpent),
+        (
+            zero,
+            &["--steps", "4611686018427387904"],
+            Status::Program(0),
+        ),
+        (zero, &["--steps", "4611686018427387905"], words),
+        (zero, &["--steps", "18446744073709551624"], words),
+        (zero, &["--steps", "0"], words),
+        (zero, &["--steps", "-8"], words),
+        (zero, &["--steps", ""], words),
+        (zero, &["--steps", "8x"], words),
+        (zero, &["--steps"], words),
+        (zero, &["--step", "8"], words),
+        (zero, &["--steps", "8", "--steps", "8"], words),
+    ];
+    for (text, options, status) in rows {
+        let mut line = Vec::new(alloc);
+        line.extend_from_slice(&["poolcc", "exec", "a.c"])?;
+        line.extend_from_slice(options)?;
+        let did = command(alloc, &line, text.as_bytes(), b"", NONE)?;
+        assert_eq!(rt; did.status, status);
+        assert_eq!(rt; did.out.len(), 0);
+    }
+    Ok(())
+}
+
+// The behaviour is undefined: any answer of a run will do.
+#[test]
+fn undefined_programs_end_safely(rt: HostRuntime) -> Result<(), Fail> {
+    let alloc = rt.alloc();
+    let texts = [
+        "int main(void) { return 1 / 0; }",
+        "int main(void) { return 1 % 0; }",
+        "int main(void) { return 2147483647 + 1; }",
+        "int main(void) { return (-2147483647-1) % -1; }",
+        "int main(void) { return (-2147483647-1) / -1; }",
+        "int main(void) { return -(-2147483647-1); }",
+        "int main(void) { int x; return x + 1; }",
+    ];
+    for text in texts {
+        let did = exec(alloc, text, b"", NONE)?;
+        assert!(rt;
+            matches!(did.status, Status::Program(_) | Status::Trapped(_)),
+            "{text}"
+        );
+    }
+    Ok(())
+}
+
+#[test]
 fn sources_at_their_limit_run(rt: HostRuntime) -> Result<(), Fail> {
     let alloc = rt.alloc();
     let mut text = String::from_str(alloc, "int main(void) {")?;
-    for _ in 0..40_000u32 {
-        text.push_str("'a'; 7;\n(0);;;\n")?;
+    text.push_str("int x = 0; int n = 0;\n")?;
+    for _ in 0..20_000u32 {
+        text.push_str("x = x + 1; if (x > 9) { x = 0; n = n + 1; }\n")?;
     }
-    text.push_str("putchar('z'); return 9; }")?;
+    text.push_str("putchar('z'); return n % 7; }")?;
+    for _ in text.len()..1_048_576 {
+        text.push(' ')?;
+    }
     let did = exec(alloc, text.as_str(), b"", NONE)?;
-    assert_eq!(rt; did.status, Status::Program(9));
+    assert_eq!(rt; did.status, Status::Program(5));
     assert_eq!(rt; did.out.as_slice(), b"z".as_slice());
     let long = vec![in alloc; b' '; 1_048_577]?;
     let did = command(alloc, &["poolcc", "exec", "a.c"], &long, b"", NONE)?;

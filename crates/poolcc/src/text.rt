@@ -1,18 +1,23 @@
 // From a text to its image.
 
-ghost use Rattle.std.specs.Prelude.{◌≡◌, ◌≤◌, ℕ, List, length, IfOk, IfErr};
-ghost use Rattle.c_ast.specs.Trees.{program_tree};
-ghost use Rattle.c_lexer.specs.Tokens.{Divides, lexemes_of};
-ghost use Rattle.c_reader.specs.Grammar.{Parses, Reads};
+ghost use Rattle.std.specs.Prelude.{◌≡◌, ◌≤◌, ◌^◌, ℕ, List, length, IfOk, IfErr};
+ghost use Rattle.run_theory.specs.Places.{first_place};
+ghost use Rattle.c_ast.specs.Syntax.{ProgramTree, program_tree};
+ghost use Rattle.c_ast.specs.Typed.{typed_program, program_size};
+ghost use Rattle.c_lexer.specs.Leaves.{Leaf, leaves_of};
+ghost use Rattle.c_lexer.specs.Tokens.{Divides};
+ghost use Rattle.c_types.specs.Typing.{typed_of};
 ghost use Rattle.pool_isa.specs.Ranges.{IsWithin};
 ghost use Rattle.image_form.specs.Form.{form_of, IsImage, ImageOf};
-ghost use Rattle.poolcc.specs.Compiled.{Compiles};
+ghost use Rattle.poolcc.specs.Compiled.{ReadsAs, IsAccepted, Compiles};
+ghost use Rattle.poolcc.specs.Exec.{source_limit};
 ghost use Rattle.poolcc.specs.Refused.{IsStop};
 
 use crate::compile::compile;
-use c_ast::Program;
+use c_ast::{Program, TypedProgram};
 use c_lexer::{LexErr, Token, tokens};
 use c_reader::{SyntaxErr, read};
+use c_types::{TypeErr, check};
 use image_form::{Image, ImageErr, MachineLimits, from_bytes, to_bytes};
 use pcc_status::{LexKind, Refusal, SyntaxKind};
 use std::alloc::Global;
@@ -26,7 +31,9 @@ pub enum Stop {
 
 // The tokens of a text.
 fn divide(alloc: Global, text: &[u8]) -> Result<Vec<Token>, Stop>
-    ensures found { IfOk result (λ v. Divides text.now (lexemes_of v.items)) }
+    requires { length text.now ≤ source_limit }
+    ensures found { IfOk result (λ v. Divides first_place text.now (leaves_of v.items)) }
+    ensures only { IfOk result (λ v. (leaves : List Leaf) → Divides first_place text.now leaves → leaves_of v.items ≡ leaves) }
     ensures stop { IfErr result (IsStop text.now) }
 {
     let (kind, place) = match tokens(alloc, text) {
@@ -41,9 +48,10 @@ fn divide(alloc: Global, text: &[u8]) -> Result<Vec<Token>, Stop>
     Err(Stop::Refused(Refusal::Lex(kind, place)))
 }
 
-/// The program that a text reads as.
+/// The program that a text within the source limit reads as.
 pub fn parse(alloc: Global, text: &[u8]) -> Result<Program, Stop>
-    ensures found { IfOk result (λ program. Reads text.now (program_tree program)) }
+    requires { length text.now ≤ source_limit }
+    ensures found { IfOk result (λ program. ReadsAs text.now (program_tree program)) }
     ensures stop { IfErr result (IsStop text.now) }
 {
     let tokens = match divide(alloc, text) {
@@ -57,6 +65,24 @@ pub fn parse(alloc: Global, text: &[u8]) -> Result<Program, Stop>
             Err(Stop::Refused(Refusal::Syntax(SyntaxKind::TooDeep, place)))
         }
         Err(SyntaxErr::OutOfMemory) => Err(Stop::OutOfMemory),
+    }
+}
+
+/// The typed tree of an accepted text's program.
+pub fn accept(alloc: Global, text: &[u8]) -> Result<TypedProgram, Stop>
+    requires { length text.now ≤ source_limit }
+    ensures found { IfOk result (λ typed. (program : ProgramTree) × IsAccepted text.now program × (typed_program typed ≡ typed_of program)) }
+    ensures size { IfOk result (λ typed. program_size (typed_program typed) ≤ 2 ^ 22) }
+    ensures stop { IfErr result (IsStop text.now) }
+{
+    let program = match parse(alloc, text) {
+        Ok(program) => program,
+        Err(stop) => return Err(stop),
+    };
+    match check(alloc, program) {
+        Ok(typed) => Ok(typed),
+        Err(TypeErr::Rule { kind, place }) => Err(Stop::Refused(Refusal::TypeRule(kind, place))),
+        Err(TypeErr::OutOfMemory) => Err(Stop::OutOfMemory),
     }
 }
 
@@ -78,13 +104,13 @@ fn round_trip(alloc: Global, image: &Image) -> Result<Image, Stop>
 
 /// The image of a text within the source limit. It has been encoded and decoded.
 pub fn image_of(alloc: Global, text: &[u8], limits: MachineLimits) -> Result<Image, Stop>
-    requires short { length text.now ≤ 1048576 }
+    requires short { length text.now ≤ source_limit }
     requires slabs { IsWithin 1 1048576 limits.slabs }
     requires index { IsWithin 1 4294967295 limits.index }
     ensures compiled { IfOk result (λ image. Compiles text.now limits (form_of image)) }
     ensures stop { IfErr result (IsStop text.now) }
 {
-    let program = match parse(alloc, text) {
+    let program = match accept(alloc, text) {
         Ok(program) => program,
         Err(stop) => return Err(stop),
     };

@@ -1,10 +1,18 @@
 // The top call.
 
-ghost use Rattle.std.specs.Prelude.{◌≡◌, ℕ, ◌<◌, ◌≤◌, ◌⊎◌, List, map, string_bytes};
+ghost use Rattle.std.specs.Prelude.{◌≡◌, ℕ, ◌<◌, ◌≤◌, ◌⊎◌, List, Some, length, map, string_bytes};
 ghost use Rattle.pcc_outside.specs.Outside.{Rose};
 ghost use Rattle.pcc_status.specs.Said.{Said};
 ghost use Rattle.poolcc.specs.Command.{line_of, NoCommand, NoLine, Exec};
-ghost use Rattle.poolcc.specs.Exec.{Answers};
+ghost use Rattle.run_theory.specs.Runs.{IsUndefined};
+ghost use Rattle.run_theory.specs.declared.ends.TrapKind.{TrapKind};
+ghost use Rattle.pcc_outside.specs.Outside.{Holds};
+ghost use Rattle.c_ast.specs.Syntax.{ProgramTree};
+ghost use Rattle.c_ast.specs.Reference.{reference};
+ghost use Rattle.c_types.specs.Typing.{typed_of};
+ghost use Rattle.poolcc.specs.Compiled.{IsAccepted};
+ghost use Rattle.poolcc.specs.Complete.{RunsUnlessMemory};
+ghost use Rattle.poolcc.specs.Exec.{Answers, source_limit, default_limits};
 
 use crate::command::{Line, read_line};
 use crate::exec::exec;
@@ -29,9 +37,18 @@ pub fn poolcc<F: Files, I: Source, O: Sink, E: Sink>(
     // The cause of each answer that the text and the input don't give.
     ensures command_cause { result ≡ Status.Usage UsageKind.Command → line_of (map string_bytes words.now) ≡ NoCommand }
     ensures words_cause { result ≡ Status.Usage UsageKind.Words → line_of (map string_bytes words.now) ≡ NoLine }
-    ensures read_cause { result ≡ Status.ReadFault → (file : List ℕ) × (line_of (map string_bytes words.now) ≡ Exec file) × (Rose (F.faults files.old file) (F.faults files.new file) ⊎ Rose (I.faults input.old) (I.faults input.new)) }
+    ensures read_cause { result ≡ Status.ReadFault → (file : List ℕ) × (steps : ℕ) × (line_of (map string_bytes words.now) ≡ Exec file steps) × (Rose (F.faults files.old file) (F.faults files.new file) ⊎ Rose (I.faults input.old) (I.faults input.new)) }
     ensures write_cause { result ≡ Status.WriteFault → Rose (O.faults out.old) (O.faults out.new) ⊎ Rose (E.faults err.old) (E.faults err.new) }
-    ensures long_cause { result ≡ Status.SourceTooLong → (file : List ℕ) × (line_of (map string_bytes words.now) ≡ Exec file) × (1048576 < F.reach files.new file) }
+    ensures long_cause { result ≡ Status.SourceTooLong → (file : List ℕ) × (steps : ℕ) × (line_of (map string_bytes words.now) ≡ Exec file steps) × (source_limit < F.reach files.new file) }
+    ensures trapped_cause { (kind : TrapKind) (file : List ℕ) (steps : ℕ) (text left base : List ℕ) → result ≡ Status.Trapped kind → line_of (map string_bytes words.now) ≡ Exec file steps
+        → F.contents files.old file ≡ Holds text → I.left input.old ≡ Some left → O.written out.old ≡ Some base
+        → (program : ProgramTree) × IsAccepted text program × (n : ℕ) × IsUndefined (reference (typed_of program) left n) }
+
+    // Where the text is accepted and nothing outside fails, the answer is what the machine gives, or memory ran out.
+    ensures complete { (file : List ℕ) (steps : ℕ) (text left base : List ℕ) (program : ProgramTree) → line_of (map string_bytes words.now) ≡ Exec file steps
+        → F.contents files.old file ≡ Holds text → length text ≤ source_limit → I.left input.old ≡ Some left → O.written out.old ≡ Some base
+        → (Rose (F.faults files.old file) (F.faults files.new file) → ⊥) → (Rose (I.faults input.old) (I.faults input.new) → ⊥) → (Rose (O.faults out.old) (O.faults out.new) → ⊥) → (Rose (E.faults err.old) (E.faults err.new) → ⊥)
+        → IsAccepted text program → RunsUnlessMemory text default_limits steps left base result (O.written out.new) }
 
     // Counts of faults never fall.
     ensures files_counted { (name : List ℕ) → F.faults files.old name ≤ F.faults files.new name }
@@ -54,9 +71,9 @@ fn command<F: Files, I: Source, O: Sink>(
     ensures answers { Answers (line_of (map string_bytes words.now)) (F.contents files.old) (I.left input.old) (O.written out.old) (I.left input.new) (O.written out.new) result }
     ensures command_cause { result ≡ Status.Usage UsageKind.Command → line_of (map string_bytes words.now) ≡ NoCommand }
     ensures words_cause { result ≡ Status.Usage UsageKind.Words → line_of (map string_bytes words.now) ≡ NoLine }
-    ensures read_cause { result ≡ Status.ReadFault → (file : List ℕ) × (line_of (map string_bytes words.now) ≡ Exec file) × (Rose (F.faults files.old file) (F.faults files.new file) ⊎ Rose (I.faults input.old) (I.faults input.new)) }
+    ensures read_cause { result ≡ Status.ReadFault → (file : List ℕ) × (steps : ℕ) × (line_of (map string_bytes words.now) ≡ Exec file steps) × (Rose (F.faults files.old file) (F.faults files.new file) ⊎ Rose (I.faults input.old) (I.faults input.new)) }
     ensures write_cause { result ≡ Status.WriteFault → Rose (O.faults out.old) (O.faults out.new) }
-    ensures long_cause { result ≡ Status.SourceTooLong → (file : List ℕ) × (line_of (map string_bytes words.now) ≡ Exec file) × (1048576 < F.reach files.new file) }
+    ensures long_cause { result ≡ Status.SourceTooLong → (file : List ℕ) × (steps : ℕ) × (line_of (map string_bytes words.now) ≡ Exec file steps) × (source_limit < F.reach files.new file) }
     ensures files_counted { (name : List ℕ) → F.faults files.old name ≤ F.faults files.new name }
     ensures reads_counted { I.faults input.old ≤ I.faults input.new }
     ensures writes_counted { O.faults out.old ≤ O.faults out.new }
@@ -64,6 +81,6 @@ fn command<F: Files, I: Source, O: Sink>(
     match read_line(words) {
         Line::NoCommand => Status::Usage(UsageKind::Command),
         Line::NoLine => Status::Usage(UsageKind::Words),
-        Line::Exec(file) => exec(alloc, file, files, input, out),
+        Line::Exec { file, steps } => exec(alloc, file, steps, files, input, out),
     }
 }

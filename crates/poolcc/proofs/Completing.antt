@@ -1,0 +1,121 @@
+-- What follows from a command's answer: that it is the machine's where nothing outside fails, and that a trap shows that
+-- the program goes wrong.
+use Rattle.std.proofs.Common.{◌≡◌, ℕ, ◌≤◌, ◌⊎◌, inl, inr, List, [], ◌∷◌, ◌++◌, Option, Some, length, sym, ap, ◌∙◌, refl, arith}
+use Rattle.run_theory.specs.Runs.{Trace, output_of, Final, Ended, DepthReached, HeapExhausted, IndexExhausted, Trapped, Over, trace_of, IsUndefined}
+use Rattle.run_theory.specs.declared.ends.TrapKind.{TrapKind}
+use Rattle.run_theory.proofs.Following.{follows_trapped}
+use Rattle.pcc_outside.specs.Outside.{Rose}
+use Rattle.c_ast.specs.Syntax.{ProgramTree}
+use Rattle.c_ast.specs.Reference.{reference}
+use Rattle.c_types.specs.Typing.{violations, typed_of}
+use Rattle.pool_isa.specs.Machine.{initial, mach}
+use Rattle.image_form.specs.declared.image.MachineLimits.{MachineLimits}
+use Rattle.image_form.specs.Form.{Form}
+use Rattle.machine.specs.Run.{HaltsAt, ComesTo}
+use Rattle.machine.proofs.Mach.{mach_over, mach_going}
+use Rattle.pcc_status.specs.declared.status.Status.{Status}
+use Rattle.pcc_status.specs.declared.status.Status.TheVariants as S
+use Rattle.pcc_status.specs.declared.status.Refusal.{Refusal}
+use Rattle.pcc_status.specs.declared.status.Refusal.TheVariants as R
+use Rattle.pcc_status.specs.Said.{Said, after_failed_line}
+use Rattle.poolcc.specs.Compiled.{IsAccepted, Compiles}
+use Rattle.poolcc.specs.Command.{Exec}
+use Rattle.poolcc.specs.Complete.{told, RunsAs, RunsUnlessMemory}
+use Rattle.poolcc.specs.Exec.{source_limit, ExecGives}
+use Rattle.poolcc.specs.Refused.{IsRefused}
+
+-- a line that was written leaves the answer as it was
+pub said_as_it_is : (status answer : Status) (old new : Option (List ℕ)) (before after : ℕ) → Said status answer old new before after → (Rose before after → ⊥) → answer ≡ status
+said_as_it_is status answer old new before after (inl said) quiet = said.stays
+said_as_it_is status answer old new before after (inr cut) quiet = absurd (quiet cut.fault)
+
+-- a line that failed never tells of a trap
+no_trap : (status : Status) (kind : TrapKind) → S.Trapped kind ≡ after_failed_line status → ⊥
+no_trap S.ReadFault kind e = cc
+no_trap S.Done kind e = cc
+no_trap (S.Program status) kind e = cc
+no_trap S.Depth kind e = cc
+no_trap S.HeapExhausted kind e = cc
+no_trap S.IndexExhausted kind e = cc
+no_trap S.StepsSpent kind e = cc
+no_trap (S.Trapped kind') kind e = cc
+no_trap (S.Undefined ub place) kind e = cc
+no_trap (S.Refused refusal) kind e = cc
+no_trap (S.BadImage at) kind e = cc
+no_trap S.SourceTooLong kind e = cc
+no_trap S.ImageTooLong kind e = cc
+no_trap (S.Usage usage) kind e = cc
+no_trap S.WriteFault kind e = cc
+no_trap S.OutOfMemory kind e = cc
+
+pub said_trap : (status answer : Status) (kind : TrapKind) (old new : Option (List ℕ)) (before after : ℕ) → Said status answer old new before after → answer ≡ S.Trapped kind → status ≡ S.Trapped kind
+said_trap status answer kind old new before after (inl said) e = sym said.stays ∙ e
+said_trap status answer kind old new before after (inr cut) e = absurd (no_trap status kind (sym e ∙ cut.becomes))
+
+module _ (text : List ℕ) (limits : MachineLimits) (steps : ℕ) (left base : List ℕ) (left' written' : Option (List ℕ)) where
+  over : (form : Form) (final : Final) → Compiles text limits form → HaltsAt form.functions (initial form.functions left) base steps final left' written' → (status : Status) → ((trace : Trace) → status ≡ told (Over final trace)) → RunsAs text limits steps left base status written'
+  over form final compiles halts status is =
+      let there = mach_over form.functions left base steps left' written' final halts in
+      record {
+        form = form;
+        compiles = compiles;
+        ends = is there.0 ∙ ap told (sym there.1);
+        output = there.2 ∙ ap (λ answer. Some (base ++ output_of (trace_of answer))) (sym there.1);
+      }
+
+  spent : (form : Form) → Compiles text limits form → ComesTo form.functions (initial form.functions left) base steps left' written' → RunsAs text limits steps left base S.StepsSpent written'
+  spent form compiles comes =
+      let there = mach_going form.functions left base steps left' written' comes in
+      record {
+        form = form;
+        compiles = compiles;
+        ends = ap told (sym there.1);
+        output = there.2 ∙ ap (λ answer. Some (base ++ output_of (trace_of answer))) (sym there.1);
+      }
+
+  not_refused : (program : ProgramTree) → IsAccepted text program → (refusal : Refusal) → IsRefused text refusal → ⊥
+  not_refused program accepted (R.Lex kind place) refused = refused (accepted.reads.reads.leaves, accepted.reads.reads.divides)
+  not_refused program accepted (R.Syntax kind place) refused = refused.1 program accepted.reads.reads
+  not_refused program accepted (R.TypeRule rule place) refused =
+      let same = accepted.reads.only refused.program refused.reads.reads in
+      let none : [] ≡ record { kind = rule; place = place } ∷ refused.others = sym (ap violations same ∙ accepted.typed) ∙ refused.violated in
+      cc
+  not_refused program accepted (R.Limit limit count) refused = refused
+  not_refused program accepted (R.Graph count) refused = refused
+  not_refused program accepted (R.Pools function count) refused = refused
+
+  module _ (program : ProgramTree) (accepted : IsAccepted text program) (short : length text ≤ source_limit) where
+    -- an answer of exec that is no fault is the machine's, or memory ran out
+    pub completed : (answer : Status) → ExecGives text limits steps left base answer left' written' → (answer ≡ S.ReadFault → ⊥) → (answer ≡ S.WriteFault → ⊥) → RunsUnlessMemory text limits steps left base answer written'
+    completed (S.Program status) gives read write = inr (over gives.form (Ended status) gives.compiles gives.ran (S.Program status) (λ trace. refl))
+    completed S.Depth gives read write = inr (over gives.form DepthReached gives.compiles gives.ran S.Depth (λ trace. refl))
+    completed S.HeapExhausted gives read write = inr (over gives.form HeapExhausted gives.compiles gives.ran S.HeapExhausted (λ trace. refl))
+    completed S.IndexExhausted gives read write = inr (over gives.form IndexExhausted gives.compiles gives.ran S.IndexExhausted (λ trace. refl))
+    completed (S.Trapped kind) gives read write = inr (over gives.form (Trapped kind) gives.compiles gives.ran (S.Trapped kind) (λ trace. refl))
+    completed S.StepsSpent gives read write = inr (spent gives.form gives.compiles gives.ran)
+    completed (S.Refused refusal) gives read write = absurd (not_refused program accepted refusal gives.1)
+    completed S.SourceTooLong gives read write = let long = gives.0 in absurd (omega arith)
+    completed S.ReadFault gives read write = absurd (read refl)
+    completed S.WriteFault gives read write = absurd (write refl)
+    completed S.OutOfMemory gives read write = inl refl
+    completed S.Done gives read write = absurd gives
+    completed (S.Undefined kind place) gives read write = absurd gives
+    completed (S.BadImage at) gives read write = absurd gives
+    completed S.ImageTooLong gives read write = absurd gives
+    completed (S.Usage kind) gives read write = absurd gives
+
+  -- a run that trapped shows that the program goes wrong
+  pub trapped : (kind : TrapKind) → ExecGives text limits steps left base (S.Trapped kind) left' written' → (program : ProgramTree) × IsAccepted text program × (n : ℕ) × IsUndefined (reference (typed_of program) left n)
+  trapped kind gives =
+      let there = mach_over gives.form.functions left base steps left' written' (Trapped kind) gives.ran in
+      let compiles = gives.compiles in
+      let wrong = follows_trapped (reference (typed_of compiles.program) left) (mach gives.form.functions left) (compiles.image.follows left limits) steps kind there.0 there.1 in
+      (compiles.program, compiles.accepted, wrong.0, wrong.1)
+
+-- a line has one file
+pub same_file : (file other : List ℕ) (steps others : ℕ) → Exec file steps ≡ Exec other others → file ≡ other
+same_file file other steps others e = cc
+
+pub neither : {P Q : Type 0} → (P → ⊥) → (Q → ⊥) → P ⊎ Q → ⊥
+neither no_p no_q (inl p) = no_p p
+neither no_p no_q (inr q) = no_q q

@@ -1,0 +1,31 @@
+-- What an accepted program's run comes to, where nothing outside fails.
+use Rattle.std.specs.Prelude.{◌≡◌, ℕ, ◌⊎◌, List, ◌++◌, Option, Some}
+use Rattle.run_theory.specs.Runs.{output_of, Ended, DepthReached, Undefined, HeapExhausted, IndexExhausted, Trapped, Answer, Going, Over, trace_of}
+use Rattle.image_form.specs.declared.image.MachineLimits.{MachineLimits}
+use Rattle.image_form.specs.Form.{Form}
+use Rattle.pool_isa.specs.Machine.{mach}
+use Rattle.pcc_status.specs.declared.status.Status.{Status}
+use Rattle.pcc_status.specs.declared.status.Status.TheVariants as S
+use Rattle.poolcc.specs.Compiled.{Compiles}
+
+-- the answer of a run as a command tells it: a run that is going has spent its steps
+abbrev pub told : Answer → Status
+told (Going trace) = S.StepsSpent
+told (Over (Ended status) trace) = S.Program status
+told (Over DepthReached trace) = S.Depth
+told (Over (Undefined kind place) trace) = S.Undefined kind place
+told (Over HeapExhausted trace) = S.HeapExhausted
+told (Over IndexExhausted trace) = S.IndexExhausted
+told (Over (Trapped kind) trace) = S.Trapped kind
+
+-- The text was compiled, and this is what the machine gives on the input within the steps: the status, and the output
+-- behind the base.
+pub record RunsAs (text : List ℕ) (limits : MachineLimits) (steps : ℕ) (input base : List ℕ) (status : Status) (written : Option (List ℕ)) : Type 0 where
+  pub form : Form
+  pub compiles : Compiles text limits form
+  pub ends : status ≡ told (mach form.functions input steps)
+  pub output : written ≡ Some (base ++ output_of (trace_of (mach form.functions input steps)))
+
+-- that, or memory ran out
+abbrev pub RunsUnlessMemory : List ℕ → MachineLimits → ℕ → List ℕ → List ℕ → Status → Option (List ℕ) → Type 0
+RunsUnlessMemory text limits steps input base status written = (status ≡ S.OutOfMemory) ⊎ RunsAs text limits steps input base status written
