@@ -1,2 +1,3 @@
 pub mod PageAsBox
 pub mod WordsWritten
+mod WordsRead

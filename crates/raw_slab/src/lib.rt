@@ -62,7 +62,8 @@ impl RawSlab {
         requires least { 1 ≤ width }
         requires most { width ≤ 8 }
         requires inside { off + width ≤ 4096 }
-        ensures { result ≡ word_at self.now.bytes off width }
+        ensures word { result ≡ word_at self.now.bytes off width }
+        ensures small { result < 256 ^ width }
     {
         let page = unsafe { &*self.page };
         read_word(page, off, width)
@@ -94,7 +95,8 @@ fn read_word(page: &[u8; SLAB_BYTES], off: usize, width: usize) -> u64
     requires least { 1 ≤ width }
     requires most { width ≤ 8 }
     requires inside { off + width ≤ 4096 }
-    ensures { result ≡ word_at page.now off width }
+    ensures word { result ≡ word_at page.now off width }
+    ensures small { result < 256 ^ width }
 {
     let bytes = &page[off..off + width];
     match width {

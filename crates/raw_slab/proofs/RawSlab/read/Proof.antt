@@ -1,8 +1,8 @@
 -- `read` follows the pointer through the `&`, and hands what the slab shares to `read_word`.
-use Rattle.std.proofs.Common.{◌≡◌, ℕ, ◌+◌, ◌≤◌, List, [], ◌∷◌, refl, ap, w64}
+use Rattle.std.proofs.Common.{◌≡◌, ℕ, ◌+◌, ◌^◌, ◌<◌, ◌≤◌, List, [], ◌∷◌, refl, ap, w64}
 use Rattle.std.proofs.raw_atomic.Walks.{proved}
 use base.Fml.{ftrue, fhide, flft}
-use base.Logic.{SProp, ent, sep, emp, id⊢}
+use base.Logic.{SProp, ent, sep, emp, id⊢, via, comm∗, mono_l, emp∗, assoc∗}
 use contract.Monad.{fact, fact_i}
 use contract.Running.{tables}
 use denote.Builtin.{usize, u64, RefOf}
@@ -22,12 +22,12 @@ use denote.Triple.Call.{calls_at}
 use denote.Triple.Clauses.{lasts}
 use denote.Triple.Spec.{triple_of}
 use denote.Triple.Table.{framed}
-use denote.Triple.Walked.{says, Stays, stay_dropped, walk_of, ends_at, Goes-dropped}
+use denote.Triple.Walked.{Stays, stay_dropped, walk_of, ends_at, Goes-dropped}
 use mir.Syntax.{named}
 use mir.Val.{Val, vint, vptr}
 use seplogic.Ra.Ura.{Ura}
 use types.ByLocal.{alloc_all, pass_all, free_all, look_at, get, through, sets, sets_last, lands_as, env}
-use types.Kit.{Item, at_ret, ‵, raw, ◌⊛◌, some, later, ◌$◌, ◌∵◌, !, qed, move, keep, drop, use0, use1, split, split3, join, pick, await, fsplit, fjoin, feq_i, feq_l, flt_l, suffices, frame, done}
+use types.Kit.{Item, Step, step, prop, at_ret, ‵, raw, ◌⊛◌, some, later, ◌$◌, ◌∵◌, !, qed, move, keep, drop, use0, use1, split, split3, join, pick, await, fsplit, fjoin, feq_i, feq_l, flt_l, suffices, frame, done}
 use types.Logic.{Logic, sem}
 use types.Run.{look, hop, fld, stop, addr, of_opd, first, blocks, exec, returns, enter, and_then, no_more}
 use Rattle.std_alloc.proofs.Words.{pointer_in, pointer_out}
@@ -40,6 +40,13 @@ use Rattle.raw_slab.specs.contracts.read_word as g
 use Rattle.raw_slab.proofs.read_word.Met.{met}
 use Rattle.raw_slab.proofs.RawSlab.read.Statement.{statement}
 use Rattle.raw_slab.proofs.RawSlab.read.Code as code
+
+-- two facts are said at once
+with_fact : {M : Type 1} (𝓤 : Ura M) {φ : Type 0} (P : SProp 𝓤) → φ → ent 𝓤 P (sep 𝓤 P (fact 𝓤 φ))
+with_fact 𝓤 {φ} P x = via 𝓤 (sep 𝓤 (emp 𝓤) P) (emp∗ 𝓤 P) (via 𝓤 (sep 𝓤 (fact 𝓤 φ) P) (mono_l 𝓤 P (fact_i 𝓤 φ (emp 𝓤) x)) (comm∗ 𝓤 (fact 𝓤 φ) P))
+
+says_both : {M : Type 1} {𝓤 : Ura M} {𝓛 : Logic 𝓤} {K : Type 0} {Γ : List (Item 𝓤)} → K → {φ ψ : Type 0} {P : SProp 𝓤} → φ → ψ → Step K 𝓛 Γ (prop P) Γ (prop (sep 𝓤 P (sep 𝓤 (fact 𝓤 φ) (fact 𝓤 ψ))))
+says_both {𝓤 = 𝓤} t {φ} {ψ} {P} x y = step (λ s. record { prf = via 𝓤 P s.prf (via 𝓤 (sep 𝓤 P (fact 𝓤 φ)) (with_fact 𝓤 P x) (via 𝓤 (sep 𝓤 (sep 𝓤 P (fact 𝓤 φ)) (fact 𝓤 ψ)) (with_fact 𝓤 (sep 𝓤 P (fact 𝓤 φ)) y) (assoc∗ 𝓤 P (fact 𝓤 φ) (fact 𝓤 ψ)))) })
 
 abbrev Self : Slot 1
 Self = RefOf (0 ∷ []) tt (plain (λ _. Slab.the_row)) (λ _. tt)
@@ -97,9 +104,9 @@ read_spec 𝓤 𝓛 𝓜 𝓡 wired =
     use1 𝓛 (raw (G.pre z)) (id⊢ 𝓤 _) $
     calls_at ! (framed 𝓤 𝓛.H 𝓜 𝓣) G (met 𝓤 𝓛 𝓜 𝓡 (code.calls-raw_slab::read_word 𝓡.env wired)) z
     (and_then ! (get ! refl) (and_then ! (get ! refl) (and_then ! (get ! refl) (no_more !)))) (λ v.
-    use1 𝓛 (later (some (λ (r : ℕ). (ts ⊛ ‵ (u64.own_val r (v ∷ []))) ⊛ some (λ (ws : Unit {0} × (Unit {0} × (Unit {0} × Unit {0}))). ‵ (lasts g.ended κs z.0.3 ws) ⊛ raw (fact 𝓤 (r ≡ word_at d.bytes off width)))))) (id⊢ 𝓤 _) $
-    await ! tt $ pick ! (λ r. split ! $ split ! $ move ! (2 ∷ []) $ pick ! (λ ws. split ! $ drop ! $ heard ! (r ≡ word_at d.bytes off width) (λ is.
+    use1 𝓛 (later (some (λ (r : ℕ). (ts ⊛ ‵ (u64.own_val r (v ∷ []))) ⊛ some (λ (ws : Unit {0} × (Unit {0} × (Unit {0} × Unit {0}))). ‵ (lasts g.ended κs z.0.3 ws) ⊛ (raw (fact 𝓤 (r ≡ word_at d.bytes off width)) ⊛ raw (fact 𝓤 (r < 256 ^ width))))))) (id⊢ 𝓤 _) $
+    await ! tt $ pick ! (λ r. split ! $ split ! $ move ! (2 ∷ []) $ pick ! (λ ws. split3 ! $ drop ! $ heard ! (r ≡ word_at d.bytes off width) (λ is. heard ! (r < 256 ^ width) (λ small.
     move ! (1 ∷ []) $ fsplit ! $ feq_l ! (λ e. flt_l ! (λ fits.
     lands_as ! (ap only e) refl (tt, record { fits = fits }) $ returns ! (look_at ! 0 refl) $ free_all ! refl $
-    suffices ! _ (ends_at 𝓛 f.ended stayed c y (vint w64 r) r (tt, (tt, (tt, tt))) (tt, (tt, (tt, tt)))) $ says ! is $
-    frame ! $ owned ! u64 _ (uint_Makes 𝓛 w64) r _ (refl, fits) $ nothing ! $ nothing ! $ fjoin ! $ nothing ! $ fjoin ! $ nothing ! $ fjoin ! $ done !)))))))))))))
+    suffices ! _ (ends_at 𝓛 f.ended stayed c y (vint w64 r) r (tt, (tt, (tt, tt))) (tt, (tt, (tt, tt)))) $ says_both ! is small $
+    frame ! $ owned ! u64 _ (uint_Makes 𝓛 w64) r _ (refl, fits) $ nothing ! $ nothing ! $ fjoin ! $ nothing ! $ fjoin ! $ nothing ! $ fjoin ! $ done !))))))))))))))
