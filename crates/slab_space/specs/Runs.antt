@@ -1,5 +1,5 @@
 -- Slabs one after another, each free or held. The owner of a held slab is the first slab of the run that it was taken in.
-use Rattle.std.specs.Prelude.{◌≡◌, ℕ, ◌+◌, ◌/◌, ◌<◌, ◌≤◌, List, [], ◌∷◌, ◌++◌, length, take, drop, replicate, slice_index_or, Option, Some, None}
+use Rattle.std.specs.Prelude.{◌≡◌, ℕ, zero, suc, ◌+◌, ◌/◌, ◌<◌, ◌≤◌, Bool, true, false, if◌then◌else◌, List, [], ◌∷◌, ◌++◌, length, take, drop, replicate, slice_index_or, option_map, Option, Some, None}
 
 -- the slabs that so many bytes need
 abbrev pub need : ℕ → ℕ
@@ -38,3 +38,15 @@ pub record IsLowestRun (owners : List (Option ℕ)) (count first : ℕ) : Type 0
 -- a list after `count` elements from `first` on were each made `x`
 abbrev pub with_run : {X : Type 0} → List X → ℕ → ℕ → X → List X
 with_run xs first count x = take first xs ++ replicate count x ++ drop (first + count) xs
+
+-- the first so many slabs are there and free
+abbrev pub free_front : ℕ → List (Option ℕ) → Bool
+free_front zero owners = true
+free_front (suc count) [] = false
+free_front (suc count) (None ∷ rest) = free_front count rest
+free_front (suc count) (Some owner ∷ rest) = false
+
+-- the first of the lowest so many adjacent free slabs, if there are any
+abbrev pub lowest_run : List (Option ℕ) → ℕ → Option ℕ
+lowest_run [] count = None
+lowest_run (owner ∷ rest) count = if free_front count (owner ∷ rest) then Some 0 else option_map (λ first. suc first) (lowest_run rest count)

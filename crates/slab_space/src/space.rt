@@ -1,4 +1,4 @@
-ghost use Rattle.std.specs.Prelude.{◌≡◌, ◌+◌, ◌*◌, ◌≤◌, ◌<◌, ◌↔◌, ℕ, length, replicate, IfOk, OnOk, OnErr, MatchOption, IsSome, Some, None};
+ghost use Rattle.std.specs.Prelude.{◌≡◌, ◌+◌, ◌*◌, ◌≤◌, ◌<◌, ◌^◌, ◌↔◌, ℕ, length, replicate, IfOk, OnOk, OnErr, MatchOption, IsSome, Some, None};
 ghost use Rattle.raw_slab.specs.Words.{zeros, word_at, with_word};
 ghost use Rattle.slab_space.specs.Runs.{owner_at, free_count, Full, IsLowestRun, IsHeldRun};
 ghost use Rattle.slab_space.specs.Space.{Space, IsZero, with_taken, with_given};
@@ -123,7 +123,8 @@ impl SlabSpace {
         requires least { 1 ≤ width }
         requires most { width ≤ 8 }
         requires inside { off + width ≤ 4096 }
-        ensures { result ≡ word_at self.now.bytes (4096 * slab + off) width }
+        ensures word { result ≡ word_at self.now.bytes (4096 * slab + off) width }
+        ensures small { result < 256 ^ width }
     {
         match &self.slots[slab as usize] {
             Some(held) => held.memory.read(off, width),
