@@ -1,0 +1,10 @@
+use Rattle.std.proofs.Common.{sym}
+use Rattle.slab_space.specs.Pool.{slabs_in}
+use Rattle.pool_runtime.proofs.PoolsSeen.{told, not_told}
+use Rattle.pool_runtime.proofs.pools.Pools.slabs.Goals as goal
+
+pub returns-in-Some : goal.returns-in-Some
+returns-in-Some c = rw (← c.self.view_is) (told c.self.inside c.self.invariant (slabs_in) c.args.id.0 c.in-Some.pool.now c.in-Some.pool.now.slabs (sym c.in-Some.ensures.value) (c.self.invariant.pools c.args.id.0 c.in-Some.pool.now (sym c.in-Some.ensures.value)).slabs)
+
+pub returns-in-None : goal.returns-in-None
+returns-in-None c = rw (← c.self.view_is) (not_told c.self.inside c.self.invariant (slabs_in) c.args.id.0 (sym c.in-None.ensures.value))
