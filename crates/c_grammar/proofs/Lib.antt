@@ -1,0 +1,12 @@
+pub mod LanguageRows
+pub mod LanguageTells
+pub mod LanguageBounds
+pub mod LanguageLeast
+pub mod LanguageClosed
+pub mod LanguageBegun
+pub mod LanguageCompletes
+pub mod LanguageFollowed
+pub mod LanguageParts
+pub mod LanguageChosen
+pub mod LanguageReads
+pub mod LanguagePlaces
