@@ -1,18 +1,19 @@
 -- A text has no more tokens than bytes, and its end.
-use Rattle.std.proofs.Common.{◌≡◌, ℕ, ◌+◌, ◌<◌, ◌≤◌, List, [], ◌∷◌, Some, length, ap, arith, length-append}
+use Rattle.std.proofs.Common.{ℕ, ◌+◌, ◌≤◌, List, ◌∷◌, Bool, true, length, arith, length-drop}
 use Rattle.run_theory.specs.declared.ends.Pos.{Pos}
-use Rattle.run_theory.specs.Places.{place_after, place_behind}
-use Rattle.c_lexer.specs.declared.token.Lexeme.{Lexeme}
+use Rattle.c_lexer.specs.declared.front.Front.TheVariants as F
 use Rattle.c_lexer.specs.Leaves.{Leaf}
-use Rattle.c_lexer.specs.Tokens.{token_of, Divides, at_end, space, token}
+use Rattle.c_lexer.specs.Tokens.{DividesFrom, at_end, blank, token, Divides}
+use Rattle.c_lexer.proofs.Widths.{front_within}
 
--- no token is empty
-token_nonempty : (piece : List ℕ) (lexeme : Lexeme) → token_of piece ≡ Some lexeme → 0 < length piece
-token_nonempty [] lexeme spells = absurd (cc)
-token_nonempty (byte ∷ bytes) lexeme spells = omega arith
+leaves_length_from : (line : Bool) (place : Pos) (text : List ℕ) (leaves : List Leaf) → DividesFrom line place text leaves → length leaves ≤ length text + 1
+leaves_length_from line place text leaves (at_end _ _) = omega arith
+leaves_length_from line place text leaves (blank _ _ byte bytes count _ is divides) =
+    let within = front_within line place (byte ∷ bytes) (F.Blank count) (omega arith) is in
+    omega (arith, within.0, within.1, length-drop count (byte ∷ bytes), leaves_length_from _ _ _ leaves divides)
+leaves_length_from line place text leaves (token _ _ byte bytes lexeme count others is divides) =
+    let within = front_within line place (byte ∷ bytes) (F.Token lexeme count) (omega arith) is in
+    omega (arith, within.0, within.1, length-drop count (byte ∷ bytes), leaves_length_from _ _ _ others divides)
 
 pub leaves_length : (place : Pos) (text : List ℕ) (leaves : List Leaf) → Divides place text leaves → length leaves ≤ length text + 1
-leaves_length place text leaves (at_end _) = omega arith
-leaves_length place text leaves (space _ byte rest _ blank divides) = omega (arith, leaves_length (place_after place byte) rest leaves divides)
-leaves_length place text leaves (token _ _ piece rest lexeme others cut longest spells divides) =
-    omega (arith, ap length cut, length-append {A = ℕ}, token_nonempty piece lexeme spells, leaves_length (place_behind place piece) rest others divides)
+leaves_length place text leaves divides = leaves_length_from true place text leaves divides

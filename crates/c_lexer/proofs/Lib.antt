@@ -1,7 +1,10 @@
+pub mod Widths
 pub mod Dividing
 pub mod Lengths
-pub mod Longest
-pub mod TwoBytes
-pub mod Quoted
 pub mod Values
+pub mod Quotes
 pub mod Spans
+pub mod Spellings
+pub mod Runs
+pub mod Dispatch
+pub mod Cases

@@ -1,66 +1,92 @@
 -- The values of constants.
-use Rattle.std.proofs.Common.{◌≡◌, ◌⊎◌, inl, inr, ℕ, zero, suc, ◌+◌, ◌-◌, ◌*◌, ◌^◌, ◌≤◌, ◌<◌, ◌==◌, List, [], ◌∷◌, Option, Some, None, Bool, true, false, cond, ◌&&◌, ltb, length, take, drop, get_or, sym, refl, ap, ◌∙◌, subst, arith, eqb-true, eq-eqb, le-ltb, lt-ltb, le-leb, ne_eqb}
-use Rattle.std.proofs.lemmas.Bool.{false≢true, cases_Bool, cond-true, cond-false, cond_both}
+use Rattle.std.proofs.Common.{◌≡◌, inl, inr, ℕ, ◌+◌, ◌-◌, ◌*◌, ◌^◌, ◌≤◌, ◌<◌, List, [], ◌∷◌, Option, Some, None, Bool, true, false, cond, ◌&&◌, ltb, length, drop, get_or, refl, ap, ◌∙◌, arith, mul_comm, le-ltb, lt-ltb, le-leb}
+use Rattle.std.proofs.lemmas.Bool.{cases_Bool, cond-true, cond-false, cond_both}
 use Rattle.std.proofs.lemmas.List.{at_drop_more, at_drop_all}
 use Rattle.std.specs.List.{list_all}
+use Rattle.c_num.specs.declared.IntType.{IntType}
+use Rattle.c_num.specs.declared.IntType.TheVariants as T
+use Rattle.c_lexer.specs.declared.numbers.Base.{Base}
+use Rattle.c_lexer.specs.declared.numbers.Base.TheVariants as B
+use Rattle.c_lexer.specs.declared.numbers.Suffix.{Suffix}
 use Rattle.c_lexer.specs.declared.token.Lexeme.TheVariants as L
-use Rattle.c_lexer.specs.Tokens.{is_letter, is_digit, is_octal_digit, is_hexadecimal_digit, decimal_from, fitting_int, fitting_byte, digits_from, hexadecimal_value, number_token, token_of, character_value, without_last, as_character}
-use Rattle.c_lexer.specs.Pieces.{begins_with, is_quote, octal_byte, hexadecimal_byte, hexadecimal_digit}
-use Rattle.c_lexer.proofs.Longest.{digit_no_letter}
+use Rattle.c_lexer.specs.Classes.{is_octal_digit, is_hexadecimal_digit}
+use Rattle.c_lexer.specs.Constants.{radix, fitting_byte, digits_from, hexadecimal_value, octal_byte, hexadecimal_byte, hexadecimal_digit, holds, first_holding, integer_lexeme, as_integer, typed, types_of, is_decimal, suffix_of}
 
--- a value past the greatest int stays past it
-pub large_decimal : (value : ℕ) (digits : List ℕ) → 2 ^ 31 ≤ value → fitting_int (decimal_from value digits) ≡ None
-large_decimal value [] large = cond-false (ltb value (2 ^ 31)) _ _ (le-ltb value (2 ^ 31) large)
-large_decimal value (digit ∷ digits) large =
-    cond_both (is_digit digit) (decimal_from (10 * value + (digit - 48)) digits) None (λ found. fitting_int found ≡ None) (λ _. large_decimal (10 * value + (digit - 48)) digits (omega arith)) (λ _. refl)
+radix_positive : (base : Base) → 1 ≤ radix base
+radix_positive B.Decimal = omega arith
+radix_positive B.Octal = omega arith
+radix_positive B.Hexadecimal = omega arith
 
-as_number : (first : ℕ) (rest : List ℕ) → is_digit first ≡ true → token_of (first ∷ rest) ≡ number_token first rest
-as_number first rest digit = cond-false (is_letter first) _ _ (digit_no_letter first digit) ∙ cond-true (is_digit first) _ _ digit
+grown : (base value digit : ℕ) → 1 ≤ base → value ≤ base * value + digit
+grown base value digit positive = grind arith
 
-from_first : (first : ℕ) (rest : List ℕ) → is_digit first ≡ true → decimal_from 0 (first ∷ rest) ≡ decimal_from (first - 48) rest
-from_first first rest digit =
-    let value : 0 + (first - 48) ≡ first - 48 = omega arith in
-    cond-true (is_digit first) _ _ digit ∙ ap (λ v. decimal_from v rest) value
+-- more digits make no number smaller
+pub digits_grow : (base value : ℕ) (digits : List ℕ) → 1 ≤ base → value ≤ digits_from hexadecimal_value base value digits
+digits_grow base value [] positive = omega arith
+digits_grow base value (digit ∷ digits) positive =
+    let more : value ≤ base * value + hexadecimal_value digit = grown base value (hexadecimal_value digit) positive in
+    omega (arith, more, digits_grow base (base * value + hexadecimal_value digit) digits positive)
 
-one_digit : (first : ℕ) → number_token first [] ≡ fitting_int (decimal_from (first - 48) [])
-one_digit first = elim (cases_Bool (first == 48)) [
-  | inl same ↦ subst (λ f. number_token f [] ≡ fitting_int (decimal_from (f - 48) [])) (sym (eqb-true first 48 same)) refl
-  | inr other ↦ cond-false (first == 48) _ _ other
-]
+pub digits_more : (base value : ℕ) (digits : List ℕ) (i : ℕ) → i < length digits → digits_from hexadecimal_value base value (drop i digits) ≡ digits_from hexadecimal_value base (base * value + hexadecimal_value (get_or digits i 0)) (drop (i + 1) digits)
+digits_more base value digits i within = at_drop_more (digits_from hexadecimal_value base value) digits i 0 within
 
--- what a number is, by its digits
-pub decimal_token : (number : List ℕ) → begins_with is_digit number ≡ true → ((get_or number 0 0 ≡ 48) × (length number ≤ 1)) ⊎ (get_or number 0 0 ≡ 48 → ⊥) → token_of number ≡ fitting_int (decimal_from 0 number)
-decimal_token [] digit single = absurd (false≢true digit)
-decimal_token (first ∷ []) digit single = as_number first [] digit ∙ one_digit first ∙ ap fitting_int (sym (from_first first [] digit))
-decimal_token (first ∷ next ∷ rest) digit single =
-    as_number first (next ∷ rest) digit
-    ∙ cond-false (first == 48) _ _ (ne_eqb first 48 (λ same. elim single [ inl short ↦ absurd (omega arith) | inr other ↦ other same ]))
-    ∙ ap fitting_int (sym (from_first first (next ∷ rest) digit))
+pub digits_done : (base value : ℕ) (digits : List ℕ) (i : ℕ) → length digits ≤ i → digits_from hexadecimal_value base value (drop i digits) ≡ value
+digits_done base value digits i past = at_drop_all (digits_from hexadecimal_value base value) digits i past
 
--- digits that begin with 0 are no decimal number
-pub octal_none : (number : List ℕ) → begins_with is_digit number ≡ true → get_or number 0 0 ≡ 48 → 1 < length number → token_of number ≡ None
-octal_none [] digit octal long = absurd (false≢true digit)
-octal_none (first ∷ []) digit octal long = absurd (omega arith)
-octal_none (first ∷ next ∷ rest) digit octal long =
-    as_number first (next ∷ rest) digit ∙ cond-true (first == 48) _ _ (eq-eqb first 48 octal)
-    ∙ cond-false (length (next ∷ rest) == 0) _ _ (ne_eqb (length (next ∷ rest)) 0 (λ none. omega arith))
+-- digits whose value so far, with one digit more, is past 64 bits
+pub digits_too_large : (base : Base) (digits : List ℕ) (i value times : ℕ) → i < length digits → times ≡ radix base → digits_from hexadecimal_value (radix base) 0 digits ≡ digits_from hexadecimal_value (radix base) value (drop i digits) → 2 ^ 64 ≤ value * times + hexadecimal_value (get_or digits i 0) → 2 ^ 64 ≤ digits_from hexadecimal_value (radix base) 0 digits
+digits_too_large base digits i value times within is from large =
+    let product : value * times ≡ radix base * value = ap (λ t. value * t) is ∙ mul_comm value (radix base) in
+    let next = radix base * value + hexadecimal_value (get_or digits i 0) in
+    let enough : 2 ^ 64 ≤ next = omega (arith, large, product) in
+    omega (arith, enough, digits_grow (radix base) next (drop (i + 1) digits) (radix_positive base), from ∙ digits_more (radix base) value digits i within)
 
--- nor is what goes on with another byte
-pub decimal_other : (number : List ℕ) (i value : ℕ) → i < length number → is_digit (get_or number i 0) ≡ false → fitting_int (decimal_from value (drop i number)) ≡ None
-decimal_other number i value within other =
-    at_drop_more (λ digits. fitting_int (decimal_from value digits)) number i 0 within
-    ∙ ap fitting_int (cond-false (is_digit (get_or number i 0)) _ _ other)
+-- no type holds a value of 2^64 or more
+none_holds : (value : ℕ) (int_type : IntType) → 2 ^ 64 ≤ value → holds value int_type ≡ false
+none_holds value T.Char large = le-ltb value (2 ^ 7) (omega (arith, large))
+none_holds value T.UChar large = le-ltb value (2 ^ 8) (omega (arith, large))
+none_holds value T.Short large = le-ltb value (2 ^ 15) (omega (arith, large))
+none_holds value T.UShort large = le-ltb value (2 ^ 16) (omega (arith, large))
+none_holds value T.Int large = le-ltb value (2 ^ 31) (omega (arith, large))
+none_holds value T.UInt large = le-ltb value (2 ^ 32) (omega (arith, large))
+none_holds value T.Long large = le-ltb value (2 ^ 63) (omega (arith, large))
+none_holds value T.ULong large = le-ltb value (2 ^ 64) large
 
--- one digit more of a decimal number
-pub decimal_more : (number : List ℕ) (i value : ℕ) → i < length number → is_digit (get_or number i 0) ≡ true → fitting_int (decimal_from value (drop i number)) ≡ fitting_int (decimal_from (10 * value + (get_or number i 0 - 48)) (drop (i + 1) number))
-decimal_more number i value within digit =
-    at_drop_more (λ digits. fitting_int (decimal_from value digits)) number i 0 within
-    ∙ ap fitting_int (cond-true (is_digit (get_or number i 0)) _ _ digit)
+none_first : (value : ℕ) (types : List IntType) → 2 ^ 64 ≤ value → first_holding value types ≡ None
+none_first value [] large = refl
+none_first value (int_type ∷ more) large = cond-false (holds value int_type) _ _ (none_holds value int_type large) ∙ none_first value more large
 
-pub decimal_done : (number : List ℕ) (i value : ℕ) → length number ≤ i → value < 2 ^ 31 → fitting_int (decimal_from value (drop i number)) ≡ Some (L.Decimal value)
-decimal_done number i value past small =
-    at_drop_all (λ digits. fitting_int (decimal_from value digits)) number i past
-    ∙ cond-true (ltb value (2 ^ 31)) _ _ (lt-ltb value (2 ^ 31) small)
+pub none_typed : (base : Base) (value : ℕ) (suffix : Option Suffix) → 2 ^ 64 ≤ value → typed base value suffix ≡ None
+none_typed base value None large = refl
+none_typed base value (Some suffix) large = ap (λ found. as_integer value found) (none_first value (types_of suffix (is_decimal base)) large)
+
+pub other_integer : (value : ℕ) (int_type : IntType) → (int_type ≡ T.Int → ⊥) → integer_lexeme value int_type ≡ L.Integer value int_type
+other_integer value T.Char other = refl
+other_integer value T.UChar other = refl
+other_integer value T.Short other = refl
+other_integer value T.UShort other = refl
+other_integer value T.Int other = absurd (other refl)
+other_integer value T.UInt other = refl
+other_integer value T.Long other = refl
+other_integer value T.ULong other = refl
+
+-- suffixes by their length
+pub suffix_one : (letters : List ℕ) → length letters ≡ 1 → suffix_of letters ≡ suffix_of (get_or letters 0 0 ∷ [])
+suffix_one [] one = absurd (omega (arith, one))
+suffix_one (letter ∷ []) one = refl
+suffix_one (letter ∷ other ∷ more) one = absurd (omega (arith, one))
+
+pub suffix_two : (letters : List ℕ) → length letters ≡ 2 → suffix_of letters ≡ suffix_of (get_or letters 0 0 ∷ get_or letters 1 0 ∷ [])
+suffix_two [] two = absurd (omega (arith, two))
+suffix_two (letter ∷ []) two = absurd (omega (arith, two))
+suffix_two (letter ∷ other ∷ []) two = refl
+suffix_two (letter ∷ other ∷ third ∷ more) two = absurd (omega (arith, two))
+
+pub suffix_more : (letters : List ℕ) → 2 < length letters → suffix_of letters ≡ None
+suffix_more [] long = absurd (omega (arith, long))
+suffix_more (letter ∷ []) long = absurd (omega (arith, long))
+suffix_more (letter ∷ other ∷ []) long = absurd (omega (arith, long))
+suffix_more (letter ∷ other ∷ third ∷ more) long = refl
 
 -- The byte of digits that follow a value, where they are digits and it fits a byte.
 abbrev pub byte_from : (ℕ → Bool) → (ℕ → ℕ) → ℕ → ℕ → List ℕ → Option ℕ
@@ -88,23 +114,6 @@ module _ (is_one : ℕ → Bool) (value_of : ℕ → ℕ) (base : ℕ) (positive
   byte_done digits i value past small =
       at_drop_all (byte_from is_one value_of base value) digits i past
       ∙ cond-true (ltb value 256) _ _ (lt-ltb value 256 small)
-
-without_last-take : (count : ℕ) (bytes : List ℕ) → count < length bytes → without_last (take (suc count) bytes) ≡ take count bytes
-without_last-take count [] within = absurd (omega arith)
-without_last-take zero (byte ∷ bytes) within = refl
-without_last-take (suc count) (byte ∷ []) within = absurd (omega arith)
-without_last-take (suc count) (byte ∷ next ∷ bytes) within = ap (λ front. byte ∷ front) (without_last-take count (next ∷ bytes) (omega arith))
-
--- what a character constant is, by what stands between its quotes
-pub character_token : (text : List ℕ) (count : ℕ) → begins_with is_quote text ≡ true → 2 ≤ count → count ≤ length text → token_of (take count text) ≡ as_character (character_value (take (count - 1 - 1) (drop 1 text)))
-character_token [] count quote two within = absurd (false≢true quote)
-character_token (first ∷ others) zero quote two within = absurd (omega arith)
-character_token (first ∷ others) (suc zero) quote two within = absurd (omega arith)
-character_token (first ∷ others) (suc (suc count)) quote two within =
-    let rest : suc (suc count) - 1 - 1 ≡ count = omega arith in
-    subst (λ f. token_of (f ∷ take (suc count) others) ≡ as_character (character_value (without_last (take (suc count) others)))) (sym (eqb-true first 39 quote)) refl
-    ∙ ap (λ content. as_character (character_value content)) (without_last-take count others (omega arith))
-    ∙ ap (λ n. as_character (character_value (take n others))) (sym rest)
 
 pub octal_is : (digits : List ℕ) → length digits ≤ 3 → octal_byte digits ≡ byte_from is_octal_digit (λ digit. digit - 48) 8 0 digits
 octal_is digits short = ap (λ b. cond (b && list_all is_octal_digit digits) (fitting_byte (digits_from (λ digit. digit - 48) 8 0 digits)) None) (le-leb (length digits) 3 short)

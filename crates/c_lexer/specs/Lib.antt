@@ -1,3 +1,7 @@
 pub mod Leaves
+pub mod Classes
+pub mod Tables
+pub mod Constants
+pub mod Fronts
 pub mod Tokens
-pub mod Pieces
+pub mod Laws

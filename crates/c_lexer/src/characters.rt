@@ -1,72 +1,66 @@
-// Character constants (C17 6.4.4.4).
+// Escapes (C17 6.4.4.4).
 
-ghost use Rattle.std.specs.Prelude.{◌≡◌, ◌≤◌, length, take, drop, IsTrue, MatchResult, IfSome, IfNone};
-ghost use Rattle.c_lexer.specs.Tokens.{character_value, escape_value, simple_escape, IsLongest};
-ghost use Rattle.c_lexer.specs.Pieces.{begins_with, is_quote, octal_byte, hexadecimal_byte, hexadecimal_digit, IsFirstToken, HasNoShape, HasNoToken};
+ghost use Rattle.std.specs.Prelude.{◌≡◌, ◌≤◌, length, Ok, Err, IfSome};
+ghost use Rattle.std.specs.List.{prefix_len};
+ghost use Rattle.c_lexer.specs.Classes.{is_octal_digit, is_hexadecimal_digit};
+ghost use Rattle.c_lexer.specs.Constants.{simple_escape, octal_byte, hexadecimal_byte, hexadecimal_digit, escape_value, escape_width, escape_byte};
 
-use crate::classes::is_octal_digit;
-use crate::pieces::Piece;
-use crate::token::{LexErr, Lexeme};
-use run_theory::Pos;
+use crate::classes::{is_hexadecimal_digit, is_octal_digit};
 
 /// The greatest number of digits of an octal escape.
 const OCTAL_DIGITS: usize = 3;
 
-/// The character constant that begins a text, which stands at `place`.
-pub(crate) fn character(text: &[u8], place: Pos) -> Result<Piece, LexErr>
-    requires { IsTrue (begins_with is_quote text.now) }
-    ensures { MatchResult result (λ piece. IsFirstToken text.now piece.length piece.lexeme) (λ _. HasNoToken text.now) }
+/// The byte of the escape whose backslash a text follows, where it is an escape.
+pub(crate) fn escape_byte(text: &[u8]) -> Option<u8>
+    ensures { result ≡ escape_byte text.now }
 {
-    let Some(length) = character_length(text) else {
-        return Err(unclosed(&text[1..], place));
+    escape_value(&text[..escape_width(text)])
+}
+
+/// How many bytes behind a backslash belong to its escape: none at the end of the line.
+pub(crate) fn escape_width(text: &[u8]) -> usize
+    ensures value { result ≡ escape_width text.now }
+    ensures within { result ≤ length text.now }
+{
+    let Some((first, rest)) = text.split_first() else {
+        return 0;
     };
-    match character_value(&text[1..length - 1]) {
-        Some(byte) => Ok(Piece {
-            lexeme: Lexeme::Character(byte),
-            length,
-        }),
-        None => Err(LexErr::BadLiteral(place)),
-    }
-}
-
-/// How long the character constant at the front of a text is, where it is closed on its line.
-fn character_length(text: &[u8]) -> Option<usize>
-    requires { IsTrue (begins_with is_quote text.now) }
-    ensures within { IfSome result (λ n. (2 ≤ n) × (n ≤ length text.now)) }
-    ensures closed { IfSome result (λ n. IsLongest (take n text.now) (drop n text.now)) }
-    ensures open { IfNone result (HasNoShape text.now) }
-{
-    let mut escaped = false;
-    let mut length = 1;
-    while length < text.len() {
-        let byte = text[length];
-        length += 1;
-        if byte == b'\n' {
-            return None;
+    if is_octal_digit(*first) {
+        let digits = octal_run(text);
+        if digits > OCTAL_DIGITS {
+            OCTAL_DIGITS
+        } else {
+            digits
         }
-        if escaped {
-            escaped = false;
-        } else if byte == b'\\' {
-            escaped = true;
-        } else if byte == b'\'' {
-            return Some(length);
-        }
-    }
-    None
-}
-
-/// The byte that stands between the quotes: one byte, or one escape.
-fn character_value(content: &[u8]) -> Option<u8>
-    ensures { result ≡ character_value content.now }
-{
-    let (first, rest) = content.split_first()?;
-    if *first == b'\\' {
-        escape_value(rest)
-    } else if rest.is_empty() {
-        Some(*first)
+    } else if *first == b'x' {
+        1 + hexadecimal_run(rest)
+    } else if *first == b'\n' {
+        0
     } else {
-        None
+        1
     }
+}
+
+fn octal_run(text: &[u8]) -> usize
+    ensures value { result ≡ prefix_len is_octal_digit text.now }
+    ensures within { result ≤ length text.now }
+{
+    let mut length = 0;
+    while length < text.len() && is_octal_digit(text[length]) {
+        length += 1;
+    }
+    length
+}
+
+fn hexadecimal_run(text: &[u8]) -> usize
+    ensures value { result ≡ prefix_len is_hexadecimal_digit text.now }
+    ensures within { result ≤ length text.now }
+{
+    let mut length = 0;
+    while length < text.len() && is_hexadecimal_digit(text[length]) {
+        length += 1;
+    }
+    length
 }
 
 /// The byte of the escape whose backslash these bytes follow.
@@ -143,46 +137,5 @@ fn simple_escape(letter: u8) -> Option<u8>
         b'v' => Some(11),
         b'\\' | b'\'' | b'"' | b'?' => Some(letter),
         _ => None,
-    }
-}
-
-/// Why a character constant with no closing quote on its line is refused: for the first bad escape, else for the
-/// quote. `rest` is what stands behind the opening quote.
-fn unclosed(rest: &[u8], place: Pos) -> LexErr {
-    let mut rest = rest;
-    while let Some((first, others)) = rest.split_first() {
-        if *first == b'\n' {
-            break;
-        }
-        rest = others;
-        if *first == b'\\' {
-            let length = escape_length(others);
-            if length > 0 && escape_value(&others[..length]).is_none() {
-                return LexErr::BadLiteral(place);
-            }
-            rest = &others[length..];
-        }
-    }
-    LexErr::Unclosed(place)
-}
-
-/// How many bytes behind a backslash belong to its escape: none at the end of the line, one to three octal digits, or
-/// `x` and the hexadecimal digits behind it; else one.
-fn escape_length(text: &[u8]) -> usize
-    ensures { result ≤ length text.now }
-{
-    match text {
-        [] | [b'\n', ..] => 0,
-        [b'x', digits @ ..] => 1
-            + digits
-                .iter()
-                .take_while(|digit| hexadecimal_digit(**digit).is_some())
-                .count(),
-        [first, ..] if is_octal_digit(*first) => text
-            .iter()
-            .take(OCTAL_DIGITS)
-            .take_while(|digit| is_octal_digit(**digit))
-            .count(),
-        _ => 1,
     }
 }

@@ -3,14 +3,23 @@
 
 mod characters;
 mod classes;
+mod comments;
+mod directives;
+mod front;
+mod laws;
 mod lexer;
 mod numbers;
-mod pieces;
 mod punctuators;
+mod quoted;
+mod tables;
 #[cfg(test)]
 mod tests;
 mod token;
 mod words;
 
+pub use laws::{
+    faults_leave_no_division, texts_divide_in_one_way, texts_divide_or_have_a_fault,
+    texts_have_one_fault,
+};
 pub use lexer::tokens;
-pub use token::{LexErr, Lexeme, Symbol, Token};
+pub use token::{LexErr, Lexeme, Literal, Symbol, Token};

@@ -22,8 +22,14 @@ fn write_lexeme(out: &mut String, lexeme: &Lexeme) -> Result<(), AllocError> {
                 out.push(char::from(*byte))?;
             }
         }
-        Lexeme::Reserved => out.push_str("reserved")?,
         Lexeme::Decimal(value) => write!(out, "{value}")?,
+        Lexeme::Integer { value, int_type } => write!(out, "{value} {int_type:?}")?,
+        Lexeme::Literal(literal) => {
+            out.push_str("text")?;
+            for byte in literal.bytes() {
+                write!(out, " {byte}")?;
+            }
+        }
         Lexeme::Character(byte) => write!(out, "byte {byte}")?,
         Lexeme::EndOfText => out.push_str("end")?,
     }
@@ -80,16 +86,26 @@ fn are_refused(
 #[test]
 fn refuses_numbers(rt: HostRuntime) -> Result<(), Fail> {
     let texts = [
-        "010",
-        "00",
-        "0x",
         "08",
-        "1u",
+        "0x",
+        "0xg",
+        "0xu",
         "12ab",
         "1.5",
+        "1.",
         "0xE+1",
         "1e-5",
-        "2147483648",
+        "1_0",
+        "1uu",
+        "1ll",
+        "1lul",
+        "1ulu",
+        "0b1",
+        "9223372036854775808",
+        "9223372036854775808l",
+        "18446744073709551616u",
+        "0x10000000000000000",
+        "02000000000000000000000",
         "99999999999999999999",
     ];
     are_refused(&rt, rt.alloc(), "BadLiteral", &texts)?;
@@ -97,7 +113,7 @@ fn refuses_numbers(rt: HostRuntime) -> Result<(), Fail> {
 }
 
 #[test]
-fn refuses_bad_characters(rt: HostRuntime) -> Result<(), Fail> {
+fn refuses_bad_constants(rt: HostRuntime) -> Result<(), Fail> {
     let texts = [
         "''",
         "'''",
@@ -114,15 +130,23 @@ fn refuses_bad_characters(rt: HostRuntime) -> Result<(), Fail> {
         "'\\x100'",
         "'\\x100 1",
         "'\\x1g'",
+        "'\\\r\n'",
+        "\"\\q",
+        "\"\\q\"",
+        "\"\\400\"",
+        "\"a\\x100\n",
+        "\"\\xg\"",
+        "\"\\8\"",
     ];
     are_refused(&rt, rt.alloc(), "BadLiteral", &texts)?;
     Ok(())
 }
 
 #[test]
-fn refuses_open_characters(rt: HostRuntime) -> Result<(), Fail> {
+fn refuses_what_is_open(rt: HostRuntime) -> Result<(), Fail> {
     let texts = [
-        "'", "'ab", "'a\n'", "'\\", "'\\\n'", "'\\'", "'\\1234", "'\\x1g\n",
+        "'", "'ab", "'a\n'", "'\\", "'\\\n'", "'\\'", "'\\1234", "'\\x1g\n", "\"", "\"\n\"",
+        "\"a\n", "\"\\", "\"\\\n\"", "\"\\\"", "/*", "/* a", "/*/", "/* * /", "/* a *", "/*\n\n#",
     ];
     are_refused(&rt, rt.alloc(), "Unclosed", &texts)?;
     Ok(())
@@ -130,72 +154,212 @@ fn refuses_open_characters(rt: HostRuntime) -> Result<(), Fail> {
 
 #[test]
 fn refuses_other_bytes(rt: HostRuntime) -> Result<(), Fail> {
-    let texts = [
-        "//",
-        "// a",
-        "/**/",
-        "/*",
-        "\"text\"",
-        "#include <stdio.h>",
-        "&",
-        "& &",
-        "&a",
-        "&=",
-        "|",
-        "|=",
-        "^",
-        "~",
-        "?",
-        ":",
-        ",",
-        "[",
-        ".5",
-        "$",
-        "@",
-        "`",
-        "\\",
-        "\0",
-        "\u{7f}",
-        "\u{e9}",
-    ];
+    let texts = ["$", "@", "`", "\\", "\\\n", "\0", "\u{7f}", "\u{e9}"];
     are_refused(&rt, rt.alloc(), "BadByte", &texts)?;
     Ok(())
 }
 
 #[test]
-fn refuses_the_first_fault(rt: HostRuntime) -> Result<(), Fail> {
+fn refuses_directives(rt: HostRuntime) -> Result<(), Fail> {
+    let texts = [
+        "#",
+        "#\n",
+        "#define X",
+        "#include",
+        "#include <string.h>",
+        "#include \"stdio.h\"",
+        "#include < stdio.h>",
+        "#include <stdio.h> // a",
+        "#include <stdio.h> /**/",
+        "#include <stdio.h>\r ",
+        "#include <stdio.h>\r\r",
+        "#include <stdio.h",
+        "#inc lude <stdio.h>",
+        "#include\u{b}<stdio.h>",
+        "##include <stdio.h>",
+        "#include <STDIO.h>",
+        "#include <stdio.h>;",
+    ];
+    are_refused(&rt, rt.alloc(), "BadDirective", &texts)?;
+    Ok(())
+}
+
+#[test]
+fn passes_directives_and_comments(rt: HostRuntime) -> Result<(), Fail> {
     let rows = [
-        ("int main(void) { return 0x; }", "BadLiteral 1:25"),
-        ("int main(void) { return 08; }", "BadLiteral 1:25"),
-        ("int\r\n\t\u{b}\u{c} main\n  (\u{7f}", "BadByte 3:4"),
-        ("0 08 # '", "BadLiteral 1:3"),
-        ("a[0] 08", "BadByte 1:2"),
-        ("'a' 'b\n 08", "Unclosed 1:5"),
-        ("a\n  //", "BadByte 2:3"),
-        ("a = 1;\n/* b */", "BadByte 2:1"),
-        ("a/ //", "BadByte 1:4"),
-        ("a&&&b", "BadByte 1:4"),
-        ("a|||b", "BadByte 1:4"),
-        ("a & b", "BadByte 1:3"),
+        ("#include <stdio.h>", "1:19 end"),
+        (
+            "#include <stdio.h>\n \t# \t include <stdlib.h> \t\r\n#include<stddef.h>\n a",
+            "4:2 a, 4:3 end",
+        ),
+        ("a\n#include <stdio.h>\nb", "1:1 a, 3:1 b, 3:2 end"),
+        ("/* x\n#define y */ a", "2:14 a, 2:15 end"),
+        ("a/**/b", "1:1 a, 1:6 b, 1:7 end"),
+        ("/***/a/* * / */b", "1:6 a, 1:16 b, 1:17 end"),
+        ("// a /* b\nc", "2:1 c, 2:2 end"),
+        ("// a \\\nc", "2:1 c, 2:2 end"),
+        ("/* // */a", "1:9 a, 1:10 end"),
+        ("/* \u{e9} */ // \u{e9}", "1:15 end"),
+        ("a//", "1:1 a, 1:4 end"),
+        ("\"/*\" a", "1:1 text 47 42, 1:6 a, 1:7 end"),
     ];
     are_listed(&rt, rt.alloc(), &rows)?;
     Ok(())
 }
 
 #[test]
-fn finds_each_symbol(rt: HostRuntime) -> Result<(), Fail> {
+fn refuses_the_first_fault(rt: HostRuntime) -> Result<(), Fail> {
+    let rows = [
+        ("\u{1} int main(void){return 0;}", "BadByte 1:1"),
+        ("\u{e9} int main(void){return 0;}", "BadByte 1:1"),
+        ("/* open int main(void){return 0;}", "Unclosed 1:1"),
+        ("int a; /*/  int main(void){return 0;}", "Unclosed 1:8"),
+        ("int a = 'a;\n int main(void){return 0;}", "Unclosed 1:9"),
+        ("int a = 'ab'; int main(void){return 0;}", "BadLiteral 1:9"),
+        ("int a = '\\q'; int main(void){return 0;}", "BadLiteral 1:9"),
+        (
+            "char *s = \"\\q\n int main(void){return 0;}",
+            "BadLiteral 1:11",
+        ),
+        (
+            "int a = '\\x100'; int main(void){return 0;}",
+            "BadLiteral 1:9",
+        ),
+        ("int a = 0xE+1; int main(void){return 0;}", "BadLiteral 1:9"),
+        ("int a = 1.5; int main(void){return 0;}", "BadLiteral 1:9"),
+        ("int a = 1_0; int main(void){return 0;}", "BadLiteral 1:9"),
+        (
+            "long a = 9223372036854775808; int main(void){return 0;}",
+            "BadLiteral 1:10",
+        ),
+        (
+            "long a = 0x10000000000000000; int main(void){return 0;}",
+            "BadLiteral 1:10",
+        ),
+        (
+            "long a = 9223372036854775808l; int main(void){return 0;}",
+            "BadLiteral 1:10",
+        ),
+        (
+            "#include <string.h>\n int main(void){return 0;}",
+            "BadDirective 1:1",
+        ),
+        (
+            "  #define X\n int main(void){return 0;}",
+            "BadDirective 1:3",
+        ),
+        (
+            "#include < stdio.h>\n int main(void){return 0;}",
+            "BadDirective 1:1",
+        ),
+        (
+            "\u{c}#include <stdio.h>\n int main(void){return 0;}",
+            "BadByte 1:2",
+        ),
+        ("int main(void) { return 0x; }", "BadLiteral 1:25"),
+        ("int main(void) { return 08; }", "BadLiteral 1:25"),
+        ("int\r\n\t\u{b}\u{c} main\n  (\u{7f}", "BadByte 3:4"),
+        ("0 08 # '", "BadLiteral 1:3"),
+        ("a # 08", "BadByte 1:3"),
+        ("/**/#include <stdio.h>", "BadByte 1:5"),
+        ("/*\n*/ #include <stdio.h>", "BadByte 2:4"),
+        ("\u{b}#", "BadByte 1:2"),
+        ("\r#", "BadByte 1:2"),
+        ("'a' 'b\n 08", "Unclosed 1:5"),
+        ("a\n \t# b", "BadDirective 2:3"),
+        ("a\n /* b", "Unclosed 2:2"),
+    ];
+    are_listed(&rt, rt.alloc(), &rows)?;
+    Ok(())
+}
+
+#[test]
+fn finds_each_keyword(rt: HostRuntime) -> Result<(), Fail> {
     let rows = [
         (
-            "int void if else while return main getchar putchar EOF",
-            "1:1 Int, 1:5 Void, 1:10 If, 1:13 Else, 1:18 While, 1:24 Return, 1:31 Main, 1:36 GetChar, 1:44 PutChar, 1:52 EndOfFile, 1:55 end",
+            "auto break case char",
+            "1:1 Auto, 1:6 Break, 1:12 Case, 1:17 Char, 1:21 end",
         ),
         (
-            "(){};=!*/%+-<>",
-            "1:1 OpenParenthesis, 1:2 CloseParenthesis, 1:3 OpenBrace, 1:4 CloseBrace, 1:5 Semicolon, 1:6 Equal, 1:7 Exclamation, 1:8 Star, 1:9 Slash, 1:10 Percent, 1:11 Plus, 1:12 Minus, 1:13 Less, 1:14 Greater, 1:15 end",
+            "const continue default do",
+            "1:1 Const, 1:7 Continue, 1:16 Default, 1:24 Do, 1:26 end",
         ),
         (
-            "<= >= == != && ||",
-            "1:1 LessEqual, 1:4 GreaterEqual, 1:7 EqualEqual, 1:10 ExclamationEqual, 1:13 AmpersandAmpersand, 1:16 BarBar, 1:18 end",
+            "double else enum extern",
+            "1:1 Double, 1:8 Else, 1:13 Enum, 1:18 Extern, 1:24 end",
+        ),
+        (
+            "float for goto if",
+            "1:1 Float, 1:7 For, 1:11 Goto, 1:16 If, 1:18 end",
+        ),
+        (
+            "inline int long register",
+            "1:1 Inline, 1:8 Int, 1:12 Long, 1:17 Register, 1:25 end",
+        ),
+        (
+            "restrict return short signed",
+            "1:1 Restrict, 1:10 Return, 1:17 Short, 1:23 Signed, 1:29 end",
+        ),
+        (
+            "sizeof static struct switch",
+            "1:1 SizeOf, 1:8 Static, 1:15 Struct, 1:22 Switch, 1:28 end",
+        ),
+        (
+            "typedef union unsigned void",
+            "1:1 TypeDef, 1:9 Union, 1:15 Unsigned, 1:24 Void, 1:28 end",
+        ),
+        ("volatile while", "1:1 Volatile, 1:10 While, 1:15 end"),
+        (
+            "_Alignas _Alignof _Atomic",
+            "1:1 Alignas, 1:10 Alignof, 1:19 Atomic, 1:26 end",
+        ),
+        (
+            "_Bool _Complex _Generic",
+            "1:1 Bool, 1:7 Complex, 1:16 Generic, 1:24 end",
+        ),
+        (
+            "_Imaginary _Noreturn",
+            "1:1 Imaginary, 1:12 Noreturn, 1:21 end",
+        ),
+        (
+            "_Static_assert _Thread_local",
+            "1:1 StaticAssert, 1:16 ThreadLocal, 1:29 end",
+        ),
+        (
+            "NULL EOF main getchar putchar",
+            "1:1 Null, 1:6 EndOfFile, 1:10 Main, 1:15 GetChar, 1:23 PutChar, 1:30 end",
+        ),
+    ];
+    are_listed(&rt, rt.alloc(), &rows)?;
+    Ok(())
+}
+
+#[test]
+fn finds_each_punctuator(rt: HostRuntime) -> Result<(), Fail> {
+    let rows = [
+        (
+            "(){}[];,:?.~",
+            "1:1 OpenParenthesis, 1:2 CloseParenthesis, 1:3 OpenBrace, 1:4 CloseBrace, 1:5 OpenBracket, 1:6 CloseBracket, 1:7 Semicolon, 1:8 Comma, 1:9 Colon, 1:10 Question, 1:11 Dot, 1:12 Tilde, 1:13 end",
+        ),
+        (
+            "-> ++ -- & * + - !",
+            "1:1 Arrow, 1:4 PlusPlus, 1:7 MinusMinus, 1:10 Ampersand, 1:12 Star, 1:14 Plus, 1:16 Minus, 1:18 Exclamation, 1:19 end",
+        ),
+        (
+            "/ % << >> < > <= >=",
+            "1:1 Slash, 1:3 Percent, 1:5 LessLess, 1:8 GreaterGreater, 1:11 Less, 1:13 Greater, 1:15 LessEqual, 1:18 GreaterEqual, 1:20 end",
+        ),
+        (
+            "== != ^ | && || =",
+            "1:1 EqualEqual, 1:4 ExclamationEqual, 1:7 Caret, 1:9 Bar, 1:11 AmpersandAmpersand, 1:14 BarBar, 1:17 Equal, 1:18 end",
+        ),
+        (
+            "*= /= %= += -=",
+            "1:1 StarEqual, 1:4 SlashEqual, 1:7 PercentEqual, 1:10 PlusEqual, 1:13 MinusEqual, 1:15 end",
+        ),
+        (
+            "<<= >>= &= ^= |=",
+            "1:1 LessLessEqual, 1:5 GreaterGreaterEqual, 1:9 AmpersandEqual, 1:12 CaretEqual, 1:15 BarEqual, 1:17 end",
         ),
     ];
     are_listed(&rt, rt.alloc(), &rows)?;
@@ -207,25 +371,35 @@ fn takes_the_longest_piece(rt: HostRuntime) -> Result<(), Fail> {
     let rows = [
         ("a<=b", "1:1 a, 1:2 LessEqual, 1:4 b, 1:5 end"),
         ("a< =b", "1:1 a, 1:2 Less, 1:4 Equal, 1:5 b, 1:6 end"),
-        ("!=", "1:1 ExclamationEqual, 1:3 end"),
-        ("! =", "1:1 Exclamation, 1:3 Equal, 1:4 end"),
-        ("==", "1:1 EqualEqual, 1:3 end"),
         ("===", "1:1 EqualEqual, 1:3 Equal, 1:4 end"),
-        ("!!=", "1:1 Exclamation, 1:2 ExclamationEqual, 1:4 end"),
-        ("<<=", "1:1 Less, 1:2 LessEqual, 1:4 end"),
+        ("<<<=", "1:1 LessLess, 1:3 LessEqual, 1:5 end"),
+        (">>>=", "1:1 GreaterGreater, 1:3 GreaterEqual, 1:5 end"),
         (
-            "a&&b||c",
-            "1:1 a, 1:2 AmpersandAmpersand, 1:4 b, 1:5 BarBar, 1:7 c, 1:8 end",
+            "a+++++b",
+            "1:1 a, 1:2 PlusPlus, 1:4 PlusPlus, 1:6 Plus, 1:7 b, 1:8 end",
         ),
-        ("--5", "1:1 Minus, 1:2 Minus, 1:3 5, 1:4 end"),
-        ("-1", "1:1 Minus, 1:2 1, 1:3 end"),
-        ("a++b", "1:1 a, 1:2 Plus, 1:3 Plus, 1:4 b, 1:5 end"),
-        ("a/b", "1:1 a, 1:2 Slash, 1:3 b, 1:4 end"),
+        ("--5", "1:1 MinusMinus, 1:3 5, 1:4 end"),
+        ("a->b", "1:1 a, 1:2 Arrow, 1:4 b, 1:5 end"),
+        (
+            "a-->b",
+            "1:1 a, 1:2 MinusMinus, 1:4 Greater, 1:5 b, 1:6 end",
+        ),
+        (
+            "a&&&b",
+            "1:1 a, 1:2 AmpersandAmpersand, 1:4 Ampersand, 1:5 b, 1:6 end",
+        ),
+        ("a...", "1:1 a, 1:2 Dot, 1:3 Dot, 1:4 Dot, 1:5 end"),
+        (
+            "<:%>",
+            "1:1 Less, 1:2 Colon, 1:3 Percent, 1:4 Greater, 1:5 end",
+        ),
         ("a/ *b", "1:1 a, 1:2 Slash, 1:4 Star, 1:5 b, 1:6 end"),
         ("*/", "1:1 Star, 1:2 Slash, 1:3 end"),
         ("1-1", "1:1 1, 1:2 Minus, 1:3 1, 1:4 end"),
-        ("int a", "1:1 Int, 1:5 a, 1:6 end"),
-        ("inta", "1:1 inta, 1:5 end"),
+        ("0xF+1", "1:1 15, 1:4 Plus, 1:5 1, 1:6 end"),
+        (".5", "1:1 Dot, 1:2 5, 1:3 end"),
+        ("a.b", "1:1 a, 1:2 Dot, 1:3 b, 1:4 end"),
+        ("inta int1", "1:1 inta, 1:6 int1, 1:10 end"),
     ];
     are_listed(&rt, rt.alloc(), &rows)?;
     Ok(())
@@ -240,8 +414,14 @@ fn finds_each_name(rt: HostRuntime) -> Result<(), Fail> {
             "whil whiles eof",
             "1:1 whil, 1:6 whiles, 1:13 eof, 1:16 end",
         ),
-        ("Main getchars", "1:1 Main, 1:6 getchars, 1:14 end"),
-        ("null Free _Boo", "1:1 null, 1:6 Free, 1:11 _Boo, 1:15 end"),
+        (
+            "malloc free exit",
+            "1:1 malloc, 1:8 free, 1:13 exit, 1:17 end",
+        ),
+        (
+            "null Main _Boo Alignas",
+            "1:1 null, 1:6 Main, 1:11 _Boo, 1:16 Alignas, 1:23 end",
+        ),
         ("az AZ_09", "1:1 az, 1:4 AZ_09, 1:9 end"),
     ];
     are_listed(&rt, rt.alloc(), &rows)?;
@@ -249,68 +429,75 @@ fn finds_each_name(rt: HostRuntime) -> Result<(), Fail> {
 }
 
 #[test]
-fn reserves_other_keywords(rt: HostRuntime) -> Result<(), Fail> {
-    let words = [
-        "auto",
-        "break",
-        "case",
-        "char",
-        "const",
-        "continue",
-        "default",
-        "do",
-        "double",
-        "enum",
-        "extern",
-        "float",
-        "for",
-        "goto",
-        "inline",
-        "long",
-        "register",
-        "restrict",
-        "short",
-        "signed",
-        "sizeof",
-        "static",
-        "struct",
-        "switch",
-        "typedef",
-        "union",
-        "unsigned",
-        "volatile",
-        "_Alignas",
-        "_Alignof",
-        "_Atomic",
-        "_Bool",
-        "_Complex",
-        "_Generic",
-        "_Imaginary",
-        "_Noreturn",
-        "_Static_assert",
-        "_Thread_local",
-        "NULL",
-        "malloc",
-        "free",
-        "exit",
-    ];
-    for word in words {
-        let text = format!(in rt.alloc(); "\n{word}\n")?;
-        let found = listing(&rt, rt.alloc(), text.as_bytes())?;
-        assert_eq!(rt; found.as_str(), "2:1 reserved, 3:1 end", "{word}");
-    }
-    Ok(())
-}
-
-#[test]
-fn finds_each_number(rt: HostRuntime) -> Result<(), Fail> {
+fn gives_each_number_its_type(rt: HostRuntime) -> Result<(), Fail> {
     let rows = [
         ("0 1 10", "1:1 0, 1:3 1, 1:5 10, 1:7 end"),
         ("2147483647", "1:1 2147483647, 1:11 end"),
+        ("2147483648", "1:1 2147483648 Long, 1:11 end"),
+        (
+            "9223372036854775807",
+            "1:1 9223372036854775807 Long, 1:20 end",
+        ),
+        ("010 00 0777", "1:1 8, 1:5 0, 1:8 511, 1:12 end"),
+        ("0x1F 0XaB", "1:1 31, 1:6 171, 1:10 end"),
+        (
+            "0x7FFFFFFF 0x80000000",
+            "1:1 2147483647, 1:12 2147483648 UInt, 1:22 end",
+        ),
+        ("0xFFFFFFFF", "1:1 4294967295 UInt, 1:11 end"),
+        ("0x100000000", "1:1 4294967296 Long, 1:12 end"),
+        (
+            "0x8000000000000000",
+            "1:1 9223372036854775808 ULong, 1:19 end",
+        ),
+        (
+            "0xFFFFFFFFFFFFFFFF",
+            "1:1 18446744073709551615 ULong, 1:19 end",
+        ),
+        (
+            "01777777777777777777777",
+            "1:1 18446744073709551615 ULong, 1:24 end",
+        ),
+        ("1u 1U", "1:1 1 UInt, 1:4 1 UInt, 1:6 end"),
+        (
+            "4294967295u 4294967296u",
+            "1:1 4294967295 UInt, 1:13 4294967296 ULong, 1:24 end",
+        ),
+        (
+            "18446744073709551615u",
+            "1:1 18446744073709551615 ULong, 1:22 end",
+        ),
+        ("1l 0L", "1:1 1 Long, 1:4 0 Long, 1:6 end"),
+        (
+            "0x8000000000000000l",
+            "1:1 9223372036854775808 ULong, 1:20 end",
+        ),
+        (
+            "1lu 1UL 1Lu 0ul",
+            "1:1 1 ULong, 1:5 1 ULong, 1:9 1 ULong, 1:13 0 ULong, 1:16 end",
+        ),
         (
             "0;9(",
             "1:1 0, 1:2 Semicolon, 1:3 9, 1:4 OpenParenthesis, 1:5 end",
         ),
+    ];
+    are_listed(&rt, rt.alloc(), &rows)?;
+    Ok(())
+}
+
+#[test]
+fn finds_each_literal(rt: HostRuntime) -> Result<(), Fail> {
+    let rows = [
+        ("\"\"", "1:1 text, 1:3 end"),
+        ("\"ab'\"", "1:1 text 97 98 39, 1:6 end"),
+        ("\"a\" \"b\"", "1:1 text 97, 1:5 text 98, 1:8 end"),
+        (
+            "\"\\n\\0\\12a\\1234\"",
+            "1:1 text 10 0 10 97 83 52, 1:16 end",
+        ),
+        ("\"\\x41g\\x00000fF\"", "1:1 text 65 103 255, 1:17 end"),
+        ("\"\u{e9}\t#\"", "1:1 text 195 169 9 35, 1:7 end"),
+        ("\"\\\"\\\\\"a", "1:1 text 34 92, 1:7 a, 1:8 end"),
     ];
     are_listed(&rt, rt.alloc(), &rows)?;
     Ok(())
@@ -399,6 +586,10 @@ fn refuses_long_tokens(rt: HostRuntime) -> Result<(), Fail> {
         ("", "1", 1_000_000, "BadLiteral 1:1"),
         ("'", "a", 1_000_000, "Unclosed 1:1"),
         ("'\\x", "0", 1_000_000, "Unclosed 1:1"),
+        ("\"\\1", "1", 1_000_000, "Unclosed 1:1"),
+        ("\n/*", "*", 1_000_000, "Unclosed 2:1"),
+        ("//", "/", 1_000_000, "1:1000003 end"),
+        ("#", " ", 1_000_000, "BadDirective 1:1"),
         ("\n", " ", 1_000_000, "2:1000001 end"),
         ("", "\n", 1_000_000, "1000001:1 end"),
     ];

@@ -1,5 +1,6 @@
 use Rattle.std.proofs.Common.{◌≡◌, ◌+◌, ◌*◌, drop, get_or, sym, ap, ◌∙◌, arith, lit≤, false-eqb}
-use Rattle.c_lexer.specs.Tokens.{is_hexadecimal_digit, hexadecimal_value}
+use Rattle.c_lexer.specs.Classes.{is_hexadecimal_digit}
+use Rattle.c_lexer.specs.Constants.{hexadecimal_value}
 use Rattle.c_lexer.proofs.Values.{byte_from, hexadecimal_is, hexadecimal_digit_some, byte_more, byte_too_large, byte_done}
 use Rattle.c_lexer.proofs.characters.hexadecimal_byte.Goals as goal
 

@@ -1,5 +1,6 @@
 use Rattle.std.proofs.Common.{◌≡◌, ◌<◌, drop}
-use Rattle.c_lexer.specs.Tokens.{is_hexadecimal_digit, hexadecimal_value}
+use Rattle.c_lexer.specs.Classes.{is_hexadecimal_digit}
+use Rattle.c_lexer.specs.Constants.{hexadecimal_value}
 use Rattle.c_lexer.proofs.Values.{byte_from}
 use Rattle.c_lexer.proofs.characters.hexadecimal_byte.Given as goal
 

@@ -1,5 +1,5 @@
 use Rattle.std.proofs.Common.{◌-◌, sym, ◌∙◌, arith, lit≤}
-use Rattle.c_lexer.specs.Tokens.{is_octal_digit}
+use Rattle.c_lexer.specs.Classes.{is_octal_digit}
 use Rattle.c_lexer.proofs.Values.{octal_is, byte_too_large, byte_done}
 use Rattle.c_lexer.proofs.characters.octal_byte.Goals as goal
 

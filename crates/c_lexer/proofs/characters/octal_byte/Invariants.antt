@@ -1,5 +1,5 @@
 use Rattle.std.proofs.Common.{◌≡◌, ◌<◌, ◌-◌, drop}
-use Rattle.c_lexer.specs.Tokens.{is_octal_digit}
+use Rattle.c_lexer.specs.Classes.{is_octal_digit}
 use Rattle.c_lexer.proofs.Values.{byte_from}
 use Rattle.c_lexer.proofs.characters.octal_byte.Given as goal
 

@@ -1,60 +1,88 @@
-use Rattle.std.proofs.Common.{sym, ap, ◌∙◌, arith, length-take-le}
-use Rattle.std.proofs.lemmas.List.{take_rest, map_push, nil_from_length}
-use Rattle.std.proofs.lemmas.Result.{err_from_is_err_and}
-use Rattle.std.proofs.ResultArms.{chosen}
+use Rattle.std.proofs.Common.{◌≤◌, length, sym, refl, ap, ◌∙◌, arith, false-eqb, eqb-true, length-drop, length-take-le}
+use Rattle.std.proofs.lemmas.List.{map_push, nil_from_length}
+use Rattle.run_theory.specs.Places.{place_behind}
 use Rattle.c_lexer.specs.Leaves.{leaves_of}
-use Rattle.c_lexer.specs.Pieces.{HasNoToken}
-use Rattle.c_lexer.proofs.Dividing.{cut_space, cut_token, cut_end, cut_end_only, cut_refused, only_unless_memory}
-use Rattle.c_lexer.proofs.Spans.{stand_space, stand_token, placed_space, placed_token, placed_room}
+use Rattle.c_lexer.specs.Tokens.{line_behind}
+use Rattle.c_lexer.proofs.Widths.{front_within}
+use Rattle.c_lexer.proofs.Dividing.{cut_first, cut_step, cut_end, cut_refused, refused_only, one_division}
+use Rattle.c_lexer.proofs.Spans.{stand_first, stand_step, stand_end, placed_first, placed_token, placed_room, stand_room}
 use Rattle.c_lexer.proofs.lexer.tokens.Goals as goal
 
-pub after-place-requires-clause-line_room : goal.after-place-requires-clause-line_room
-after-place-requires-clause-line_room c = omega (arith, (placed_room c.args.text.now c.loop-first.place c.loop-first.rest.now c.loop-first.invariant.placed).0)
+pub loop-rest-init : goal.loop-rest-init
+loop-rest-init c = record {
+  cut = cut_first c.args.text.now _ c.start-place.result c.new-found.ensures.items c.start-place.ensures;
+  stand = stand_first c.args.text.now _ c.new-found.ensures.items;
+  placed = placed_first c.args.text.now c.start-place.result c.start-place.ensures;
+}
 
-pub after-place-requires-clause-column_room : goal.after-place-requires-clause-column_room
-after-place-requires-clause-column_room c = omega (arith, (placed_room c.args.text.now c.loop-first.place c.loop-first.rest.now c.loop-first.invariant.placed).1)
+pub returns-in-Err-clause-refused : goal.returns-in-Err-clause-refused
+returns-in-Err-clause-refused c =
+    let some : 1 ≤ length c.loop-rest.rest.now = omega (arith, false-eqb _ 0 c.loop-rest-test.ensures) in
+    cut_refused c.args.text.now _ c.loop-rest.line c.loop-rest.place c.loop-rest.rest.now c.in-Err.error some c.in-Err.ensures.refused c.loop-rest.invariant.cut
 
-pub loop-first-preserved-then-is_space : goal.loop-first-preserved-then-is_space
-loop-first-preserved-then-is_space c =
-    let begins = c.in-Some.ensures.cases.0 in
-    let after = c.after-place.ensures in
-    record {
-      cut = cut_space _ _ _ _ _ _ _ begins after (sym c.if-is_space.ensures) c.loop-first.invariant.cut;
-      stand = stand_space _ _ _ _ _ _ begins c.loop-first.invariant.stand;
-      placed = placed_space _ _ _ _ _ _ begins after c.loop-first.invariant.placed;
-    }
+pub returns-in-Err-clause-only : goal.returns-in-Err-clause-only
+returns-in-Err-clause-only c = λ leaves divides.
+    let some : 1 ≤ length c.loop-rest.rest.now = omega (arith, false-eqb _ 0 c.loop-rest-test.ensures) in
+    refused_only c.args.text.now c.in-Err.error leaves (cut_refused c.args.text.now _ c.loop-rest.line c.loop-rest.place c.loop-rest.rest.now c.in-Err.error some c.in-Err.ensures.refused c.loop-rest.invariant.cut) divides
 
-pub returns-in_err-piece-clause-only : goal.returns-in_err-piece-clause-only
-returns-in_err-piece-clause-only c = λ leaves divides.
-    let none = λ (rest_has_none : HasNoToken c.loop-first.rest.now). cut_refused _ _ _ _ _ _ c.in-Some.ensures.cases.0 (sym c.if-is_space.ensures) rest_has_none c.loop-first.invariant.cut leaves divides in
-    let given = err_from_is_err_and c.from_residual.result c.from_residual.ensures.1 in
-    rw (given.1, given.2) (only_unless_memory _ (HasNoToken c.loop-first.rest.now) leaves c.in_err-piece.ensures.refused none)
+pub keep-requires : goal.keep-requires
+keep-requires c =
+    let some : 1 ≤ length c.loop-rest.rest.now = omega (arith, false-eqb _ 0 c.loop-rest-test.ensures) in
+    let fits = front_within c.loop-rest.line c.loop-rest.place c.loop-rest.rest.now c.in-Ok.front some c.in-Ok.ensures.found in
+    let room = stand_room c.args.text.now _ c.loop-rest.start c.loop-rest.rest.now c.loop-rest.invariant.stand in
+    omega (arith, fits.1, room)
+
+pub split_at-requires : goal.split_at-requires
+split_at-requires c =
+    let some : 1 ≤ length c.loop-rest.rest.now = omega (arith, false-eqb _ 0 c.loop-rest-test.ensures) in
+    let fits = front_within c.loop-rest.line c.loop-rest.place c.loop-rest.rest.now c.in-Ok.front some c.in-Ok.ensures.found in
+    omega (arith, fits.1, c.width-width.ensures)
 
 pub behind-place-requires-clause-line_room : goal.behind-place-requires-clause-line_room
 behind-place-requires-clause-line_room c =
-    omega (arith, c.in_ok-piece.ensures.found.within, (placed_room c.args.text.now c.loop-first.place c.loop-first.rest.now c.loop-first.invariant.placed).0, length-take-le c.in_ok-piece.piece.length c.loop-first.rest.now)
+    let some : 1 ≤ length c.loop-rest.rest.now = omega (arith, false-eqb _ 0 c.loop-rest-test.ensures) in
+    let fits = front_within c.loop-rest.line c.loop-rest.place c.loop-rest.rest.now c.in-Ok.front some c.in-Ok.ensures.found in
+    let room = placed_room c.args.text.now c.loop-rest.place c.loop-rest.rest.now c.loop-rest.invariant.placed in
+    omega (arith, fits.1, c.width-width.ensures, room.0, ap length c.split_at.ensures.front, length-take-le c.width-width.result c.loop-rest.rest.now)
 
 pub behind-place-requires-clause-column_room : goal.behind-place-requires-clause-column_room
 behind-place-requires-clause-column_room c =
-    omega (arith, c.in_ok-piece.ensures.found.within, (placed_room c.args.text.now c.loop-first.place c.loop-first.rest.now c.loop-first.invariant.placed).1, length-take-le c.in_ok-piece.piece.length c.loop-first.rest.now)
+    let some : 1 ≤ length c.loop-rest.rest.now = omega (arith, false-eqb _ 0 c.loop-rest-test.ensures) in
+    let fits = front_within c.loop-rest.line c.loop-rest.place c.loop-rest.rest.now c.in-Ok.front some c.in-Ok.ensures.found in
+    let room = placed_room c.args.text.now c.loop-rest.place c.loop-rest.rest.now c.loop-rest.invariant.placed in
+    omega (arith, fits.1, c.width-width.ensures, room.1, ap length c.split_at.ensures.front, length-take-le c.width-width.result c.loop-rest.rest.now)
 
-pub loop-first-preserved : goal.loop-first-preserved
-loop-first-preserved c =
-    let first = c.in_ok-piece.ensures.found in
-    let begins = c.in-Some.ensures.cases.0 in
-    let behind = c.behind-place.ensures in
-    let after = take_rest c.loop-first.rest.now c.in_ok-piece.piece.length in
-    let pushed = chosen _ _ _ _ c.push.ensures.items c.if-is_err.ensures.negation in
+pub loop-rest-smaller : goal.loop-rest-smaller
+loop-rest-smaller c =
+    let some : 1 ≤ length c.loop-rest.rest.now = omega (arith, false-eqb _ 0 c.loop-rest-test.ensures) in
+    let fits = front_within c.loop-rest.line c.loop-rest.place c.loop-rest.rest.now c.in-Ok.front some c.in-Ok.ensures.found in
+    let left = length-drop c.width-width.result c.loop-rest.rest.now in
+    omega (arith, some, fits.0, fits.1, c.width-width.ensures, ap length c.split_at.ensures.back, left)
+
+pub loop-rest-preserved : goal.loop-rest-preserved
+loop-rest-preserved c =
+    let some : 1 ≤ length c.loop-rest.rest.now = omega (arith, false-eqb _ 0 c.loop-rest-test.ensures) in
+    let width = c.width-width.result in
+    let counted = c.width-width.ensures in
+    let kept = c.in-Ok-keep.ensures.kept in
+    let taken = c.split_at.ensures.front in
+    let after = c.split_at.ensures.back in
+    let goes = c.line_behind-line.ensures ∙ ap (λ bytes. line_behind c.loop-rest.line bytes) taken in
+    let past = c.behind-place.ensures ∙ ap (λ bytes. place_behind c.loop-rest.place bytes) taken in
     record {
-      cut = cut_token _ _ _ _ _ _ _ _ _ _ _ (ap leaves_of pushed ∙ map_push _ _ _) behind after begins (sym c.if-is_space.ensures) first c.loop-first.invariant.cut;
-      stand = stand_token _ _ _ _ _ _ _ _ _ pushed after first c.loop-first.invariant.stand;
-      placed = placed_token _ _ _ _ _ _ behind after c.loop-first.invariant.placed;
+      cut = cut_step c.args.text.now c.loop-rest.found.items c.keep.new.found.items c.loop-rest.line c.line_behind-line.result c.loop-rest.place c.behind-place.result c.loop-rest.rest.now _ c.in-Ok.front c.loop-rest.start width counted kept goes past after some c.in-Ok.ensures.found c.loop-rest.invariant.cut;
+      stand = stand_step c.args.text.now c.loop-rest.found.items c.keep.new.found.items c.loop-rest.start _ c.loop-rest.rest.now _ c.loop-rest.line c.loop-rest.place c.in-Ok.front width counted kept after refl some c.in-Ok.ensures.found c.loop-rest.invariant.stand;
+      placed = placed_token c.args.text.now c.loop-rest.place c.behind-place.result c.loop-rest.rest.now _ width past after c.loop-rest.invariant.placed;
     }
 
-pub returns-in-Ok-clause-found : goal.returns-in-Ok-clause-found
-returns-in-Ok-clause-found c =
-    cut_end _ _ _ _ _ (ap leaves_of c.in-Ok.ensures.items ∙ map_push _ _ _) (nil_from_length _ c.in_default.ensures.cases) c.loop-first.invariant.cut
+pub returns-in-Ok-push-clause-found : goal.returns-in-Ok-push-clause-found
+returns-in-Ok-push-clause-found c =
+    cut_end _ _ _ c.loop-rest.line c.loop-rest.place c.loop-rest.rest.now (ap leaves_of c.in-Ok-push.ensures.items ∙ map_push _ _ _) (nil_from_length _ (eqb-true _ 0 (sym c.loop-rest-test.ensures))) c.loop-rest.invariant.cut
 
-pub returns-in-Ok-clause-only : goal.returns-in-Ok-clause-only
-returns-in-Ok-clause-only c = λ leaves divides.
-    cut_end_only _ _ _ _ _ (ap leaves_of c.in-Ok.ensures.items ∙ map_push _ _ _) (nil_from_length _ c.in_default.ensures.cases) c.loop-first.invariant.cut leaves divides
+pub returns-in-Ok-push-clause-spans : goal.returns-in-Ok-push-clause-spans
+returns-in-Ok-push-clause-spans c =
+    stand_end _ _ _ c.loop-rest.start c.loop-rest.rest.now c.loop-rest.place c.in-Ok-push.ensures.items (nil_from_length _ (eqb-true _ 0 (sym c.loop-rest-test.ensures))) c.loop-rest.invariant.stand
+
+pub returns-in-Ok-push-clause-only : goal.returns-in-Ok-push-clause-only
+returns-in-Ok-push-clause-only c = λ leaves divides.
+    one_division _ _ _ _ leaves (cut_end _ _ _ c.loop-rest.line c.loop-rest.place c.loop-rest.rest.now (ap leaves_of c.in-Ok-push.ensures.items ∙ map_push _ _ _) (nil_from_length _ (eqb-true _ 0 (sym c.loop-rest-test.ensures))) c.loop-rest.invariant.cut) divides
