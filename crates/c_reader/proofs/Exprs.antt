@@ -161,9 +161,10 @@ SymbolAt kind place room rest tree behind = ⊥
 abbrev pub UnaryAt : Lexeme → Pos → ℕ → List Leaf → ExprTree → List Leaf → Type 0
 UnaryAt (L.Symbol kind) place room rest tree behind = SymbolAt kind place room rest tree behind
 UnaryAt (L.Name name) place room rest tree behind = IsSame (Variable name place) rest tree behind
-UnaryAt L.Reserved place room rest tree behind = ⊥
 UnaryAt (L.Decimal value) place room rest tree behind = IsSame (Decimal value place) rest tree behind
 UnaryAt (L.Character byte) place room rest tree behind = IsSame (Character byte place) rest tree behind
+UnaryAt (L.Integer value int_type) place room rest tree behind = ⊥
+UnaryAt (L.Literal bytes) place room rest tree behind = ⊥
 UnaryAt L.EndOfText place room rest tree behind = ⊥
 
 same : (tree : ExprTree) (rest : List Leaf) → IsSame tree rest tree rest

@@ -31,13 +31,16 @@ pub fn symbol_at(tokens: &[Token], kind: Symbol) -> Option<SymbolAt<'_>>
     ensures none { IfNone result ((behind : List Leaf) → Passes kind (leaves_of tokens.now) behind → ⊥) }
 {
     let (token, rest) = tokens.split_first()?;
-    match token.lexeme {
-        Lexeme::Symbol(found) => (found == kind).then_some(SymbolAt {
-            place: token.place,
-            rest,
-        }),
-        _ => None,
+    let Lexeme::Symbol(found) = token.lexeme else {
+        return None;
+    };
+    if found != kind {
+        return None;
     }
+    Some(SymbolAt {
+        place: token.place,
+        rest,
+    })
 }
 
 /// Passes the symbol that has to stand at the front.

@@ -58,7 +58,7 @@ fn lexeme(alloc: Global, word: &str) -> Result<Lexeme, AllocError> {
     }
     Ok(match word {
         "'A'" => Lexeme::Character(b'A'),
-        "for" => Lexeme::Reserved,
+        "for" => Lexeme::Symbol(Symbol::For),
         "" => Lexeme::EndOfText,
         _ => match word.parse() {
             Ok(value) => Lexeme::Decimal(value),

@@ -8,7 +8,7 @@ use Rattle.c_reader.specs.Grammar.{symbol, expr_height, decimal, character, end_
 use Rattle.c_reader.specs.Reading.{BeginsLevel, BeginsJoined, Passes, IsSame, level_at}
 use Rattle.c_reader.proofs.Lists.{passed_on}
 use Rattle.c_reader.proofs.Levels.{from_first, single_read, first_read, next_read, from_operator, from_nothing, first_of_level, operator_fits, next_of, nothing_more}
-use Rattle.c_reader.proofs.Exprs.{from_operand, from_inner, from_call, from_binary, from_assignment, leaf_read, unary_at, operation_at, side_of, no_equal, assignment_of, same_assignment, not_variable, passes_same}
+use Rattle.c_reader.proofs.Exprs.{from_operand, from_inner, from_call, from_binary, from_assignment, leaf_read, unary_at, operation_at, side_of, no_equal, assignment_of, same_assignment, not_variable, passes_same, no_symbol}
 use Rattle.c_reader.proofs.expr.+expr.Goals as goal
 
 pub read_enclosed-returns-in_err-inside-clause-only : goal.read_enclosed-returns-in_err-inside-clause-only
@@ -187,3 +187,13 @@ read_unary-returns-in-Character-clause-found t c =
 pub read_unary-returns-in_ok-name-in-Name-clause-found : goal.read_unary-returns-in_ok-name-in-Name-clause-found
 read_unary-returns-in_ok-name-in-Name-clause-found t c =
     leaf_read c.leaf-in-Name.result (λ read. read.expr) (λ read. read.rest.now) _ _ _ (L.Name c.in_ok-name-in-Name.name) c.in-Some.first.now.place c.args.room c.leaf-in-Name.ensures.same c.leaf-in-Name.ensures.rest c.leaf-in-Name.ensures.fits (search rules) (variable _ _) refl
+
+pub read_symbol-returns-in_default : goal.read_symbol-returns-in_default
+read_symbol-returns-in_default t c = record {
+  found = tt;
+  measured = tt;
+  shorter = tt;
+  only = λ tree behind given.
+      no_symbol c.args.kind c.args.place c.args.room (leaves_of c.args.rest.now) tree behind c.in_default.not-EndOfFile c.in_default.not-Minus c.in_default.not-Exclamation c.in_default.not-GetChar c.in_default.not-PutChar c.in_default.not-OpenParenthesis
+      (unary_at (L.Symbol c.args.kind) c.args.place c.args.room (leaves_of c.args.rest.now) tree behind given);
+}
