@@ -74,7 +74,7 @@ module _ (text : List ℕ) (limits : MachineLimits) (steps : ℕ) (left base : L
       }
 
   not_refused : (program : ProgramTree) → IsAccepted text program → (refusal : Refusal) → IsRefused text refusal → ⊥
-  not_refused program accepted (R.Lex kind place) refused = refused (accepted.reads.reads.leaves, accepted.reads.reads.divides)
+  not_refused program accepted (R.Lex kind place) refused = refused.undivided (accepted.reads.reads.leaves, accepted.reads.reads.divides)
   not_refused program accepted (R.Syntax kind place) refused = refused.1 program accepted.reads.reads
   not_refused program accepted (R.TypeRule rule place) refused =
       let same = accepted.reads.only refused.program refused.reads.reads in

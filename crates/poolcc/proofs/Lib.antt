@@ -2,4 +2,5 @@ pub mod Completing
 pub mod Executing
 pub mod Numerals
 pub mod Pipeline
+pub mod Refusing
 pub mod Sizes

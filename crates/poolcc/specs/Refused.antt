@@ -1,13 +1,17 @@
--- When a text is refused.
+-- When a text is refused, and of which kind and place.
 use Rattle.std.specs.Prelude.{◌≡◌, ℕ, List, ◌∷◌}
 use Rattle.run_theory.specs.declared.ends.Pos.{Pos}
 use Rattle.run_theory.specs.Places.{first_place}
 use Rattle.c_ast.specs.Syntax.{ProgramTree}
+use Rattle.c_lexer.specs.declared.token.LexErr.{LexErr}
+use Rattle.c_lexer.specs.declared.token.LexErr.TheVariants as X
 use Rattle.c_lexer.specs.Leaves.{Leaf}
-use Rattle.c_lexer.specs.Tokens.{Divides}
+use Rattle.c_lexer.specs.Tokens.{Divides, Faults}
 use Rattle.c_reader.specs.Grammar.{Reads}
 use Rattle.c_types.specs.declared.rule.TypeRule.{TypeRule}
 use Rattle.c_types.specs.Typing.{Violation, violations}
+use Rattle.pcc_status.specs.declared.status.LexKind.{LexKind}
+use Rattle.pcc_status.specs.declared.status.LexKind.TheVariants as K
 use Rattle.pcc_status.specs.declared.status.Refusal.{Refusal}
 use Rattle.pcc_status.specs.declared.status.Refusal.TheVariants as R
 use Rattle.poolcc.specs.Compiled.{ReadsAs}
@@ -18,6 +22,20 @@ use Rattle.poolcc.specs.declared.text.Stop.TheVariants as stops
 abbrev pub HasTokens : List ℕ → Type 0
 HasTokens text = (leaves : List Leaf) × Divides first_place text leaves
 
+-- the fault of a text that a lexical refusal names
+abbrev pub fault_of : LexKind → Pos → LexErr
+fault_of K.BadByte place = X.BadByte place
+fault_of K.BadLiteral place = X.BadLiteral place
+fault_of K.Unclosed place = X.Unclosed place
+fault_of K.BadDirective place = X.BadDirective place
+fault_of K.NameTooLong place = X.NameTooLong place
+
+-- The text's first fault is of this kind and at this place, and so it doesn't divide into tokens.
+pub record IsLexical (text : List ℕ) (kind : LexKind) (place : Pos) : Type 0 where
+  pub faults : Faults first_place text (fault_of kind place)
+  pub only : (other : LexErr) → Faults first_place text other → other ≡ fault_of kind place
+  pub undivided : HasTokens text → ⊥
+
 -- The text's program violates a type rule, this one at this place first.
 pub record IsIllTyped (text : List ℕ) (rule : TypeRule) (place : Pos) : Type 0 where
   pub program : ProgramTree
@@ -25,10 +43,11 @@ pub record IsIllTyped (text : List ℕ) (rule : TypeRule) (place : Pos) : Type 0
   pub others : List Violation
   pub violated : violations program ≡ record { kind = rule; place = place } ∷ others
 
--- The refusal is the text's: it is lexical where the text doesn't divide into tokens, syntactic where it does and reads
--- as no program, and of a type rule where its program violates one. No other refusal comes yet.
+-- The refusal is the text's: it is lexical where the text doesn't divide into tokens, with the kind and place of its
+-- first fault; syntactic where it does and reads as no program; and of a type rule where its program violates one. No
+-- other refusal comes yet.
 abbrev pub IsRefused : List ℕ → Refusal → Type 0
-IsRefused text (R.Lex kind place) = HasTokens text → ⊥
+IsRefused text (R.Lex kind place) = IsLexical text kind place
 IsRefused text (R.Syntax kind place) = HasTokens text × ((program : ProgramTree) → Reads text program → ⊥)
 IsRefused text (R.TypeRule rule place) = IsIllTyped text rule place
 IsRefused text (R.Limit limit count) = ⊥
@@ -39,3 +58,12 @@ IsRefused text (R.Pools function count) = ⊥
 abbrev pub IsStop : List ℕ → Stop → Type 0
 IsStop text (stops.Refused refusal) = IsRefused text refusal
 IsStop text stops.OutOfMemory = Unit {0}
+
+-- what a text comes to for a fault, or for want of memory
+abbrev pub stop_of : LexErr → Stop
+stop_of (X.BadByte place) = stops.Refused (R.Lex K.BadByte place)
+stop_of (X.BadLiteral place) = stops.Refused (R.Lex K.BadLiteral place)
+stop_of (X.Unclosed place) = stops.Refused (R.Lex K.Unclosed place)
+stop_of (X.BadDirective place) = stops.Refused (R.Lex K.BadDirective place)
+stop_of (X.NameTooLong place) = stops.Refused (R.Lex K.NameTooLong place)
+stop_of X.OutOfMemory = stops.OutOfMemory

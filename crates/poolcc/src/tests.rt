@@ -85,7 +85,7 @@ fn exec(alloc: Global, text: &str, input: &[u8], failing: Failing) -> Result<Did
 #[test]
 fn programs_run(rt: HostRuntime) -> Result<(), Fail> {
     let alloc = rt.alloc();
-    let rows: [(&str, &[u8], &[u8], u8, usize); 26] = [
+    let rows: [(&str, &[u8], &[u8], u8, usize); 27] = [
         ("int main(void){return 0;}", b"", b"", 0, 0),
         ("int main(void) { return 263; }", b"", b"", 7, 0),
         (
@@ -118,6 +118,13 @@ fn programs_run(rt: HostRuntime) -> Result<(), Fail> {
             0,
         ),
         ("int main(void) { return '\\377'; }", b"", b"", 255, 0),
+        (
+            "#include <stdio.h>\nint main(void) { // 'two\n  putchar(/* \" */ 'a'); return 010 + 0x1F; }",
+            b"",
+            b"a",
+            39,
+            0,
+        ),
         (
             "\tint\nmain ( void )\r{ return\x0b'\\x41' ; }\x0c",
             b"",
@@ -244,9 +251,39 @@ fn refusals_name_their_place(rt: HostRuntime) -> Result<(), Fail> {
             "poolcc: refused BadLiteral at 1:25\n",
         ),
         (
-            "int main(void) {\n  /* */ }",
+            "int main(void) {\n  ` }",
             lex(LexKind::BadByte, 2, 3),
             "poolcc: refused BadByte at 2:3\n",
+        ),
+        (
+            "int main(void) { return 0xE+1; }",
+            lex(LexKind::BadLiteral, 1, 25),
+            "poolcc: refused BadLiteral at 1:25\n",
+        ),
+        (
+            "int main(void) { return '\\400'; }",
+            lex(LexKind::BadLiteral, 1, 25),
+            "poolcc: refused BadLiteral at 1:25\n",
+        ),
+        (
+            "int main(void) { } \"a\n\"",
+            lex(LexKind::Unclosed, 1, 20),
+            "poolcc: refused Unclosed at 1:20\n",
+        ),
+        (
+            "int main(void) {\n} /* @\n*",
+            lex(LexKind::Unclosed, 2, 3),
+            "poolcc: refused Unclosed at 2:3\n",
+        ),
+        (
+            "/**/\n \t# include <stdint.h>\n@",
+            lex(LexKind::BadDirective, 2, 3),
+            "poolcc: refused BadDirective at 2:3\n",
+        ),
+        (
+            "int main(void) { return --5; }",
+            at(1, 25),
+            "poolcc: refused syntax at 1:25\n",
         ),
         (
             "int main(void) { return 'a; }",
@@ -315,6 +352,24 @@ fn refusals_name_their_place(rt: HostRuntime) -> Result<(), Fail> {
         assert_eq!(rt; did.err.as_slice(), line.as_bytes(), "{text}");
         assert_eq!(rt; did.out.len(), 0, "{text}");
     }
+    Ok(())
+}
+
+#[test]
+fn long_names_are_refused(rt: HostRuntime) -> Result<(), Fail> {
+    let alloc = rt.alloc();
+    let mut text = String::from_str(alloc, "int main(void) { int ")?;
+    for _ in 0..256u32 {
+        text.push('a')?;
+    }
+    text.push_str("; }")?;
+    let did = exec(alloc, text.as_str(), b"", NONE)?;
+    let place = Pos {
+        line: 1,
+        column: 22,
+    };
+    let refusal = Refusal::Lex(LexKind::NameTooLong, place);
+    assert_eq!(rt; did.status, Status::Refused(refusal));
     Ok(())
 }
 

@@ -11,7 +11,7 @@ ghost use Rattle.pool_isa.specs.Ranges.{IsWithin};
 ghost use Rattle.image_form.specs.Form.{form_of, IsImage, ImageOf};
 ghost use Rattle.poolcc.specs.Compiled.{ReadsAs, IsAccepted, Compiles};
 ghost use Rattle.poolcc.specs.Exec.{source_limit};
-ghost use Rattle.poolcc.specs.Refused.{IsStop};
+ghost use Rattle.poolcc.specs.Refused.{IsStop, stop_of};
 
 use crate::compile::compile;
 use c_ast::{Program, TypedProgram};
@@ -36,16 +36,24 @@ fn divide(alloc: Global, text: &[u8]) -> Result<Vec<Token>, Stop>
     ensures only { IfOk result (λ v. (leaves : List Leaf) → Divides first_place text.now leaves → leaves_of v.items ≡ leaves) }
     ensures stop { IfErr result (IsStop text.now) }
 {
-    let (kind, place) = match tokens(alloc, text) {
-        Ok(tokens) => return Ok(tokens),
-        Err(LexErr::BadByte(place)) => (LexKind::BadByte, place),
-        Err(LexErr::BadLiteral(place)) => (LexKind::BadLiteral, place),
-        Err(LexErr::Unclosed(place)) => (LexKind::Unclosed, place),
-        Err(LexErr::BadDirective(place)) => (LexKind::BadDirective, place),
-        Err(LexErr::NameTooLong(place)) => (LexKind::NameTooLong, place),
-        Err(LexErr::OutOfMemory) => return Err(Stop::OutOfMemory),
-    };
-    Err(Stop::Refused(Refusal::Lex(kind, place)))
+    match tokens(alloc, text) {
+        Ok(tokens) => Ok(tokens),
+        Err(error) => Err(stop_of(error)),
+    }
+}
+
+// What a text comes to for a fault of the lexer.
+fn stop_of(error: LexErr) -> Stop
+    ensures { result ≡ stop_of error }
+{
+    match error {
+        LexErr::BadByte(place) => Stop::Refused(Refusal::Lex(LexKind::BadByte, place)),
+        LexErr::BadLiteral(place) => Stop::Refused(Refusal::Lex(LexKind::BadLiteral, place)),
+        LexErr::Unclosed(place) => Stop::Refused(Refusal::Lex(LexKind::Unclosed, place)),
+        LexErr::BadDirective(place) => Stop::Refused(Refusal::Lex(LexKind::BadDirective, place)),
+        LexErr::NameTooLong(place) => Stop::Refused(Refusal::Lex(LexKind::NameTooLong, place)),
+        LexErr::OutOfMemory => Stop::OutOfMemory,
+    }
 }
 
 /// The program that a text within the source limit reads as.
