@@ -4,6 +4,7 @@
 //! `specs/Follows.antt` what begins a tree and what may stand behind it.
 #![tactic(auto)]
 
+mod begins;
 mod kind;
 mod words;
 
