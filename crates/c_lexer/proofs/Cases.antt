@@ -6,7 +6,7 @@ use Rattle.std.proofs.lemmas.Bool.{cond-true, cond-false, lt-leb}
 use Rattle.run_theory.specs.declared.ends.Pos.{Pos}
 use Rattle.c_lexer.specs.declared.numbers.Base.{Base}
 use Rattle.c_lexer.specs.declared.numbers.Base.TheVariants as B
-use Rattle.c_lexer.specs.declared.token.LexErr.TheVariants.{NameTooLong}
+use Rattle.c_lexer.specs.declared.lex_err.LexErr.TheVariants.{NameTooLong}
 use Rattle.c_lexer.specs.declared.front.Front.TheVariants as F
 use Rattle.c_lexer.specs.Classes.{is_word_byte}
 use Rattle.c_lexer.specs.Constants.{hexadecimal_value, digits_from, radix, is_digit_of, suffix_of, typed, integer_in, integer_of}

@@ -2,7 +2,7 @@
 use Rattle.std.proofs.Common.{ℕ, ◌+◌, ◌≤◌, List, ◌∷◌, Bool, true, length, arith, length-drop}
 use Rattle.run_theory.specs.declared.ends.Pos.{Pos}
 use Rattle.c_lexer.specs.declared.front.Front.TheVariants as F
-use Rattle.c_lexer.specs.Leaves.{Leaf}
+use Rattle.c_token.specs.Leaves.{Leaf}
 use Rattle.c_lexer.specs.Tokens.{DividesFrom, at_end, blank, token, Divides}
 use Rattle.c_lexer.proofs.Widths.{front_within}
 

@@ -4,9 +4,9 @@ use Rattle.std.proofs.lemmas.Bool.{cond_both}
 use Rattle.run_theory.specs.declared.ends.Pos.{Pos}
 use Rattle.run_theory.specs.Places.{newline, place_after, first_place, place_behind, place_in}
 use Rattle.run_theory.proofs.Places.{place_behind-append, place_in_room}
-use Rattle.c_lexer.specs.declared.token.Lexeme.{Lexeme}
-use Rattle.c_lexer.specs.declared.token.Lexeme.TheVariants as L
-use Rattle.c_lexer.specs.declared.token.Token.{Token}
+use Rattle.c_token.specs.declared.token.Lexeme.{Lexeme}
+use Rattle.c_token.specs.declared.token.Lexeme.TheVariants as L
+use Rattle.c_token.specs.declared.token.Token.{Token}
 use Rattle.c_lexer.specs.declared.front.Front.{Front}
 use Rattle.c_lexer.specs.declared.front.Front.TheVariants as F
 use Rattle.c_lexer.specs.Fronts.{front_of}

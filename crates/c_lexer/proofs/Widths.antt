@@ -5,9 +5,9 @@ use Rattle.std.specs.List.{prefix_len}
 use Rattle.std.proofs.lemmas.Bool.{cond_both, and_parts, leb-true}
 use Rattle.std.proofs.lemmas.List.Sums.{prefix_len-le-length}
 use Rattle.run_theory.specs.declared.ends.Pos.{Pos}
-use Rattle.c_lexer.specs.declared.token.Symbol.{Symbol}
-use Rattle.c_lexer.specs.declared.token.Lexeme.{Lexeme}
-use Rattle.c_lexer.specs.declared.token.LexErr.{LexErr}
+use Rattle.c_token.specs.declared.token.Symbol.{Symbol}
+use Rattle.c_token.specs.declared.token.Lexeme.{Lexeme}
+use Rattle.c_lexer.specs.declared.lex_err.LexErr.{LexErr}
 use Rattle.c_lexer.specs.declared.front.Front.{Front}
 use Rattle.c_lexer.specs.Classes.{is_space, is_in_line, is_letter, is_digit, is_word_byte, goes_on}
 use Rattle.c_lexer.specs.Tables.{punctuators, symbol_in}

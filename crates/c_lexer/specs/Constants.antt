@@ -9,10 +9,10 @@ use Rattle.c_lexer.specs.declared.numbers.Base.{Base}
 use Rattle.c_lexer.specs.declared.numbers.Base.TheVariants as B
 use Rattle.c_lexer.specs.declared.numbers.Suffix.{Suffix}
 use Rattle.c_lexer.specs.declared.numbers.Suffix.TheVariants as X
-use Rattle.c_lexer.specs.declared.token.Lexeme.{Lexeme}
-use Rattle.c_lexer.specs.declared.token.Lexeme.TheVariants as L
-use Rattle.c_lexer.specs.declared.token.LexErr.{LexErr}
-use Rattle.c_lexer.specs.declared.token.LexErr.TheVariants.{BadLiteral, Unclosed}
+use Rattle.c_token.specs.declared.token.Lexeme.{Lexeme}
+use Rattle.c_token.specs.declared.token.Lexeme.TheVariants as L
+use Rattle.c_lexer.specs.declared.lex_err.LexErr.{LexErr}
+use Rattle.c_lexer.specs.declared.lex_err.LexErr.TheVariants.{BadLiteral, Unclosed}
 use Rattle.c_lexer.specs.Classes.{is_digit, is_octal_digit, is_hexadecimal_digit}
 
 -- the value of a digit, in whatever base
@@ -73,7 +73,6 @@ first_holding value [] = None
 first_holding value (int_type ∷ more) = if holds value int_type then Some int_type else first_holding value more
 
 abbrev pub integer_lexeme : ℕ → IntType → Lexeme
-integer_lexeme value T.Int = L.Decimal value
 integer_lexeme value int_type = L.Integer value int_type
 
 abbrev pub as_integer : ℕ → Option IntType → Option Lexeme

@@ -3,11 +3,11 @@
 use Rattle.std.specs.Prelude.{ℕ, ◌+◌, List, [], ◌∷◌, Option, Some, None, Bool, true, false, ◌&&◌, ◌||◌, ◌==◌, nat_le, if◌then◌else◌, length, take, drop, slice_index, codes, nat_eq, Result, Ok, Err}
 use Rattle.std.specs.List.{prefix_len, starts_with}
 use Rattle.run_theory.specs.declared.ends.Pos.{Pos}
-use Rattle.c_lexer.specs.declared.token.Symbol.{Symbol}
-use Rattle.c_lexer.specs.declared.token.Lexeme.{Lexeme}
-use Rattle.c_lexer.specs.declared.token.Lexeme.TheVariants as L
-use Rattle.c_lexer.specs.declared.token.LexErr.{LexErr}
-use Rattle.c_lexer.specs.declared.token.LexErr.TheVariants.{BadByte, BadLiteral, Unclosed, BadDirective, NameTooLong}
+use Rattle.c_token.specs.declared.token.Symbol.{Symbol}
+use Rattle.c_token.specs.declared.token.Lexeme.{Lexeme}
+use Rattle.c_token.specs.declared.token.Lexeme.TheVariants as L
+use Rattle.c_lexer.specs.declared.lex_err.LexErr.{LexErr}
+use Rattle.c_lexer.specs.declared.lex_err.LexErr.TheVariants.{BadByte, BadLiteral, Unclosed, BadDirective, NameTooLong}
 use Rattle.c_lexer.specs.declared.front.Front.{Front}
 use Rattle.c_lexer.specs.declared.front.Front.TheVariants.{Blank, Token}
 use Rattle.c_lexer.specs.Classes.{is_space, is_blank, is_in_line, is_letter, is_digit, is_word_byte, goes_on}

@@ -1,8 +1,8 @@
 -- The laws of divisions and faults.
 use Rattle.std.specs.Prelude.{◌≡◌, ℕ, ◌⊎◌, List}
 use Rattle.run_theory.specs.Places.{first_place}
-use Rattle.c_lexer.specs.declared.token.LexErr.{LexErr}
-use Rattle.c_lexer.specs.Leaves.{Leaf}
+use Rattle.c_lexer.specs.declared.lex_err.LexErr.{LexErr}
+use Rattle.c_token.specs.Leaves.{Leaf}
 use Rattle.c_lexer.specs.Tokens.{Divides, Faults}
 
 -- a text divides in one way at most

@@ -1,4 +1,3 @@
-pub mod Leaves
 pub mod Classes
 pub mod Tables
 pub mod Constants

@@ -1,8 +1,8 @@
 -- The spellings of the grammar's words and punctuators.
 use Rattle.std.specs.Prelude.{ℕ, List, [], ◌∷◌, Option, Some, None, if◌then◌else◌, codes}
 use Rattle.std.specs.Str.{bytes_eq}
-use Rattle.c_lexer.specs.declared.token.Symbol.{Symbol}
-use Rattle.c_lexer.specs.declared.token.Symbol.TheVariants as S
+use Rattle.c_token.specs.declared.token.Symbol.{Symbol}
+use Rattle.c_token.specs.declared.token.Symbol.TheVariants as S
 
 -- the symbol that stands beside a spelling in a table
 abbrev pub symbol_in : List (List ℕ × Symbol) → List ℕ → Option Symbol
@@ -26,8 +26,7 @@ words =
     ∷ (codes "_Alignof", S.Alignof) ∷ (codes "_Atomic", S.Atomic) ∷ (codes "_Bool", S.Bool)
     ∷ (codes "_Complex", S.Complex) ∷ (codes "_Generic", S.Generic) ∷ (codes "_Imaginary", S.Imaginary)
     ∷ (codes "_Noreturn", S.Noreturn) ∷ (codes "_Static_assert", S.StaticAssert)
-    ∷ (codes "_Thread_local", S.ThreadLocal) ∷ (codes "NULL", S.Null) ∷ (codes "EOF", S.EndOfFile)
-    ∷ (codes "main", S.Main) ∷ (codes "getchar", S.GetChar) ∷ (codes "putchar", S.PutChar) ∷ []
+    ∷ (codes "_Thread_local", S.ThreadLocal) ∷ (codes "NULL", S.Null) ∷ (codes "EOF", S.EndOfFile) ∷ []
 
 -- the punctuators of the grammar (C17 6.4.6)
 unfoldable pub punctuators : List (List ℕ × Symbol)

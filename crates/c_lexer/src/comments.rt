@@ -7,7 +7,7 @@ ghost use Rattle.c_lexer.specs.Fronts.{line_length, comment_end, as_comment};
 
 use crate::classes::byte_at;
 use crate::front::Front;
-use crate::token::LexErr;
+use crate::lex_err::LexErr;
 use run_theory::Pos;
 
 /// Whether a text begins with `//`.

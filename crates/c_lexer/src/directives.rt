@@ -6,7 +6,7 @@ ghost use Rattle.c_lexer.specs.Fronts.{directive_front, is_accepted, is_known_he
 use crate::classes::is_blank;
 use crate::comments::line_length;
 use crate::front::Front;
-use crate::token::LexErr;
+use crate::lex_err::LexErr;
 use run_theory::Pos;
 
 /// The directive whose `#` begins a text and stands at `place`.

@@ -7,11 +7,12 @@ ghost use Rattle.c_lexer.specs.Tokens.{UnlessMemory, width_of};
 use crate::classes::{is_digit, is_letter, is_space};
 use crate::comments::{block_comment, is_block_comment, is_line_comment, line_length};
 use crate::directives::directive;
+use crate::lex_err::LexErr;
 use crate::numbers::number;
 use crate::punctuators::punctuator;
 use crate::quoted::{character, literal};
-use crate::token::{LexErr, Lexeme};
 use crate::words::word;
+use c_token::Lexeme;
 use run_theory::Pos;
 use std::alloc::Global;
 

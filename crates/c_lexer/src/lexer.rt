@@ -2,12 +2,13 @@
 
 ghost use Rattle.std.specs.Prelude.{◌≡◌, ◌+◌, ◌++◌, ◌^◌, ◌<◌, ◌≤◌, List, length, IfOk, IfErr, OnOk};
 ghost use Rattle.run_theory.specs.Places.{first_place, place_behind};
-ghost use Rattle.c_lexer.specs.Leaves.{Leaf, leaves_of};
+ghost use Rattle.c_token.specs.Leaves.{Leaf, leaves_of};
 ghost use Rattle.c_lexer.specs.Tokens.{Divides, Faults, StandFrom, IsFoundUnlessMemory, UnlessMemory, line_behind, token_at, width_of};
 
 use crate::classes::is_blank;
 use crate::front::{Front, front_at};
-use crate::token::{LexErr, Lexeme, Token};
+use crate::lex_err::LexErr;
+use c_token::{Lexeme, Token};
 use run_theory::Pos;
 use std::alloc::Global;
 

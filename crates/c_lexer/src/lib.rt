@@ -7,6 +7,7 @@ mod comments;
 mod directives;
 mod front;
 mod laws;
+mod lex_err;
 mod lexer;
 mod numbers;
 mod punctuators;
@@ -14,12 +15,11 @@ mod quoted;
 mod tables;
 #[cfg(test)]
 mod tests;
-mod token;
 mod words;
 
 pub use laws::{
     faults_leave_no_division, texts_divide_in_one_way, texts_divide_or_have_a_fault,
     texts_have_one_fault,
 };
+pub use lex_err::LexErr;
 pub use lexer::tokens;
-pub use token::{LexErr, Lexeme, Literal, Symbol, Token};

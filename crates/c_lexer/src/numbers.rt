@@ -7,8 +7,9 @@ ghost use Rattle.c_lexer.specs.Fronts.{number_front, number_run};
 
 use crate::classes::{byte_at, goes_on, is_digit, is_hexadecimal_digit, is_octal_digit};
 use crate::front::Front;
-use crate::token::{LexErr, Lexeme};
+use crate::lex_err::LexErr;
 use c_num::IntType;
+use c_token::Lexeme;
 use run_theory::Pos;
 
 /// The base of an integer constant.
@@ -198,10 +199,8 @@ fn two_letters(letter: u8, other: u8) -> Option<Suffix>
 fn typed(base: Base, value: u64, suffix: Suffix) -> Option<Lexeme>
     ensures { result ≡ typed base value (Some suffix) }
 {
-    match first_type(base.is_decimal(), value, suffix)? {
-        IntType::Int => Some(Lexeme::Decimal(value as u32)),
-        int_type => Some(Lexeme::Integer { value, int_type }),
-    }
+    let int_type = first_type(base.is_decimal(), value, suffix)?;
+    Some(Lexeme::Integer { value, int_type })
 }
 
 /// The first type of a constant with a suffix that holds the value.

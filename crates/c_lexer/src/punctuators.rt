@@ -4,8 +4,9 @@ ghost use Rattle.std.specs.Prelude.{◌≡◌};
 ghost use Rattle.c_lexer.specs.Fronts.{punctuator_front, punctuator_of};
 
 use crate::front::Front;
+use crate::lex_err::LexErr;
 use crate::tables::punctuator_symbol;
-use crate::token::{LexErr, Lexeme, Symbol};
+use c_token::{Lexeme, Symbol};
 use run_theory::Pos;
 
 /// The punctuator that begins a text, which stands at `place`.

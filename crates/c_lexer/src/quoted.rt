@@ -7,7 +7,8 @@ ghost use Rattle.c_lexer.specs.Tokens.{UnlessMemory};
 
 use crate::characters::{escape_byte, escape_width};
 use crate::front::Front;
-use crate::token::{LexErr, Lexeme, Literal};
+use crate::lex_err::LexErr;
+use c_token::{Bytes, Lexeme};
 use run_theory::Pos;
 use std::alloc::Global;
 
@@ -49,7 +50,7 @@ pub(crate) fn literal(alloc: Global, text: &[u8], place: Pos) -> Result<Front, L
         Ok(found) => found,
         Err(error) => return Err(error),
     };
-    let literal = Literal::new(found.bytes);
+    let literal = Bytes::new(found.bytes);
     Ok(Front::Token(Lexeme::Literal(literal), 1 + found.width))
 }
 

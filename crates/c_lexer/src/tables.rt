@@ -3,10 +3,10 @@
 ghost use Rattle.std.specs.Prelude.{◌≡◌, map};
 ghost use Rattle.c_lexer.specs.Tables.{words, punctuators, symbol_in};
 
-use crate::token::Symbol;
+use c_token::Symbol;
 
-/// The keywords (C17 6.4.1), `NULL`, `EOF`, and three names that have a rule of their own.
-const WORDS: [(&[u8], Symbol); 49] = [
+/// The keywords (C17 6.4.1), `NULL` and `EOF`.
+const WORDS: [(&[u8], Symbol); 46] = [
     (b"auto", Symbol::Auto),
     (b"break", Symbol::Break),
     (b"case", Symbol::Case),
@@ -53,9 +53,6 @@ const WORDS: [(&[u8], Symbol); 49] = [
     (b"_Thread_local", Symbol::ThreadLocal),
     (b"NULL", Symbol::Null),
     (b"EOF", Symbol::EndOfFile),
-    (b"main", Symbol::Main),
-    (b"getchar", Symbol::GetChar),
-    (b"putchar", Symbol::PutChar),
 ];
 
 /// The punctuators (C17 6.4.6).

@@ -1,6 +1,8 @@
 // Texts with their tokens or their refusal, worked out by hand from the rules of C17 6.4.
 
 use super::*;
+use c_num::IntType;
+use c_token::{Lexeme, Token};
 use run_theory::Pos;
 use std::alloc::{AllocError, Global};
 use std::fmt::Write;
@@ -18,15 +20,18 @@ fn write_lexeme(out: &mut String, lexeme: &Lexeme) -> Result<(), AllocError> {
     match lexeme {
         Lexeme::Symbol(symbol) => write!(out, "{symbol:?}")?,
         Lexeme::Name(name) => {
-            for byte in name.bytes() {
+            for byte in name.as_slice() {
                 out.push(char::from(*byte))?;
             }
         }
-        Lexeme::Decimal(value) => write!(out, "{value}")?,
+        Lexeme::Integer {
+            value,
+            int_type: IntType::Int,
+        } => write!(out, "{value}")?,
         Lexeme::Integer { value, int_type } => write!(out, "{value} {int_type:?}")?,
         Lexeme::Literal(literal) => {
             out.push_str("text")?;
-            for byte in literal.bytes() {
+            for byte in literal.as_slice() {
                 write!(out, " {byte}")?;
             }
         }
@@ -327,7 +332,7 @@ fn finds_each_keyword(rt: HostRuntime) -> Result<(), Fail> {
         ),
         (
             "NULL EOF main getchar putchar",
-            "1:1 Null, 1:6 EndOfFile, 1:10 Main, 1:15 GetChar, 1:23 PutChar, 1:30 end",
+            "1:1 Null, 1:6 EndOfFile, 1:10 main, 1:15 getchar, 1:23 putchar, 1:30 end",
         ),
     ];
     are_listed(&rt, rt.alloc(), &rows)?;
@@ -566,7 +571,7 @@ fn keeps_a_name_of_255_bytes(rt: HostRuntime) -> Result<(), Fail> {
     let Lexeme::Name(name) = &found[0].lexeme else {
         return Err("no name".into());
     };
-    assert_eq!(rt; name.bytes(), spelling.as_slice());
+    assert_eq!(rt; name.as_slice(), spelling.as_slice());
     assert_eq!(rt;
         found[1].place,
         Pos {
