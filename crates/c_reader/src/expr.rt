@@ -1,312 +1,233 @@
-// Expressions (C17 6.5).
+// Expressions (C17 6.5), and the names of types and the declarators in them (C17 6.7.6, 6.7.7).
 
-ghost use Rattle.std.specs.Prelude.{◌≡◌, List, ◌+◌, ◌<◌, ◌≤◌, ◌∷◌, length, IfOk, IfErr, MatchResult};
-ghost use Rattle.c_ast.specs.Syntax.{ExprTree, expr_tree};
-ghost use Rattle.c_lexer.specs.declared.token.Symbol.TheVariants as S;
-ghost use Rattle.c_lexer.specs.Leaves.{Leaf, leaves_of};
-ghost use Rattle.c_reader.specs.Grammar.{symbol, symbol_of, level_of, expr_height};
-ghost use Rattle.c_reader.specs.Reading.{BeginsUnary, BeginsLevel, BeginsExpr, BeginsExprThen, BeginsEnclosed, IsSame, IsMemory, level_at};
+ghost use Rattle.std.specs.Prelude.{◌≡◌, ◌<◌, ◌≤◌, ℕ, length, IfOk};
+ghost use Rattle.grammar_table.specs.Runs.{Whole};
+ghost use Rattle.c_grammar.specs.Forms as forms;
+ghost use Rattle.c_token.specs.Leaves.{leaves_of};
+ghost use Rattle.c_syntax.specs.Views.{expr_tree};
+ghost use Rattle.c_syntax.specs.Views as views;
+ghost use Rattle.c_reader.specs.Shapes.{expr_of, arguments_of};
+ghost use Rattle.c_reader.specs.Readings.{Gives};
+ghost use Rattle.c_reader.specs.Choices.{form_of, level_of_next};
+ghost use Rattle.c_reader.specs.Steps.{GivesOperand, Chooses, Extends};
+ghost use Rattle.c_reader.specs.Terms.{GivesTerm, GivesEnclosedType};
 
-use crate::SyntaxErr;
-use crate::operator::{OperatorAt, operator_at};
-use crate::token::{misfit, pass, room_below, symbol_at};
-use c_ast::{Expr, UnaryOperator};
-use c_lexer::{Lexeme, Symbol, Token};
-use run_theory::Pos;
+use crate::choice::{First, Next, first_of, next_at};
+use crate::declarator::read_type;
+use crate::following::{
+    read_member, read_pointer_member, read_post_decrement, read_post_increment,
+};
+use crate::operand::{Operand, read_single, read_text};
+use crate::second::{SizeofRow, sizeof_row};
+use crate::syntax_err::SyntaxErr;
+use crate::term::{
+    EnclosedType, Frame, LOOSEST, Term, called, cast, conditional, joined, joining_frame,
+    pass_last, sizeof_expr, sizeof_type, wrapped, wrapping_frame,
+};
+use crate::token::{Read, first_kind, first_place, pass, room_behind, room_below, second_kind};
+use c_grammar::Kind;
+use c_syntax::Expr;
+use c_token::Token;
 use std::alloc::Global;
 
-/// The level of the operators that bind loosest.
-const LOOSEST: u32 = 6;
-
-/// An expression that was read: the nodes on its longest path, and the tokens behind it.
-#[derive(Drop)]
-pub struct ReadExpr<'a> {
-    pub expr: Expr,
-    pub height: u32,
-    pub rest: &'a [Token],
-}
-
-/// Reads an expression and the symbol that ends it. `room` is how many nodes it may nest.
+/// Reads an expression that binds at most as loosely as a level. `room` is how many nodes it may nest.
 #[cycle(expr)]
-pub fn read_expr_then(
+pub(crate) fn read_expr(
     alloc: Global,
     tokens: &[Token],
+    level: u32,
     room: u32,
-    end: Symbol,
-) -> Result<ReadExpr<'_>, SyntaxErr>
-    requires { level_of end ≡ 8 }
-    ensures found { IfOk result (λ read. BeginsExprThen end room (leaves_of tokens.now) (expr_tree read.expr) (leaves_of read.rest.now)) }
-    ensures measured { IfOk result (λ read. read.height ≡ expr_height (expr_tree read.expr)) }
+) -> Result<Read<'_, Expr>, SyntaxErr>
+    ensures gives { Gives (Whole forms.Expr level) room (leaves_of tokens.now) expr_of expr_tree result }
     ensures shorter { IfOk result (λ read. length read.rest.now < length tokens.now) }
-    ensures only { (tree : ExprTree) (behind : List Leaf) → BeginsExprThen end room (leaves_of tokens.now) tree behind
-        → MatchResult result (λ read. IsSame (expr_tree read.expr) (leaves_of read.rest.now) tree behind) IsMemory }
 {
-    let ReadExpr { expr, height, rest } = read_expr(alloc, tokens, room)?;
-    let rest = pass(rest, end)?;
-    Ok(ReadExpr { expr, height, rest })
-}
-
-/// Reads an expression in parentheses, which are no part of it.
-#[cycle(expr)]
-pub fn read_enclosed(alloc: Global, tokens: &[Token], room: u32) -> Result<ReadExpr<'_>, SyntaxErr>
-    ensures found { IfOk result (λ read. BeginsEnclosed room (leaves_of tokens.now) (expr_tree read.expr) (leaves_of read.rest.now)) }
-    ensures measured { IfOk result (λ read. read.height ≡ expr_height (expr_tree read.expr)) }
-    ensures shorter { IfOk result (λ read. length read.rest.now < length tokens.now) }
-    ensures only { (tree : ExprTree) (behind : List Leaf) → BeginsEnclosed room (leaves_of tokens.now) tree behind
-        → MatchResult result (λ read. IsSame (expr_tree read.expr) (leaves_of read.rest.now) tree behind) IsMemory }
-{
-    let inside = pass(tokens, Symbol::OpenParenthesis)?;
-    read_expr_then(alloc, inside, room, Symbol::CloseParenthesis)
-}
-
-/// Reads an expression.
-#[cycle(expr)]
-fn read_expr(alloc: Global, tokens: &[Token], room: u32) -> Result<ReadExpr<'_>, SyntaxErr>
-    ensures found { IfOk result (λ read. BeginsExpr room (leaves_of tokens.now) (expr_tree read.expr) (leaves_of read.rest.now)) }
-    ensures measured { IfOk result (λ read. read.height ≡ expr_height (expr_tree read.expr)) }
-    ensures shorter { IfOk result (λ read. length read.rest.now < length tokens.now) }
-    ensures only { (tree : ExprTree) (behind : List Leaf) → BeginsExpr room (leaves_of tokens.now) tree behind → 7 < level_at behind
-        → MatchResult result (λ read. IsSame (expr_tree read.expr) (leaves_of read.rest.now) tree behind) IsMemory }
-{
-    let ReadExpr { expr, height, rest } = read_level(alloc, tokens, room, LOOSEST)?;
-    let Some(equal) = symbol_at(rest, Symbol::Equal) else {
-        return Ok(ReadExpr { expr, height, rest });
-    };
-    let Expr::Variable { name, place } = expr else {
-        return Err(SyntaxErr::At(equal.place));
-    };
-    let below = room_below(room, 1, equal.place)?;
-    let value = read_expr(alloc, equal.rest, below)?;
-    Ok(ReadExpr {
-        expr: Expr::Assign {
-            name,
-            place,
-            value: Box::new(alloc, value.expr)?,
-        },
-        height: value.height + 1,
-        rest: value.rest,
+    let mut left = read_operand(alloc, tokens, level, room)?;
+    while let Some(next) = next_at(left.rest, level, left.level) {
+        left = read_next(alloc, left, next, room)?;
+    }
+    Ok(Read {
+        value: left.expr,
+        height: left.height,
+        rest: left.rest,
     })
 }
 
-/// Reads operands that operators of this level and of tighter ones join. Level 0 is a single operand.
+/// Reads what an expression of a level begins with.
 #[cycle(expr)]
-fn read_level(
+fn read_operand(
+    alloc: Global,
+    tokens: &[Token],
+    level: u32,
+    room: u32,
+) -> Result<Operand<'_>, SyntaxErr>
+    ensures gives { GivesOperand level room (leaves_of tokens.now) result }
+    ensures shorter { IfOk result (λ read. length read.rest.now < length tokens.now) }
+{
+    let kind = first_kind(tokens)?;
+    match first_of(kind, second_kind(tokens), level) {
+        Some(First::Single) => read_single(alloc, tokens, kind, room),
+        Some(First::Text) => read_text(alloc, tokens, room),
+        Some(First::Cast) => read_cast(alloc, tokens, room),
+        Some(First::Sizeof) => read_sizeof(alloc, tokens, room),
+        Some(First::Wrapped(wrapping)) => {
+            let below = room_below(tokens, 2, room)?;
+            let term = read_term(alloc, tokens, wrapping_frame(wrapping), below)?;
+            Ok(wrapped(alloc, wrapping, term)?)
+        }
+        None => Err(SyntaxErr::At(first_place(tokens))),
+    }
+}
+
+/// Reads what goes on behind an expression.
+#[cycle(expr)]
+fn read_next<'a>(
+    alloc: Global,
+    left: Operand<'a>,
+    next: Next,
+    room: u32,
+) -> Result<Operand<'a>, SyntaxErr>
+    requires { level_of_next next ≡ forms.level_of_form (form_of next) }
+    ensures gives { Extends (form_of next) (expr_tree left.entry.expr) left.entry.height left.entry.level (leaves_of left.entry.rest.now) room result }
+    ensures shorter { IfOk result (λ read. length read.rest.now < length left.entry.rest.now) }
+{
+    match next {
+        Next::Member => read_member(alloc, left, room),
+        Next::PointerMember => read_pointer_member(alloc, left, room),
+        Next::PostIncrement => read_post_increment(alloc, left, room),
+        Next::PostDecrement => read_post_decrement(alloc, left, room),
+        Next::Call => {
+            let below = room_behind(left.rest, 1, left.height, room)?;
+            let open = pass(left.rest, Kind::OpenParenthesis)?;
+            let arguments = read_arguments(alloc, open.rest, below)?;
+            let close = pass(arguments.rest, Kind::CloseParenthesis)?;
+            Ok(called(alloc, left, open.place, arguments, close.rest)?)
+        }
+        Next::Conditional => {
+            let below = room_behind(left.rest, 2, left.height, room)?;
+            let frame = Frame {
+                first: Kind::Question,
+                level: LOOSEST,
+                last: Some(Kind::Colon),
+            };
+            let then = read_term(alloc, left.rest, frame, below)?;
+            let otherwise = read_expr(alloc, then.rest, 14, below)?;
+            Ok(conditional(alloc, left, then, otherwise)?)
+        }
+        Next::Joined(joining) => {
+            let below = room_behind(left.rest, 2, left.height, room)?;
+            let term = read_term(alloc, left.rest, joining_frame(joining), below)?;
+            Ok(joined(alloc, left, joining, term)?)
+        }
+    }
+}
+
+/// Reads a token, an expression, and the token behind it, where the frame has one.
+#[cycle(expr)]
+fn read_term(
+    alloc: Global,
+    tokens: &[Token],
+    frame: Frame,
+    room: u32,
+) -> Result<Term<'_>, SyntaxErr>
+    ensures gives { GivesTerm frame room (leaves_of tokens.now) result }
+    ensures shorter { IfOk result (λ term. length term.rest.now < length tokens.now) }
+{
+    let first = pass(tokens, frame.first)?;
+    let value = read_expr(alloc, first.rest, frame.level, room)?;
+    let rest = pass_last(value.rest, frame.last)?;
+    Ok(Term {
+        place: first.place,
+        value: value.value,
+        height: value.height,
+        rest,
+    })
+}
+
+/// Reads arguments, of which there may be none.
+#[cycle(expr)]
+fn read_arguments(
     alloc: Global,
     tokens: &[Token],
     room: u32,
-    level: u32,
-) -> Result<ReadExpr<'_>, SyntaxErr>
-    ensures found { IfOk result (λ read. BeginsLevel level room (leaves_of tokens.now) (expr_tree read.expr) (leaves_of read.rest.now)) }
-    ensures measured { IfOk result (λ read. read.height ≡ expr_height (expr_tree read.expr)) }
-    ensures shorter { IfOk result (λ read. length read.rest.now < length tokens.now) }
-    ensures only { (tree : ExprTree) (behind : List Leaf) → BeginsLevel level room (leaves_of tokens.now) tree behind → level < level_at behind
-        → MatchResult result (λ read. IsSame (expr_tree read.expr) (leaves_of read.rest.now) tree behind) IsMemory }
+) -> Result<Read<'_, Vec<Expr>>, SyntaxErr>
+    ensures gives { Gives (Whole forms.Arguments 0) room (leaves_of tokens.now) arguments_of (λ values. views.arguments_of values.items) result }
+    ensures shorter { IfOk result (λ read. length read.rest.now ≤ length tokens.now) }
 {
-    if level == 0 {
-        return read_unary(alloc, tokens, room);
+    let mut values = Vec::new(alloc);
+    if !first_kind(tokens)?.begins_expr() {
+        return Ok(Read {
+            value: values,
+            height: 0,
+            rest: tokens,
+        });
     }
-    let first = read_level(alloc, tokens, room, level - 1)?;
-    let mut left = first.expr;
+    let first = read_expr(alloc, tokens, LOOSEST, room)?;
+    values.push(first.value)?;
     let mut height = first.height;
     let mut rest = first.rest;
-    while let Some(
-        OperatorAt {
-            operator,
-            place,
-            rest: behind,
-        },
-    ) = operator_at(rest, level)
-    {
-        let below = room_below(room, height, place)?;
-        let right = read_level(alloc, behind, below, level - 1)?;
-        height = height.max(right.height) + 1;
-        left = Expr::Binary {
-            operator,
-            left: Box::new(alloc, left)?,
-            right: Box::new(alloc, right.expr)?,
-        };
-        rest = right.rest;
+    while let Kind::Comma = first_kind(rest)? {
+        let comma = pass(rest, Kind::Comma)?;
+        let next = read_expr(alloc, comma.rest, LOOSEST, room)?;
+        values.push(next.value)?;
+        height = height.max(next.height);
+        rest = next.rest;
     }
-    Ok(ReadExpr {
-        expr: left,
+    Ok(Read {
+        value: values,
         height,
         rest,
     })
 }
 
-/// Reads an operand, with the operators before it.
+/// Reads `(type) e`.
 #[cycle(expr)]
-fn read_unary(alloc: Global, tokens: &[Token], room: u32) -> Result<ReadExpr<'_>, SyntaxErr>
-    ensures found { IfOk result (λ read. BeginsUnary room (leaves_of tokens.now) (expr_tree read.expr) (leaves_of read.rest.now)) }
-    ensures measured { IfOk result (λ read. read.height ≡ expr_height (expr_tree read.expr)) }
+fn read_cast(alloc: Global, tokens: &[Token], room: u32) -> Result<Operand<'_>, SyntaxErr>
+    ensures gives { (level : ℕ) → Chooses level forms.Cast (leaves_of tokens.now) → GivesOperand level room (leaves_of tokens.now) result }
     ensures shorter { IfOk result (λ read. length read.rest.now < length tokens.now) }
-    ensures only { (tree : ExprTree) (behind : List Leaf) → BeginsUnary room (leaves_of tokens.now) tree behind
-        → MatchResult result (λ read. IsSame (expr_tree read.expr) (leaves_of read.rest.now) tree behind) IsMemory }
 {
-    let Some((first, rest)) = tokens.split_first() else {
-        return Err(misfit(tokens));
-    };
-    let place = first.place;
-    match &first.lexeme {
-        Lexeme::Decimal(value) => {
-            leaf(
-                Expr::Decimal {
-                    value: *value,
-                    place,
-                },
-                place,
-                rest,
-                room,
-            )
+    let below = room_below(tokens, 2, room)?;
+    let named = read_enclosed_type(alloc, tokens, below)?;
+    let operand = read_expr(alloc, named.rest, 3, below)?;
+    Ok(cast(alloc, named, operand)?)
+}
+
+/// Reads `sizeof` and its operand.
+#[cycle(expr)]
+fn read_sizeof(alloc: Global, tokens: &[Token], room: u32) -> Result<Operand<'_>, SyntaxErr>
+    ensures gives { (level : ℕ) → Chooses level forms.SizeofRow (leaves_of tokens.now) → GivesOperand level room (leaves_of tokens.now) result }
+    ensures shorter { IfOk result (λ read. length read.rest.now < length tokens.now) }
+{
+    let below = room_below(tokens, 1, room)?;
+    let word = pass(tokens, Kind::Sizeof)?;
+    match sizeof_row(word.rest, below)? {
+        SizeofRow::Type => {
+            let named = read_enclosed_type(alloc, word.rest, below)?;
+            Ok(sizeof_type(alloc, word.place, named)?)
         }
-        Lexeme::Character(byte) => {
-            leaf(Expr::Character { byte: *byte, place }, place, rest, room)
+        SizeofRow::Expr => {
+            let operand = read_expr(alloc, word.rest, 2, below)?;
+            Ok(sizeof_expr(alloc, word.place, operand)?)
         }
-        Lexeme::Name(name) => {
-            let name = name.copy(alloc)?;
-            leaf(Expr::Variable { name, place }, place, rest, room)
-        }
-        Lexeme::Symbol(kind) => read_symbol(alloc, *kind, place, rest, room),
-        _ => Err(SyntaxErr::At(place)),
     }
 }
 
-/// An expression that is the one token at this place.
-fn leaf(expr: Expr, place: Pos, rest: &[Token], room: u32) -> Result<ReadExpr<'_>, SyntaxErr>
-    ensures same { IfOk result (λ read. read.expr ≡ expr) }
-    ensures height { IfOk result (λ read. read.height ≡ 1) }
-    ensures rest { IfOk result (λ read. read.rest.now ≡ rest.now) }
-    ensures fits { IfOk result (λ _. 1 ≤ room) }
-    ensures deep { IfErr result (λ fault. (fault ≡ SyntaxErr.TooDeep place) × (room ≡ 0)) }
-{
-    room_below(room, 0, place)?;
-    Ok(ReadExpr {
-        expr,
-        height: 1,
-        rest,
-    })
-}
-
-/// Reads an operand that begins with this symbol.
+/// Reads `(type)`.
 #[cycle(expr)]
-fn read_symbol(
+fn read_enclosed_type(
     alloc: Global,
-    kind: Symbol,
-    place: Pos,
-    rest: &[Token],
+    tokens: &[Token],
     room: u32,
-) -> Result<ReadExpr<'_>, SyntaxErr>
-    ensures found { IfOk result (λ read. BeginsUnary room (symbol kind place ∷ leaves_of rest.now) (expr_tree read.expr) (leaves_of read.rest.now)) }
-    ensures measured { IfOk result (λ read. read.height ≡ expr_height (expr_tree read.expr)) }
-    ensures shorter { IfOk result (λ read. length read.rest.now ≤ length rest.now) }
-    ensures only { (tree : ExprTree) (behind : List Leaf) → BeginsUnary room (symbol kind place ∷ leaves_of rest.now) tree behind
-        → MatchResult result (λ read. IsSame (expr_tree read.expr) (leaves_of read.rest.now) tree behind) IsMemory }
+) -> Result<EnclosedType<'_>, SyntaxErr>
+    ensures gives { GivesEnclosedType room (leaves_of tokens.now) result }
+    ensures shorter { IfOk result (λ named. length named.rest.now < length tokens.now) }
 {
-    match kind {
-        Symbol::EndOfFile => leaf(Expr::EndOfFile { place }, place, rest, room),
-        Symbol::Minus => read_operation(alloc, UnaryOperator::Minus, place, rest, room),
-        Symbol::Exclamation => read_operation(alloc, UnaryOperator::Not, place, rest, room),
-        Symbol::GetChar => read_get_char(place, rest, room),
-        Symbol::PutChar => read_put_char(alloc, place, rest, room),
-        Symbol::OpenParenthesis => read_parenthesized(alloc, place, rest, room),
-        _ => Err(SyntaxErr::At(place)),
-    }
-}
-
-/// Reads what stands behind an operator of one operand.
-#[cycle(expr)]
-fn read_operation(
-    alloc: Global,
-    operator: UnaryOperator,
-    place: Pos,
-    rest: &[Token],
-    room: u32,
-) -> Result<ReadExpr<'_>, SyntaxErr>
-    ensures found { IfOk result (λ read. BeginsUnary room (symbol (symbol_of operator) place ∷ leaves_of rest.now) (expr_tree read.expr) (leaves_of read.rest.now)) }
-    ensures measured { IfOk result (λ read. read.height ≡ expr_height (expr_tree read.expr)) }
-    ensures shorter { IfOk result (λ read. length read.rest.now < length rest.now) }
-    ensures only { (tree : ExprTree) (behind : List Leaf) → BeginsUnary room (symbol (symbol_of operator) place ∷ leaves_of rest.now) tree behind
-        → MatchResult result (λ read. IsSame (expr_tree read.expr) (leaves_of read.rest.now) tree behind) IsMemory }
-{
-    let below = room_below(room, 1, place)?;
-    let operand = read_unary(alloc, rest, below)?;
-    Ok(ReadExpr {
-        expr: Expr::Unary {
-            operator,
-            place,
-            operand: Box::new(alloc, operand.expr)?,
-        },
-        height: operand.height + 1,
-        rest: operand.rest,
-    })
-}
-
-/// Reads what stands behind `getchar`.
-fn read_get_char(place: Pos, rest: &[Token], room: u32) -> Result<ReadExpr<'_>, SyntaxErr>
-    ensures found { IfOk result (λ read. BeginsUnary room (symbol S.GetChar place ∷ leaves_of rest.now) (expr_tree read.expr) (leaves_of read.rest.now)) }
-    ensures measured { IfOk result (λ read. read.height ≡ expr_height (expr_tree read.expr)) }
-    ensures shorter { IfOk result (λ read. length read.rest.now < length rest.now) }
-    ensures only { (tree : ExprTree) (behind : List Leaf) → BeginsUnary room (symbol S.GetChar place ∷ leaves_of rest.now) tree behind
-        → MatchResult result (λ read. IsSame (expr_tree read.expr) (leaves_of read.rest.now) tree behind) IsMemory }
-{
-    room_below(room, 1, place)?;
-    let rest = pass(rest, Symbol::OpenParenthesis)?;
-    let rest = pass(rest, Symbol::CloseParenthesis)?;
-    Ok(ReadExpr {
-        expr: Expr::GetChar { place },
-        height: 2,
-        rest,
-    })
-}
-
-/// Reads what stands behind `putchar`.
-#[cycle(expr)]
-fn read_put_char(
-    alloc: Global,
-    place: Pos,
-    rest: &[Token],
-    room: u32,
-) -> Result<ReadExpr<'_>, SyntaxErr>
-    ensures found { IfOk result (λ read. BeginsUnary room (symbol S.PutChar place ∷ leaves_of rest.now) (expr_tree read.expr) (leaves_of read.rest.now)) }
-    ensures measured { IfOk result (λ read. read.height ≡ expr_height (expr_tree read.expr)) }
-    ensures shorter { IfOk result (λ read. length read.rest.now < length rest.now) }
-    ensures only { (tree : ExprTree) (behind : List Leaf) → BeginsUnary room (symbol S.PutChar place ∷ leaves_of rest.now) tree behind
-        → MatchResult result (λ read. IsSame (expr_tree read.expr) (leaves_of read.rest.now) tree behind) IsMemory }
-{
-    let below = room_below(room, 1, place)?;
-    let value = read_enclosed(alloc, rest, below)?;
-    Ok(ReadExpr {
-        expr: Expr::PutChar {
-            place,
-            value: Box::new(alloc, value.expr)?,
-        },
-        height: value.height + 1,
-        rest: value.rest,
-    })
-}
-
-/// Reads what stands behind the `(` of an expression in parentheses.
-#[cycle(expr)]
-fn read_parenthesized(
-    alloc: Global,
-    place: Pos,
-    rest: &[Token],
-    room: u32,
-) -> Result<ReadExpr<'_>, SyntaxErr>
-    ensures found { IfOk result (λ read. BeginsUnary room (symbol S.OpenParenthesis place ∷ leaves_of rest.now) (expr_tree read.expr) (leaves_of read.rest.now)) }
-    ensures measured { IfOk result (λ read. read.height ≡ expr_height (expr_tree read.expr)) }
-    ensures shorter { IfOk result (λ read. length read.rest.now < length rest.now) }
-    ensures only { (tree : ExprTree) (behind : List Leaf) → BeginsUnary room (symbol S.OpenParenthesis place ∷ leaves_of rest.now) tree behind
-        → MatchResult result (λ read. IsSame (expr_tree read.expr) (leaves_of read.rest.now) tree behind) IsMemory }
-{
-    let below = room_below(room, 1, place)?;
-    let inner = read_expr_then(alloc, rest, below, Symbol::CloseParenthesis)?;
-    Ok(ReadExpr {
-        expr: Expr::Parenthesized {
-            place,
-            inner: Box::new(alloc, inner.expr)?,
-        },
-        height: inner.height + 1,
-        rest: inner.rest,
+    let open = pass(tokens, Kind::OpenParenthesis)?;
+    let named = read_type(alloc, open.rest, false, room)?;
+    let close = pass(named.rest, Kind::CloseParenthesis)?;
+    Ok(EnclosedType {
+        place: open.place,
+        type_name: named.value,
+        height: named.height,
+        rest: close.rest,
     })
 }

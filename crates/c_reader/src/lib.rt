@@ -1,12 +1,25 @@
-//! From tokens to the tree of a program (C17 6.5, 6.7, 6.8, 6.9).
+//! Reads the tokens of a program into its syntax tree (C17 6.5, 6.7, 6.8, 6.9).
 #![tactic(auto)]
 
+mod choice;
+mod declaration;
+mod declarator;
 mod expr;
-mod operator;
+mod following;
+mod item;
+mod name;
+mod operand;
+mod part;
 mod program;
-mod stmt;
+mod second;
+mod stars;
+mod statement;
 mod syntax_err;
+mod term;
+#[cfg(test)]
+mod tests;
 mod token;
+mod words;
 
 pub use program::read;
 pub use syntax_err::SyntaxErr;

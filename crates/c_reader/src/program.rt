@@ -1,62 +1,63 @@
-// Programs (C17 6.9).
+// The program.
 
-ghost use Rattle.std.specs.Prelude.{List, IfOk, OnOk, OnErr};
-ghost use Rattle.c_ast.specs.Syntax.{ProgramTree, program_tree};
-ghost use Rattle.c_lexer.specs.Leaves.{Leaf, leaves_of};
-ghost use Rattle.c_reader.specs.Grammar.{Parses};
-ghost use Rattle.c_reader.specs.Reading.{HasHead, IsEnd, IsReadUnlessMemory};
+ghost use Rattle.std.specs.Prelude.{◌≡◌, ◌||◌, IfOk, IfErr};
+ghost use Rattle.grammar_table.specs.Runs.{Whole};
+ghost use Rattle.c_grammar.specs.Forms as forms;
+ghost use Rattle.c_grammar.specs.Kinds.{is};
+ghost use Rattle.c_grammar.specs.Chooses.{begins_item};
+ghost use Rattle.c_token.specs.Leaves.{leaves_of};
+ghost use Rattle.c_syntax.specs.Trees.{ProgramTree};
+ghost use Rattle.c_syntax.specs.Views.{program_tree};
+ghost use Rattle.c_reader.specs.Shapes.{program_of};
+ghost use Rattle.c_reader.specs.Readings.{IsProgram, Refuses, IsReadUnlessMemory};
+ghost use Rattle.c_reader.specs.Rows.{GivesPart};
 
-use crate::SyntaxErr;
-use crate::stmt::read_items;
-use crate::token::{misfit, pass};
-use c_ast::Program;
-use c_lexer::{Lexeme, Symbol, Token};
+use crate::item::read_items;
+use crate::part::Part;
+use crate::syntax_err::SyntaxErr;
+use crate::token::{first_kind, first_place, pass};
+use c_grammar::Kind;
+use c_syntax::Program;
+use c_token::Token;
 use std::alloc::Global;
 
-#[cfg(test)]
-mod tests;
+/// How many nodes may lie on one path of a program.
+const NESTING_LIMIT: u32 = 200;
 
-/// How deep the nodes of a program may nest.
-const NESTING: u32 = 200;
-
-/// The program that the tokens spell. The tokens end with the end of the text.
-pub fn read(alloc: Global, tokens: Vec<Token>) -> Result<Program, SyntaxErr>
-    ensures found { IfOk result (λ program. Parses (leaves_of tokens.items) (program_tree program)) }
-    // no other: the program that the tokens spell is the one that was found, or memory ran out
-    ensures only { (program : ProgramTree) → Parses (leaves_of tokens.items) program → IsReadUnlessMemory result program }
+/// Reads the program that the tokens spell.
+pub fn read(alloc: Global, tokens: &[Token]) -> Result<Program, SyntaxErr>
+    ensures found { IfOk result (λ program. IsProgram (leaves_of tokens.now) (program_tree program)) }
+    ensures refused { IfErr result (Refuses (leaves_of tokens.now)) }
+    ensures only { (program : ProgramTree) → IsProgram (leaves_of tokens.now) program → IsReadUnlessMemory result program }
 {
-    let rest = pass_head(&tokens)?;
-    let (body, rest) = read_items(alloc, rest, NESTING - 1)?;
-    pass_end(rest)?;
-    Ok(Program { body })
-}
-
-/// Passes what stands before the items of `main`.
-fn pass_head(tokens: &[Token]) -> Result<&[Token], SyntaxErr>
-    ensures found { IfOk result (λ rest. HasHead (leaves_of tokens.now) (leaves_of rest.now)) }
-    ensures none { OnErr result ((behind : List Leaf) → HasHead (leaves_of tokens.now) behind → ⊥) }
-{
-    let rest = pass(tokens, Symbol::Int)?;
-    let rest = pass(rest, Symbol::Main)?;
-    let rest = pass(rest, Symbol::OpenParenthesis)?;
-    let rest = pass(rest, Symbol::Void)?;
-    let rest = pass(rest, Symbol::CloseParenthesis)?;
-    pass(rest, Symbol::OpenBrace)
-}
-
-/// Passes the end of the text, which nothing may follow.
-fn pass_end(tokens: &[Token]) -> Result<(), SyntaxErr>
-    ensures found { OnOk result (IsEnd (leaves_of tokens.now)) }
-    ensures none { OnErr result (IsEnd (leaves_of tokens.now) → ⊥) }
-{
-    let Some((first, rest)) = tokens.split_first() else {
-        return Err(misfit(tokens));
-    };
-    let Lexeme::EndOfText = first.lexeme else {
-        return Err(misfit(tokens));
-    };
-    if !rest.is_empty() {
-        return Err(misfit(rest));
+    let program = read_program(alloc, tokens, NESTING_LIMIT)?;
+    if !program.rest.is_empty() {
+        return Err(SyntaxErr::At(first_place(program.rest)));
     }
-    Ok(())
+    Ok(program.value)
+}
+
+/// Reads a program, which other tokens may follow.
+fn read_program(alloc: Global, tokens: &[Token], room: u32) -> Result<Part<'_, Program>, SyntaxErr>
+    ensures { GivesPart (Whole forms.Program 0) room (leaves_of tokens.now) program_of program_tree result }
+{
+    if !begins_program(first_kind(tokens)?) {
+        return Err(SyntaxErr::At(first_place(tokens)));
+    }
+    let items = read_items(alloc, tokens, room)?;
+    let end = pass(items.rest, Kind::End)?;
+    Ok(Part {
+        value: Program {
+            items: items.value,
+            end: end.place,
+        },
+        rest: end.rest,
+    })
+}
+
+/// Whether a token begins a program.
+fn begins_program(kind: Kind) -> bool
+    ensures { result ≡ (is kind Kind.End || begins_item kind) }
+{
+    kind.is(Kind::End) || kind.begins_item()
 }

@@ -1,69 +1,122 @@
 // Steps over tokens that have to stand there, and over what nests.
 
-ghost use Rattle.std.specs.Prelude.{◌≡◌, List, ◌∷◌, ◌+◌, ◌<◌, ◌≤◌, length, IfOk, IfErr, OnErr, IfSome, IfNone};
-ghost use Rattle.c_lexer.specs.Leaves.{Leaf, leaves_of};
-ghost use Rattle.c_reader.specs.Grammar.{symbol};
-ghost use Rattle.c_reader.specs.Reading.{Passes};
+ghost use Rattle.std.specs.Prelude.{◌≡◌, ◌+◌, ◌<◌, ◌≤◌, max, [], length, false, IfOk, IfErr, OnErr};
+ghost use Rattle.grammar_table.specs.Runs.{fits_first};
+ghost use Rattle.c_token.specs.Leaves.{leaves_of};
+ghost use Rattle.c_syntax.specs.Views.{name_tree};
+ghost use Rattle.c_reader.specs.Grammar.{grammar};
+ghost use Rattle.c_reader.specs.Shapes.{place_of};
+ghost use Rattle.c_reader.specs.Readings.{Begins, Passes};
+ghost use Rattle.c_reader.specs.Steps.{second_kind_of};
 
-use crate::SyntaxErr;
-use c_lexer::{Lexeme, Symbol, Token};
+use crate::syntax_err::SyntaxErr;
+use c_grammar::Kind;
+use c_token::Token;
 use run_theory::Pos;
 
-/// A symbol at the front of tokens, and the tokens behind it.
+/// What was read: its value, how many nodes lie on its longest path, and the tokens behind it.
+#[derive(Drop)]
+pub(crate) struct Read<'a, T> {
+    pub(crate) value: T,
+    pub(crate) height: u32,
+    pub(crate) rest: &'a [Token],
+}
+
+/// A token that was passed: its place, and the tokens behind it.
 #[derive(Clone, Copy)]
-pub struct SymbolAt<'a> {
-    pub place: Pos,
-    pub rest: &'a [Token],
+pub(crate) struct Passed<'a> {
+    pub(crate) place: Pos,
+    pub(crate) rest: &'a [Token],
 }
 
-/// The refusal at the first of the tokens, or at the start of the text where there is none.
-pub fn misfit(tokens: &[Token]) -> SyntaxErr {
+/// The place of the first of the tokens, or of the start of a text where there is none.
+pub(crate) fn first_place(tokens: &[Token]) -> Pos
+    ensures { result ≡ place_of (leaves_of tokens.now) }
+{
     match tokens.first() {
-        Some(token) => SyntaxErr::At(token.place),
-        None => SyntaxErr::At(Pos { line: 1, column: 1 }),
+        Some(token) => token.place,
+        None => Pos::start(),
     }
 }
 
-/// The symbol at the front, if it is this one.
-pub fn symbol_at(tokens: &[Token], kind: Symbol) -> Option<SymbolAt<'_>>
-    ensures found { IfSome result (λ at. leaves_of tokens.now ≡ symbol kind at.place ∷ leaves_of at.rest.now) }
-    ensures shorter { IfSome result (λ at. length at.rest.now < length tokens.now) }
-    ensures none { IfNone result ((behind : List Leaf) → Passes kind (leaves_of tokens.now) behind → ⊥) }
+/// The kind of the first of the tokens. Nothing goes on where there is none.
+pub(crate) fn first_kind(tokens: &[Token]) -> Result<Kind, SyntaxErr>
+    ensures found { IfOk result (λ kind. Begins kind (leaves_of tokens.now)) }
+    ensures none { OnErr result (leaves_of tokens.now ≡ []) }
+    ensures misfit { IfErr result (λ fault. fault ≡ SyntaxErr.At (place_of (leaves_of tokens.now))) }
 {
-    let (token, rest) = tokens.split_first()?;
-    let Lexeme::Symbol(found) = token.lexeme else {
-        return None;
-    };
-    if found != kind {
-        return None;
+    match tokens.first() {
+        Some(token) => Ok(token.lexeme.kind()),
+        None => Err(SyntaxErr::At(first_place(tokens))),
     }
-    Some(SymbolAt {
-        place: token.place,
-        rest,
-    })
 }
 
-/// Passes the symbol that has to stand at the front.
-pub fn pass(tokens: &[Token], kind: Symbol) -> Result<&[Token], SyntaxErr>
-    ensures found { IfOk result (λ rest. Passes kind (leaves_of tokens.now) (leaves_of rest.now)) }
-    ensures shorter { IfOk result (λ rest. length rest.now < length tokens.now) }
-    ensures none { OnErr result ((behind : List Leaf) → Passes kind (leaves_of tokens.now) behind → ⊥) }
+/// Passes a token of a kind, which has to stand at the front.
+pub(crate) fn pass(tokens: &[Token], kind: Kind) -> Result<Passed<'_>, SyntaxErr>
+    ensures found { IfOk result (λ passed. Passes kind (leaves_of tokens.now) passed.place (leaves_of passed.rest.now)) }
+    ensures shorter { IfOk result (λ passed. length passed.rest.now < length tokens.now) }
+    ensures none { OnErr result (fits_first grammar kind (leaves_of tokens.now) ≡ false) }
+    ensures misfit { IfErr result (λ fault. fault ≡ SyntaxErr.At (place_of (leaves_of tokens.now))) }
 {
-    match symbol_at(tokens, kind) {
-        Some(at) => Ok(at.rest),
-        None => Err(misfit(tokens)),
+    match tokens.split_first() {
+        Some((token, rest)) => {
+            if token.lexeme.kind() == kind {
+                Ok(Passed {
+                    place: token.place,
+                    rest,
+                })
+            } else {
+                Err(SyntaxErr::At(token.place))
+            }
+        }
+        None => Err(SyntaxErr::At(first_place(tokens))),
     }
 }
 
-/// The room below a node at this place. `least` is the least height of what stands below it.
-pub fn room_below(room: u32, least: u32, place: Pos) -> Result<u32, SyntaxErr>
+/// The room below a node that begins with the first of the tokens, where `least` is the least height of such a node.
+pub(crate) fn room_below(tokens: &[Token], least: u32, room: u32) -> Result<u32, SyntaxErr>
+    requires { 1 ≤ least }
     ensures found { IfOk result (λ below. below + 1 ≡ room) }
-    ensures fits { IfOk result (λ below. least ≤ below) }
-    ensures none { OnErr result (room ≤ least) }
-    ensures deep { IfErr result (λ fault. fault ≡ SyntaxErr.TooDeep place) }
+    ensures fits { IfOk result (λ below. least ≤ room) }
+    ensures none { OnErr result (room < least) }
+    ensures deep { IfErr result (λ fault. fault ≡ SyntaxErr.TooDeep (place_of (leaves_of tokens.now))) }
 {
-    if room <= least {
-        return Err(SyntaxErr::TooDeep(place));
+    if room < least {
+        return Err(SyntaxErr::TooDeep(first_place(tokens)));
+    }
+    Ok(room - 1)
+}
+
+/// The kind of the second of the tokens, or of the end of a text where there is none.
+pub(crate) fn second_kind(tokens: &[Token]) -> Kind
+    ensures { result ≡ second_kind_of (leaves_of tokens.now) }
+{
+    match tokens.get(1) {
+        Some(token) => token.lexeme.kind(),
+        None => Kind::End,
+    }
+}
+
+/// The room below a node of which a tree of this height was read already, where `least` is the least height of such a
+/// node. What goes on begins with the first of the tokens.
+pub(crate) fn room_behind(
+    tokens: &[Token],
+    least: u32,
+    height: u32,
+    room: u32,
+) -> Result<u32, SyntaxErr>
+    requires { 1 ≤ least }
+    ensures found { IfOk result (λ below. below + 1 ≡ room) }
+    ensures fits { IfOk result (λ below. least ≤ room) }
+    ensures left_fits { IfOk result (λ below. height ≤ below) }
+    ensures none { OnErr result (room < max least (height + 1)) }
+    ensures deep { IfErr result (λ fault. fault ≡ SyntaxErr.TooDeep (place_of (leaves_of tokens.now))) }
+{
+    if room < least {
+        return Err(SyntaxErr::TooDeep(first_place(tokens)));
+    }
+    if room <= height {
+        return Err(SyntaxErr::TooDeep(first_place(tokens)));
     }
     Ok(room - 1)
 }

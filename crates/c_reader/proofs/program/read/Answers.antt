@@ -1,40 +1,30 @@
-use Rattle.std.proofs.Common.{List, sym, ap, subst}
-use Rattle.c_ast.specs.Syntax.{BlockTree, ProgramTree, items_tree}
-use Rattle.c_lexer.specs.Leaves.{leaves_of}
-use Rattle.c_reader.specs.Grammar.{Parses}
-use Rattle.c_reader.specs.Reading.{BeginsItems, HasHead, IsEnd}
-use Rattle.c_reader.proofs.Programs.{from_parts, parts_of, same_inside, refused}
+use Rattle.std.proofs.Common.{sym, ◌∙◌}
+use Rattle.std.proofs.lemmas.Result.{err_from_is_err_and}
+use Rattle.c_reader.proofs.Programs.{refused_program, only_refused, only_done, trailing_refused, trailing_only, whole_found}
 use Rattle.c_reader.proofs.program.read.Goals as goal
 
-pub returns-in_err-rest-clause-only : goal.returns-in_err-rest-clause-only
-returns-in_err-rest-clause-only c program parses =
-    let parts = parts_of _ program parses in
-    absurd (c.in_err-rest.ensures.none parts.inside (subst (λ x. HasHead (leaves_of x) parts.inside) (sym c.deref.ensures.value) parts.head))
+pub returns-in_err-program-clause-refused : goal.returns-in_err-program-clause-refused
+returns-in_err-program-clause-refused c =
+    let p = err_from_is_err_and c.from_residual.result c.from_residual.ensures.1 in
+    rw (p.1, p.2) (refused_program _ _ c.in_err-program.ensures)
 
-pub returns-in_err-body-clause-only : goal.returns-in_err-body-clause-only
-returns-in_err-body-clause-only c program parses =
-    let parts = parts_of _ program parses in
-    let head = subst (λ x. HasHead (leaves_of x) parts.inside) (sym c.deref.ensures.value) parts.head in
-    let same = same_inside _ parts.inside _ head c.in_ok-rest.ensures.found in
-    refused c.from_residual-in_err-body.result _ program c.from_residual-in_err-body.ensures.1 (c.in_err-body.ensures.only program.body parts.rest (subst (λ x. BeginsItems 199 x program.body parts.rest) same parts.begins))
+pub returns-in_err-program-clause-only : goal.returns-in_err-program-clause-only
+returns-in_err-program-clause-only c program is =
+    let p = err_from_is_err_and c.from_residual.result c.from_residual.ensures.1 in
+    rw (p.1, p.2) (only_refused _ program _ c.in_err-program.ensures is)
 
-pub returns-in_err-pass_end-clause-only : goal.returns-in_err-pass_end-clause-only
-returns-in_err-pass_end-clause-only c program parses =
-    let parts = parts_of _ program parses in
-    let head = subst (λ x. HasHead (leaves_of x) parts.inside) (sym c.deref.ensures.value) parts.head in
-    let same = same_inside _ parts.inside _ head c.in_ok-rest.ensures.found in
-    let items = c.in_ok-body.ensures.only program.body parts.rest (subst (λ x. BeginsItems 199 x program.body parts.rest) same parts.begins) in
-    absurd (c.in_err-pass_end.ensures.none (subst IsEnd (sym items.same_behind) parts.end))
+pub returns-then-not-is_empty-clause-refused : goal.returns-then-not-is_empty-clause-refused
+returns-then-not-is_empty-clause-refused c =
+    trailing_refused _ _ _ _ c.in_ok-program.ensures (sym c.is_empty.ensures ∙ c.if-not-is_empty.true) c.first_place.ensures
+
+pub returns-then-not-is_empty-clause-only : goal.returns-then-not-is_empty-clause-only
+returns-then-not-is_empty-clause-only c program is =
+    trailing_only _ program _ _ c.in_ok-program.ensures (sym c.is_empty.ensures ∙ c.if-not-is_empty.true) is
 
 pub returns-clause-found : goal.returns-clause-found
 returns-clause-found c =
-    subst (λ x. Parses (leaves_of x) (record { body = items_tree c.in_ok-body.body.items })) c.deref.ensures.value (from_parts _ _ _ _ c.in_ok-rest.ensures.found c.in_ok-body.ensures.found c.in_ok-pass_end.ensures.found)
+    whole_found _ _ _ c.in_ok-program.ensures (sym c.is_empty.ensures ∙ c.if-not-is_empty.false)
 
 pub returns-clause-only : goal.returns-clause-only
-returns-clause-only c program parses =
-    let parts = parts_of _ program parses in
-    let head = subst (λ x. HasHead (leaves_of x) parts.inside) (sym c.deref.ensures.value) parts.head in
-    let same = same_inside _ parts.inside _ head c.in_ok-rest.ensures.found in
-    let items = c.in_ok-body.ensures.only program.body parts.rest (subst (λ x. BeginsItems 199 x program.body parts.rest) same parts.begins) in
-    let tree : BlockTree → ProgramTree = λ body. record { body = body } in
-    ap tree items.same_tree
+returns-clause-only c program is =
+    (only_done _ program _ _ is c.in_ok-program.ensures).0

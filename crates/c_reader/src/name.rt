@@ -1,0 +1,60 @@
+// Names and literals.
+
+ghost use Rattle.std.specs.Prelude.{◌≡◌, ◌<◌, length, IfOk, IfErr};
+ghost use Rattle.c_token.specs.Leaves.{leaf_of, leaves_of};
+ghost use Rattle.c_reader.specs.Shapes.{bytes_of};
+ghost use Rattle.c_reader.specs.Steps.{first_bytes, GivesName};
+
+use crate::syntax_err::SyntaxErr;
+use crate::token::pass;
+use c_grammar::Kind;
+use c_syntax::Name;
+use c_token::{Bytes, Lexeme, Token};
+use std::alloc::{AllocError, Global};
+
+/// A name that was passed, and the tokens behind it.
+#[derive(Drop)]
+pub(crate) struct PassedName<'a> {
+    pub(crate) name: Name,
+    pub(crate) rest: &'a [Token],
+}
+
+/// The same bytes once more.
+pub(crate) fn copy(alloc: Global, bytes: &Bytes) -> Result<Bytes, AllocError>
+    ensures { IfOk result (λ copy. copy ≡ bytes.now) }
+{
+    let bytes = Vec::from_slice(alloc, bytes.as_slice())?;
+    Ok(Bytes::new(bytes))
+}
+
+/// The bytes of the first of the tokens, where it is a name or a literal, else none.
+pub(crate) fn token_bytes(alloc: Global, tokens: &[Token]) -> Result<Bytes, AllocError>
+    ensures { IfOk result (λ bytes. bytes ≡ first_bytes (leaves_of tokens.now)) }
+{
+    match tokens.first() {
+        Some(token) => {
+            match &token.lexeme {
+                Lexeme::Name(bytes) => copy(alloc, bytes),
+                Lexeme::Literal(bytes) => copy(alloc, bytes),
+                _ => Ok(Bytes::new(Vec::new(alloc))),
+            }
+        }
+        None => Ok(Bytes::new(Vec::new(alloc))),
+    }
+}
+
+/// Passes a name, which has to stand at the front.
+pub(crate) fn pass_name(alloc: Global, tokens: &[Token]) -> Result<PassedName<'_>, SyntaxErr>
+    ensures gives { GivesName (leaves_of tokens.now) result }
+    ensures shorter { IfOk result (λ passed. length passed.rest.now < length tokens.now) }
+{
+    let passed = pass(tokens, Kind::Name)?;
+    let bytes = token_bytes(alloc, tokens)?;
+    Ok(PassedName {
+        name: Name {
+            bytes,
+            place: passed.place,
+        },
+        rest: passed.rest,
+    })
+}
