@@ -82,6 +82,7 @@ fn put_refusal<E: Sink>(err: &mut E, refusal: Refusal) -> Result<(), Failed>
             let pools = pools_digits.format(pools);
             put_line(err, &["refused pools of ", function, " ", pools])
         }
+        Refusal::Later(place) => put_at_place(err, "refused ", "later", place),
     }
 }
 
@@ -174,6 +175,11 @@ mod tests {
                 Status::Refused(Refusal::Pools(FuncId(12), 257)),
                 241,
                 "poolcc: refused pools of 12 257\n",
+            ),
+            (
+                Status::Refused(Refusal::Later(at(3, 5))),
+                241,
+                "poolcc: refused later at 3:5\n",
             ),
             (
                 Status::Undefined(UbKind::U06, at(1, 72)),

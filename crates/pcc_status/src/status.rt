@@ -66,6 +66,8 @@ pub enum Refusal {
     Graph(u64),
     /// A function has more pools than its limit.
     Pools(FuncId, u64),
+    /// The text from this place on is of a form that is not compiled yet.
+    Later(Pos),
 }
 
 /// The number of a function in the order of the text.
