@@ -1,13 +1,13 @@
 -- What follows from a command's answer: that it is the machine's where nothing outside fails, and that a trap shows that
 -- the program goes wrong.
-use Rattle.std.proofs.Common.{◌≡◌, ℕ, ◌≤◌, ◌⊎◌, inl, inr, List, [], ◌∷◌, ◌++◌, Option, Some, length, sym, ap, ◌∙◌, refl, arith}
+use Rattle.std.proofs.Common.{◌≡◌, ℕ, ◌≤◌, ◌⊎◌, inl, inr, List, ◌++◌, Option, Some, length, sym, ap, ◌∙◌, refl, arith}
 use Rattle.run_theory.specs.Runs.{Trace, output_of, Final, Ended, DepthReached, HeapExhausted, IndexExhausted, Trapped, Over, trace_of, IsUndefined}
 use Rattle.run_theory.specs.declared.ends.TrapKind.{TrapKind}
 use Rattle.run_theory.proofs.Following.{follows_trapped}
 use Rattle.pcc_outside.specs.Outside.{Rose}
 use Rattle.c_ast.specs.Syntax.{ProgramTree}
 use Rattle.c_ast.specs.Reference.{reference}
-use Rattle.c_types.specs.Typing.{violations, typed_of}
+use Rattle.c_types.specs.Typing.{typed_of}
 use Rattle.pool_isa.specs.Machine.{initial, mach}
 use Rattle.image_form.specs.declared.image.MachineLimits.{MachineLimits}
 use Rattle.image_form.specs.Form.{Form}
@@ -15,14 +15,12 @@ use Rattle.machine.specs.Run.{HaltsAt, ComesTo}
 use Rattle.machine.proofs.Mach.{mach_over, mach_going}
 use Rattle.pcc_status.specs.declared.status.Status.{Status}
 use Rattle.pcc_status.specs.declared.status.Status.TheVariants as S
-use Rattle.pcc_status.specs.declared.status.Refusal.{Refusal}
-use Rattle.pcc_status.specs.declared.status.Refusal.TheVariants as R
 use Rattle.pcc_status.specs.Said.{Said, after_failed_line}
 use Rattle.poolcc.specs.Compiled.{IsAccepted, Compiles}
 use Rattle.poolcc.specs.Command.{Exec}
 use Rattle.poolcc.specs.Complete.{told, RunsAs, RunsUnlessMemory}
 use Rattle.poolcc.specs.Exec.{source_limit, ExecGives}
-use Rattle.poolcc.specs.Refused.{IsRefused}
+use Rattle.poolcc.proofs.Refusals.{not_refused}
 
 -- a line that was written leaves the answer as it was
 pub said_as_it_is : (status answer : Status) (old new : Option (List ℕ)) (before after : ℕ) → Said status answer old new before after → (Rose before after → ⊥) → answer ≡ status
@@ -73,17 +71,6 @@ module _ (text : List ℕ) (limits : MachineLimits) (steps : ℕ) (left base : L
         output = there.2 ∙ ap (λ answer. Some (base ++ output_of (trace_of answer))) (sym there.1);
       }
 
-  not_refused : (program : ProgramTree) → IsAccepted text program → (refusal : Refusal) → IsRefused text refusal → ⊥
-  not_refused program accepted (R.Lex kind place) refused = refused.undivided (accepted.reads.reads.leaves, accepted.reads.reads.divides)
-  not_refused program accepted (R.Syntax kind place) refused = refused.1 program accepted.reads.reads
-  not_refused program accepted (R.TypeRule rule place) refused =
-      let same = accepted.reads.only refused.program refused.reads.reads in
-      let none : [] ≡ record { kind = rule; place = place } ∷ refused.others = sym (ap violations same ∙ accepted.typed) ∙ refused.violated in
-      cc
-  not_refused program accepted (R.Limit limit count) refused = refused
-  not_refused program accepted (R.Graph count) refused = refused
-  not_refused program accepted (R.Pools function count) refused = refused
-
   module _ (program : ProgramTree) (accepted : IsAccepted text program) (short : length text ≤ source_limit) where
     -- an answer of exec that is no fault is the machine's, or memory ran out
     pub completed : (answer : Status) → ExecGives text limits steps left base answer left' written' → (answer ≡ S.ReadFault → ⊥) → (answer ≡ S.WriteFault → ⊥) → RunsUnlessMemory text limits steps left base answer written'
@@ -93,7 +80,7 @@ module _ (text : List ℕ) (limits : MachineLimits) (steps : ℕ) (left base : L
     completed S.IndexExhausted gives read write = inr (over gives.form IndexExhausted gives.compiles gives.ran S.IndexExhausted (λ trace. refl))
     completed (S.Trapped kind) gives read write = inr (over gives.form (Trapped kind) gives.compiles gives.ran (S.Trapped kind) (λ trace. refl))
     completed S.StepsSpent gives read write = inr (spent gives.form gives.compiles gives.ran)
-    completed (S.Refused refusal) gives read write = absurd (not_refused program accepted refusal gives.1)
+    completed (S.Refused refusal) gives read write = absurd (not_refused text program refusal accepted gives.1)
     completed S.SourceTooLong gives read write = let long = gives.0 in absurd (omega arith)
     completed S.ReadFault gives read write = absurd (read refl)
     completed S.WriteFault gives read write = absurd (write refl)

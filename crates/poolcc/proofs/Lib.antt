@@ -1,6 +1,12 @@
 pub mod Completing
 pub mod Executing
+pub mod Misplacing
+pub mod NarrowedSizes
+pub mod NodeCounts
 pub mod Numerals
 pub mod Pipeline
+pub mod Reading
+pub mod Refusals
 pub mod Refusing
 pub mod Sizes
+pub mod TreeSizes

@@ -1,11 +1,15 @@
--- Lexical refusals: the kind and place are those of the text's one fault.
-use Rattle.std.proofs.Common.{◌≡◌, ℕ, ◌≤◌, ◌⊎◌, inl, inr, true, List, Option, length, sym, ap, ◌∙◌, refl, arith}
+-- What the code refuses is refused, and what is refused gets that answer.
+use Rattle.std.proofs.Common.{◌≡◌, ℕ, ◌≤◌, ◌⊎◌, inl, inr, true, List, [], ◌∷◌, Option, Some, length, ap, refl, arith}
 use Rattle.run_theory.specs.declared.ends.Pos.{Pos}
 use Rattle.run_theory.specs.Places.{first_place}
-use Rattle.c_lexer.specs.declared.token.LexErr.{LexErr}
-use Rattle.c_lexer.specs.declared.token.LexErr.TheVariants as X
+use Rattle.c_lexer.specs.declared.lex_err.LexErr.{LexErr}
+use Rattle.c_lexer.specs.declared.lex_err.LexErr.TheVariants as X
 use Rattle.c_lexer.specs.Tokens.{Faults, UnlessMemory}
 use Rattle.c_lexer.proofs.Dividing.{one_fault, no_both}
+use Rattle.c_ast.specs.Syntax.{ProgramTree}
+use Rattle.c_types.specs.declared.rule.TypeRule.{TypeRule}
+use Rattle.c_types.specs.Checking.{first}
+use Rattle.c_types.specs.Typing.{Violation, violations}
 use Rattle.image_form.specs.declared.image.MachineLimits.{MachineLimits}
 use Rattle.image_form.specs.Form.{Form}
 use Rattle.pcc_status.specs.declared.status.LexKind.{LexKind}
@@ -14,10 +18,10 @@ use Rattle.pcc_status.specs.declared.status.Refusal.{Refusal}
 use Rattle.pcc_status.specs.declared.status.Refusal.TheVariants as R
 use Rattle.pcc_status.specs.declared.status.Status.{Status}
 use Rattle.pcc_status.specs.declared.status.Status.TheVariants as S
-use Rattle.poolcc.specs.declared.text.Stop.TheVariants as stops
-use Rattle.poolcc.specs.Compiled.{Compiles}
+use Rattle.poolcc.specs.Compiled.{IsInteger, Compiles}
 use Rattle.poolcc.specs.Exec.{source_limit, ExecGives}
-use Rattle.poolcc.specs.Refused.{HasTokens, fault_of, IsLexical, IsRefused, IsStop, stop_of}
+use Rattle.poolcc.specs.Refused.{fault_of, IsLexical, IsIllTyped, IsRefused, IsStop, stop_of}
+use Rattle.poolcc.proofs.Refusals.{one_refusal, not_refused}
 
 pub is_lexical : (text : List ℕ) (kind : LexKind) (place : Pos) → Faults first_place text (fault_of kind place) → IsLexical text kind place
 is_lexical text kind place faults = record {
@@ -35,50 +39,36 @@ stops_so text (X.BadDirective place) refused = is_lexical text K.BadDirective pl
 stops_so text (X.NameTooLong place) refused = is_lexical text K.NameTooLong place refused
 stops_so text X.OutOfMemory refused = tt
 
--- a fault names one refusal
-named : (kind : LexKind) (place : Pos) → stop_of (fault_of kind place) ≡ stops.Refused (R.Lex kind place)
-named K.BadByte place = refl
-named K.BadLiteral place = refl
-named K.Unclosed place = refl
-named K.BadDirective place = refl
-named K.NameTooLong place = refl
+front : (violations : List Violation) (violation : Violation) → first violations ≡ Some violation → (others : List Violation) × (violations ≡ violation ∷ others)
+front [] violation e = cc
+front (one ∷ others) violation e = let same : one ≡ violation = cc in (others, ap (λ v. v ∷ others) same)
 
-one_refusal : (kind kind' : LexKind) (place place' : Pos) → fault_of kind place ≡ fault_of kind' place' → S.Refused (R.Lex kind place) ≡ S.Refused (R.Lex kind' place')
-one_refusal kind kind' place place' same =
-    let both : stops.Refused (R.Lex kind place) ≡ stops.Refused (R.Lex kind' place') = sym (named kind place) ∙ ap stop_of same ∙ named kind' place' in
-    cc
+-- the first violation that the check names is the text's
+pub ill_typed : (text : List ℕ) (program : ProgramTree) (rule : TypeRule) (place : Pos) → IsInteger text program → first (violations program) ≡ Some (record { kind = rule; place = place }) → IsIllTyped text rule place
+ill_typed text program rule place reads e =
+    let found = front (violations program) _ e in
+    record { program = program; reads = reads; others = found.0; violated = found.1 }
 
 module _ (text : List ℕ) (limits : MachineLimits) (steps : ℕ) (left base : List ℕ) (left' written' : Option (List ℕ)) where
-  module _ (kind : LexKind) (place : Pos) (faults : Faults first_place text (fault_of kind place)) (short : length text ≤ source_limit) where
-    undivided : HasTokens text → ⊥
-    undivided divided = no_both true first_place text (fault_of kind place) divided.0 faults divided.1
-
-    refused_so : (refusal : Refusal) → IsRefused text refusal → S.Refused refusal ≡ S.Refused (R.Lex kind place)
-    refused_so (R.Lex kind' place') refused = one_refusal kind' kind place' place (sym (refused.only (fault_of kind place) faults))
-    refused_so (R.Syntax kind' place') refused = absurd (undivided refused.0)
-    refused_so (R.TypeRule rule place') refused = absurd (undivided (refused.reads.reads.leaves, refused.reads.reads.divides))
-    refused_so (R.Limit limit count) refused = absurd refused
-    refused_so (R.Graph count) refused = absurd refused
-    refused_so (R.Pools function count) refused = absurd refused
-
+  module _ (refusal : Refusal) (refused : IsRefused text refusal) (short : length text ≤ source_limit) where
     not_run : {form : Form} → Compiles text limits form → ⊥
-    not_run compiles = undivided (compiles.accepted.reads.reads.leaves, compiles.accepted.reads.reads.divides)
+    not_run compiles = not_refused text compiles.program refusal compiles.accepted refused
 
-    -- a text with a fault is refused so, or memory ran out
-    pub lexical : (answer : Status) → ExecGives text limits steps left base answer left' written' → (answer ≡ S.ReadFault → ⊥) → (answer ≡ S.WriteFault → ⊥) → (answer ≡ S.OutOfMemory) ⊎ (answer ≡ S.Refused (R.Lex kind place))
-    lexical (S.Refused refusal) gives read write = inr (refused_so refusal gives.1)
-    lexical S.OutOfMemory gives read write = inl refl
-    lexical S.ReadFault gives read write = absurd (read refl)
-    lexical S.WriteFault gives read write = absurd (write refl)
-    lexical S.SourceTooLong gives read write = let long = gives.0 in absurd (omega arith)
-    lexical (S.Program status) gives read write = absurd (not_run gives.compiles)
-    lexical S.Depth gives read write = absurd (not_run gives.compiles)
-    lexical S.HeapExhausted gives read write = absurd (not_run gives.compiles)
-    lexical S.IndexExhausted gives read write = absurd (not_run gives.compiles)
-    lexical (S.Trapped kind') gives read write = absurd (not_run gives.compiles)
-    lexical S.StepsSpent gives read write = absurd (not_run gives.compiles)
-    lexical S.Done gives read write = absurd gives
-    lexical (S.Undefined kind' place') gives read write = absurd gives
-    lexical (S.BadImage at) gives read write = absurd gives
-    lexical S.ImageTooLong gives read write = absurd gives
-    lexical (S.Usage kind') gives read write = absurd gives
+    -- a text that is refused gets that answer, or memory ran out
+    pub refuses : (answer : Status) → ExecGives text limits steps left base answer left' written' → (answer ≡ S.ReadFault → ⊥) → (answer ≡ S.WriteFault → ⊥) → (answer ≡ S.OutOfMemory) ⊎ (answer ≡ S.Refused refusal)
+    refuses (S.Refused other) gives read write = inr (ap S.Refused (one_refusal text other refusal gives.1 refused))
+    refuses S.OutOfMemory gives read write = inl refl
+    refuses S.ReadFault gives read write = absurd (read refl)
+    refuses S.WriteFault gives read write = absurd (write refl)
+    refuses S.SourceTooLong gives read write = let long = gives.0 in absurd (omega arith)
+    refuses (S.Program status) gives read write = absurd (not_run gives.compiles)
+    refuses S.Depth gives read write = absurd (not_run gives.compiles)
+    refuses S.HeapExhausted gives read write = absurd (not_run gives.compiles)
+    refuses S.IndexExhausted gives read write = absurd (not_run gives.compiles)
+    refuses (S.Trapped kind) gives read write = absurd (not_run gives.compiles)
+    refuses S.StepsSpent gives read write = absurd (not_run gives.compiles)
+    refuses S.Done gives read write = absurd gives
+    refuses (S.Undefined kind place) gives read write = absurd gives
+    refuses (S.BadImage at) gives read write = absurd gives
+    refuses S.ImageTooLong gives read write = absurd gives
+    refuses (S.Usage kind) gives read write = absurd gives

@@ -1,23 +1,40 @@
 -- When an image is a program's.
-use Rattle.std.specs.Prelude.{◌≡◌, ℕ, List, []}
+use Rattle.std.specs.Prelude.{◌≡◌, ℕ, List, [], Ok}
+use Rattle.run_theory.specs.Places.{first_place}
 use Rattle.run_theory.specs.Runs.{Run, Follows}
+use Rattle.c_token.specs.Leaves.{Leaf}
+use Rattle.c_lexer.specs.Tokens.{Divides}
+use Rattle.c_syntax.specs.Trees
+use Rattle.c_reader.specs.Readings.{IsProgram}
 use Rattle.c_ast.specs.Syntax.{ProgramTree}
 use Rattle.c_ast.specs.Typed.{TypedProgram}
 use Rattle.c_ast.specs.Reference.{reference}
-use Rattle.c_reader.specs.Grammar.{Reads}
+use Rattle.c_integer.specs.Narrowing.{program_of}
 use Rattle.c_types.specs.Typing.{violations, typed_of}
 use Rattle.pool_isa.specs.Machine.{Function, mach}
 use Rattle.image_form.specs.declared.image.MachineLimits.{MachineLimits}
 use Rattle.image_form.specs.Form.{Form, IsImage, ImageOf}
 
+-- The text divides into the tokens of the program.
+pub record Reads (text : List ℕ) (program : Trees.ProgramTree) : Type 0 where
+  pub leaves : List Leaf
+  pub divides : Divides first_place text leaves
+  pub spelled : IsProgram leaves program
+
 -- The text reads as the program, and as no other.
-pub record ReadsAs (text : List ℕ) (program : ProgramTree) : Type 0 where
+pub record ReadsAs (text : List ℕ) (program : Trees.ProgramTree) : Type 0 where
   pub reads : Reads text program
-  pub only : (other : ProgramTree) → Reads text other → other ≡ program
+  pub only : (other : Trees.ProgramTree) → Reads text other → other ≡ program
+
+-- The text reads as a program of the integer language, which is what is compiled so far.
+pub record IsInteger (text : List ℕ) (program : ProgramTree) : Type 0 where
+  pub whole : Trees.ProgramTree
+  pub reads : ReadsAs text whole
+  pub narrows : program_of whole ≡ Ok program
 
 -- The text is accepted: it reads as the program, in which no type rule is violated.
 pub record IsAccepted (text : List ℕ) (program : ProgramTree) : Type 0 where
-  pub reads : ReadsAs text program
+  pub reads : IsInteger text program
   pub typed : violations program ≡ []
 
 -- The run of an image on an input, within limits: no instruction that is there takes memory of the heap, so that no

@@ -238,8 +238,18 @@ fn refusals_name_their_place(rt: HostRuntime) -> Result<(), Fail> {
     let lex = |kind, line, column| Refusal::Lex(kind, Pos { line, column });
     let at = |line, column| Refusal::Syntax(SyntaxKind::At, Pos { line, column });
     let rule = |kind, line, column| Refusal::TypeRule(kind, Pos { line, column });
+    let later = |line, column| Refusal::Later(Pos { line, column });
     let rows = [
-        ("", at(1, 1), "poolcc: refused syntax at 1:1\n"),
+        (
+            "",
+            rule(TypeRule::T01, 1, 1),
+            "poolcc: refused T01 at 1:1\n",
+        ),
+        (
+            "// none\n",
+            rule(TypeRule::T01, 2, 1),
+            "poolcc: refused T01 at 2:1\n",
+        ),
         (
             "int main(void) { return 0x; }",
             lex(LexKind::BadLiteral, 1, 25),
@@ -282,8 +292,8 @@ fn refusals_name_their_place(rt: HostRuntime) -> Result<(), Fail> {
         ),
         (
             "int main(void) { return --5; }",
-            at(1, 25),
-            "poolcc: refused syntax at 1:25\n",
+            later(1, 25),
+            "poolcc: refused later at 1:25\n",
         ),
         (
             "int main(void) { return 'a; }",
@@ -292,18 +302,18 @@ fn refusals_name_their_place(rt: HostRuntime) -> Result<(), Fail> {
         ),
         (
             "int main(void) { return ; }",
-            at(1, 25),
-            "poolcc: refused syntax at 1:25\n",
+            later(1, 18),
+            "poolcc: refused later at 1:18\n",
         ),
         (
             "int main(void) { putchar(); }",
-            at(1, 26),
-            "poolcc: refused syntax at 1:26\n",
+            later(1, 18),
+            "poolcc: refused later at 1:18\n",
         ),
         (
             "int main(void) { return 0; } int",
-            at(1, 30),
-            "poolcc: refused syntax at 1:30\n",
+            at(1, 33),
+            "poolcc: refused syntax at 1:33\n",
         ),
         (
             "int main(void) { return x; }",
@@ -327,8 +337,8 @@ fn refusals_name_their_place(rt: HostRuntime) -> Result<(), Fail> {
         ),
         (
             "int main(void) { x; return ; }",
-            at(1, 28),
-            "poolcc: refused syntax at 1:28\n",
+            later(1, 21),
+            "poolcc: refused later at 1:21\n",
         ),
         (
             "int main(void) { if (1) int x; }",
@@ -337,13 +347,58 @@ fn refusals_name_their_place(rt: HostRuntime) -> Result<(), Fail> {
         ),
         (
             "int main(void) { 5 = 1; }",
+            later(1, 18),
+            "poolcc: refused later at 1:18\n",
+        ),
+        (
+            "int main(void) { int getchar; }",
+            later(1, 22),
+            "poolcc: refused later at 1:22\n",
+        ),
+        (
+            "int main(void) { return 1 + ; }",
+            at(1, 29),
+            "poolcc: refused syntax at 1:29\n",
+        ),
+        (
+            "int main(void) { goto x; }",
+            at(1, 18),
+            "poolcc: refused syntax at 1:18\n",
+        ),
+        (
+            "int main(void) { } }",
             at(1, 20),
             "poolcc: refused syntax at 1:20\n",
         ),
         (
-            "int main(void) { int getchar; }",
-            at(1, 22),
-            "poolcc: refused syntax at 1:22\n",
+            "int x; int main(void) { return 0; }",
+            later(1, 1),
+            "poolcc: refused later at 1:1\n",
+        ),
+        (
+            "int main(void) { return 0; } int x;",
+            later(1, 30),
+            "poolcc: refused later at 1:30\n",
+        ),
+        (
+            "int main(void) { int *p; return 0; }",
+            later(1, 18),
+            "poolcc: refused later at 1:18\n",
+        ),
+        (
+            "int main(void) { return 1 << 2; }",
+            later(1, 25),
+            "poolcc: refused later at 1:25\n",
+        ),
+        (
+            "int main(void) { return 2147483648; }",
+            later(1, 25),
+            "poolcc: refused later at 1:25\n",
+        ),
+        (
+            "int main(void) { for (;;) ; }",
+            later(1, 18),
+            "poolcc: refused later at 1:18\n",
         ),
     ];
     for (text, refusal, line) in rows {
@@ -352,6 +407,42 @@ fn refusals_name_their_place(rt: HostRuntime) -> Result<(), Fail> {
         assert_eq!(rt; did.err.as_slice(), line.as_bytes(), "{text}");
         assert_eq!(rt; did.out.len(), 0, "{text}");
     }
+    Ok(())
+}
+
+// `main` returns 7 in so many parentheses.
+fn nested(alloc: Global, depth: u32) -> Result<String, AllocError> {
+    let mut text = String::from_str(alloc, "int main(void) { return ")?;
+    for _ in 0..depth {
+        text.push('(')?;
+    }
+    text.push('7')?;
+    for _ in 0..depth {
+        text.push(')')?;
+    }
+    text.push_str("; }")?;
+    Ok(text)
+}
+
+// At most 200 nodes lie on one path: the body, the statement, the parentheses and the constant.
+#[test]
+fn nesting_has_a_limit(rt: HostRuntime) -> Result<(), Fail> {
+    let alloc = rt.alloc();
+    let text = nested(alloc, 197)?;
+    let did = exec(alloc, text.as_str(), b"", NONE)?;
+    assert_eq!(rt; did.status, Status::Program(7));
+    let text = nested(alloc, 198)?;
+    let did = exec(alloc, text.as_str(), b"", NONE)?;
+    let place = Pos {
+        line: 1,
+        column: 222,
+    };
+    let refusal = Refusal::Syntax(SyntaxKind::TooDeep, place);
+    assert_eq!(rt; did.status, Status::Refused(refusal));
+    assert_eq!(rt;
+        did.err.as_slice(),
+        b"poolcc: refused nesting at 1:222\n".as_slice()
+    );
     Ok(())
 }
 

@@ -2,22 +2,26 @@
 
 ghost use Rattle.std.specs.Prelude.{◌≡◌, ◌≤◌, ◌^◌, ℕ, List, length, IfOk, IfErr};
 ghost use Rattle.run_theory.specs.Places.{first_place};
-ghost use Rattle.c_ast.specs.Syntax.{ProgramTree, program_tree};
+ghost use Rattle.c_ast.specs.Syntax as integer;
 ghost use Rattle.c_ast.specs.Typed.{typed_program, program_size};
-ghost use Rattle.c_lexer.specs.Leaves.{Leaf, leaves_of};
+ghost use Rattle.c_token.specs.Leaves.{Leaf, leaves_of};
 ghost use Rattle.c_lexer.specs.Tokens.{Divides};
+ghost use Rattle.c_syntax.specs.Views.{program_tree};
 ghost use Rattle.c_types.specs.Typing.{typed_of};
 ghost use Rattle.pool_isa.specs.Ranges.{IsWithin};
 ghost use Rattle.image_form.specs.Form.{form_of, IsImage, ImageOf};
-ghost use Rattle.poolcc.specs.Compiled.{ReadsAs, IsAccepted, Compiles};
+ghost use Rattle.poolcc.specs.Compiled.{ReadsAs, IsInteger, IsAccepted, Compiles};
 ghost use Rattle.poolcc.specs.Exec.{source_limit};
 ghost use Rattle.poolcc.specs.Refused.{IsStop, stop_of};
 
 use crate::compile::compile;
-use c_ast::{Program, TypedProgram};
-use c_lexer::{LexErr, Token, tokens};
+use c_ast::TypedProgram;
+use c_integer::{NarrowErr, narrow};
+use c_lexer::{LexErr, tokens};
 use c_reader::{SyntaxErr, read};
-use c_types::{TypeErr, check};
+use c_syntax::Program;
+use c_token::Token;
+use c_types::{TypeErr, TypeRule, check};
 use image_form::{Image, ImageErr, MachineLimits, from_bytes, to_bytes};
 use pcc_status::{LexKind, Refusal, SyntaxKind};
 use std::alloc::Global;
@@ -66,7 +70,7 @@ pub fn parse(alloc: Global, text: &[u8]) -> Result<Program, Stop>
         Ok(tokens) => tokens,
         Err(stop) => return Err(stop),
     };
-    match read(alloc, tokens) {
+    match read(alloc, &tokens) {
         Ok(program) => Ok(program),
         Err(SyntaxErr::At(place)) => Err(Stop::Refused(Refusal::Syntax(SyntaxKind::At, place))),
         Err(SyntaxErr::TooDeep(place)) => {
@@ -76,14 +80,34 @@ pub fn parse(alloc: Global, text: &[u8]) -> Result<Program, Stop>
     }
 }
 
-/// The typed tree of an accepted text's program.
-pub fn accept(alloc: Global, text: &[u8]) -> Result<TypedProgram, Stop>
+/// The program of the integer language that a text within the source limit reads as.
+pub fn integer_program(alloc: Global, text: &[u8]) -> Result<c_ast::Program, Stop>
     requires { length text.now ≤ source_limit }
-    ensures found { IfOk result (λ typed. (program : ProgramTree) × IsAccepted text.now program × (typed_program typed ≡ typed_of program)) }
-    ensures size { IfOk result (λ typed. program_size (typed_program typed) ≤ 2 ^ 22) }
+    ensures found { IfOk result (λ program. IsInteger text.now (integer.program_tree program)) }
     ensures stop { IfErr result (IsStop text.now) }
 {
     let program = match parse(alloc, text) {
+        Ok(program) => program,
+        Err(stop) => return Err(stop),
+    };
+    match narrow(alloc, program) {
+        Ok(program) => Ok(program),
+        Err(NarrowErr::Later(place)) => Err(Stop::Refused(Refusal::Later(place))),
+        Err(NarrowErr::NoMain(place)) => {
+            Err(Stop::Refused(Refusal::TypeRule(TypeRule::T01, place)))
+        }
+        Err(NarrowErr::OutOfMemory) => Err(Stop::OutOfMemory),
+    }
+}
+
+/// The typed tree of an accepted text's program.
+pub fn accept(alloc: Global, text: &[u8]) -> Result<TypedProgram, Stop>
+    requires { length text.now ≤ source_limit }
+    ensures found { IfOk result (λ typed. (program : integer.ProgramTree) × IsAccepted text.now program × (typed_program typed ≡ typed_of program)) }
+    ensures size { IfOk result (λ typed. program_size (typed_program typed) ≤ 2 ^ 22) }
+    ensures stop { IfErr result (IsStop text.now) }
+{
+    let program = match integer_program(alloc, text) {
         Ok(program) => program,
         Err(stop) => return Err(stop),
     };

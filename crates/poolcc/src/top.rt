@@ -10,9 +10,10 @@ ghost use Rattle.pcc_outside.specs.Outside.{Holds};
 ghost use Rattle.run_theory.specs.Places.{first_place};
 ghost use Rattle.run_theory.specs.declared.ends.Pos.{Pos};
 ghost use Rattle.pcc_status.specs.declared.status.LexKind.{LexKind};
+ghost use Rattle.pcc_status.specs.declared.status.Refusal.{Refusal};
 ghost use Rattle.pcc_status.specs.declared.status.Refusal.TheVariants as Refusal;
 ghost use Rattle.c_lexer.specs.Tokens.{Faults};
-ghost use Rattle.poolcc.specs.Refused.{fault_of};
+ghost use Rattle.poolcc.specs.Refused.{fault_of, IsRefused};
 ghost use Rattle.c_ast.specs.Syntax.{ProgramTree};
 ghost use Rattle.c_ast.specs.Reference.{reference};
 ghost use Rattle.c_types.specs.Typing.{typed_of};
@@ -61,6 +62,12 @@ pub fn poolcc<F: Files, I: Source, O: Sink, E: Sink>(
         → F.contents files.old file ≡ Holds text → length text ≤ source_limit → I.left input.old ≡ Some left → O.written out.old ≡ Some base
         → (Rose (F.faults files.old file) (F.faults files.new file) → ⊥) → (Rose (I.faults input.old) (I.faults input.new) → ⊥) → (Rose (O.faults out.old) (O.faults out.new) → ⊥) → (Rose (E.faults err.old) (E.faults err.new) → ⊥)
         → Faults first_place text (fault_of kind place) → (result ≡ Status.OutOfMemory) ⊎ (result ≡ Status.Refused (Refusal.Lex kind place)) }
+
+    // Where the text is refused and nothing outside fails, the answer is that refusal, or memory ran out.
+    ensures refused { (file : List ℕ) (steps : ℕ) (text left base : List ℕ) (refusal : Refusal) → line_of (map string_bytes words.now) ≡ Exec file steps
+        → F.contents files.old file ≡ Holds text → length text ≤ source_limit → I.left input.old ≡ Some left → O.written out.old ≡ Some base
+        → (Rose (F.faults files.old file) (F.faults files.new file) → ⊥) → (Rose (I.faults input.old) (I.faults input.new) → ⊥) → (Rose (O.faults out.old) (O.faults out.new) → ⊥) → (Rose (E.faults err.old) (E.faults err.new) → ⊥)
+        → IsRefused text refusal → (result ≡ Status.OutOfMemory) ⊎ (result ≡ Status.Refused refusal) }
 
     // Counts of faults never fall.
     ensures files_counted { (name : List ℕ) → F.faults files.old name ≤ F.faults files.new name }

@@ -1,12 +1,18 @@
-use Rattle.std.proofs.Common.{ap, arith}
+use Rattle.std.proofs.Common.{inl, ap, subst, arith}
 use Rattle.c_ast.specs.Syntax.{program_tree}
 use Rattle.c_ast.specs.Typed.{program_size}
+use Rattle.c_types.specs.Checking.{NamesFirst}
+use Rattle.c_types.specs.Typing.{violations}
+use Rattle.poolcc.proofs.Refusing.{ill_typed}
 use Rattle.poolcc.proofs.Sizes.{typed_size}
 use Rattle.poolcc.proofs.text.accept.Goals as goal
 
 pub returns-in-Ok-check-clause-size : goal.returns-in-Ok-check-clause-size
 returns-in-Ok-check-clause-size c =
-    let small = typed_size c.args.text.now (program_tree c.in-Ok.program) c.in-Ok.ensures.found.reads in
+    let small = typed_size c.args.text.now (program_tree c.in-Ok.program) c.in-Ok.ensures.found in
     let same = ap program_size c.in-Ok-check.ensures.checked.1 in
     let short = c.requires in
     omega arith
+
+pub returns-in-Err-Rule-clause-stop : goal.returns-in-Err-Rule-clause-stop
+returns-in-Err-Rule-clause-stop c = inl (ill_typed c.args.text.now (program_tree c.in-Ok.program) c.in-Err-Rule.kind c.in-Err-Rule.place c.in-Ok.ensures.found (subst (NamesFirst (violations (program_tree c.in-Ok.program))) c.in-Err-Rule.field-0-is c.in-Err-Rule.ensures.checked))

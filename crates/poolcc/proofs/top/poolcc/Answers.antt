@@ -6,7 +6,7 @@ use Rattle.pcc_status.specs.declared.status.Refusal.TheVariants as R
 use Rattle.poolcc.specs.Complete.{RunsUnlessMemory}
 use Rattle.poolcc.specs.Exec.{ExecGives, default_limits}
 use Rattle.poolcc.proofs.Completing.{said_as_it_is, said_trap, completed, trapped, same_file, neither}
-use Rattle.poolcc.proofs.Refusing.{lexical}
+use Rattle.poolcc.proofs.Refusing.{is_lexical, refuses}
 use Rattle.poolcc.proofs.top.poolcc.Goals as goal
 
 pub returns-clause-trapped_cause : goal.returns-clause-trapped_cause
@@ -30,8 +30,8 @@ returns-clause-complete g c = λ file steps text left base program line holds sh
     subst (λ (status : Status). RunsUnlessMemory text default_limits steps left base status written') (sym same)
     (completed text default_limits steps left base left' written' program accepted short c.command-answer.result (c.command-answer.ensures.answers.exec file steps text left base line holds told wrote) no_read no_write)
 
-pub returns-clause-lexical : goal.returns-clause-lexical
-returns-clause-lexical g c = λ file steps text left base kind place line holds short told wrote quiet_files quiet_input quiet_out quiet_err faults.
+pub returns-clause-refused : goal.returns-clause-refused
+returns-clause-refused g c = λ file steps text left base refusal line holds short told wrote quiet_files quiet_input quiet_out quiet_err refused.
     let left' = g.I.Source.left c.command-answer.new.input in
     let written' = g.O.Sink.written c.command-answer.new.out in
     let same = said_as_it_is c.command-answer.result c.say.result _ _ _ _ c.say.ensures.said quiet_err in
@@ -40,5 +40,9 @@ returns-clause-lexical g c = λ file steps text left base kind place line holds 
     let one = same_file file cause.0 steps cause.1 (sym line ∙ cause.2) in
     neither (λ rose. quiet_files (subst (λ name. Rose (g.F.Files.faults c.args.files.now name) (g.F.Files.faults c.command-answer.new.files name)) (sym one) rose)) quiet_input cause.3 in
     let no_write = λ (e : c.command-answer.result ≡ S.WriteFault). quiet_out (c.command-answer.ensures.write_cause e) in
-    subst (λ (status : Status). (status ≡ S.OutOfMemory) ⊎ (status ≡ S.Refused (R.Lex kind place))) (sym same)
-    (lexical text default_limits steps left base left' written' kind place faults short c.command-answer.result (c.command-answer.ensures.answers.exec file steps text left base line holds told wrote) no_read no_write)
+    subst (λ (status : Status). (status ≡ S.OutOfMemory) ⊎ (status ≡ S.Refused refusal)) (sym same)
+    (refuses text default_limits steps left base left' written' refusal refused short c.command-answer.result (c.command-answer.ensures.answers.exec file steps text left base line holds told wrote) no_read no_write)
+
+pub returns-clause-lexical : goal.returns-clause-lexical
+returns-clause-lexical g c = λ file steps text left base kind place line holds short told wrote quiet_files quiet_input quiet_out quiet_err faults.
+    returns-clause-refused g c file steps text left base (R.Lex kind place) line holds short told wrote quiet_files quiet_input quiet_out quiet_err (is_lexical text kind place faults)
