@@ -1,0 +1,15 @@
+pub mod Types
+pub mod Layouts
+pub mod Values
+pub mod Typed
+pub mod Known
+pub mod Names
+pub mod Constants
+pub mod Operators
+pub mod Expressions
+pub mod Initializers
+pub mod Statements
+pub mod Programs
+pub mod Elaborated
+pub mod Store
+pub mod Meaning

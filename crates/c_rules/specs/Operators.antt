@@ -1,0 +1,468 @@
+-- What the operators ask of their operands, and what they give (C17 6.5), where the operands are known.
+use Rattle.std.specs.Prelude.{ℕ, Bool, true, false, not, ◌&&◌, ◌||◌, ◌==◌, if◌then◌else◌, List, [], ◌∷◌, ◌++◌, Option, Some, None, ℤ, pos, neg_ℤ, ◌-ℤ◌, bytes_eq, is_some, ◌+◌, codes}
+use Rattle.run_theory.specs.declared.ends.Pos.{Pos}
+use Rattle.c_num.specs.declared.IntType.{IntType}
+use Rattle.c_num.specs.declared.IntType.TheVariants as I
+use Rattle.c_num.specs.declared.BinOp.{BinOp}
+use Rattle.c_num.specs.declared.BinOp.TheVariants as B
+use Rattle.c_num.specs.declared.Relation.{Relation}
+use Rattle.c_num.specs.declared.Relation.TheVariants as R
+use Rattle.c_num.specs.Types.{promoted, common_of}
+use Rattle.c_num.specs.Arith.{is_shift}
+use Rattle.c_syntax.specs.declared.operator.PrefixOperator.{PrefixOperator}
+use Rattle.c_syntax.specs.declared.operator.PrefixOperator.TheVariants as P
+use Rattle.c_syntax.specs.declared.operator.BinaryOperator.{BinaryOperator}
+use Rattle.c_syntax.specs.declared.operator.BinaryOperator.TheVariants as O
+use Rattle.c_syntax.specs.declared.operator.AssignOperator.{AssignOperator}
+use Rattle.c_syntax.specs.declared.operator.AssignOperator.TheVariants as A
+use Rattle.c_syntax.specs.Trees.{NameTree}
+use Rattle.c_types.specs.declared.rule.TypeRule.TheVariants as T
+use Rattle.c_types.specs.Typing.{Violation}
+use Rattle.c_rules.specs.Types
+use Rattle.c_rules.specs.Types.{CType, CTypes, Void, Integer, Pointer, Array, Struct, Function, NoTypes, MoreTypes}
+use Rattle.c_rules.specs.Layouts.{StructDef, MemberDef, is_complete, layout_of, members_by_tag}
+use Rattle.c_rules.specs.Names.{Scope, Meaning, NoMeaning, Local, Outer, Library, meaning_of, contains}
+use Rattle.c_rules.specs.Known
+use Rattle.c_rules.specs.Known.{Checked, Known, TypedExpr, OfValue, OfObject, OfFunction, OfLibrary, value_in, value_from, give, unknown, refuse, also, require, with_known, given, given_two, given_three, at, unless, as_value, value_of_type, object_at, integer_value, Constness, NotConstant, Address, NoAddress, NullAddress, FunctionAddress}
+use Rattle.c_rules.specs.Values as values
+use Rattle.c_rules.specs.Typed as typed
+use Rattle.c_rules.specs.Typed.{Value, Object, Designator, Values, LibraryName, Stepping}
+use Rattle.c_rules.specs.Constants
+
+-- ---- conversions
+
+-- A value of this type may be assigned, passed, returned or a first value (C17 6.5.16.1 paragraph 1).
+abbrev pub fits : CType → Known → Bool
+fits target value =
+    (Types.is_integer target && Types.is_integer value.c_type)
+    || (Types.is_pointer target && (value.is_null || pointer_fits target value.c_type))
+  where
+    pointer_fits : CType → CType → Bool
+    pointer_fits target source =
+        Types.is_pointer source && (Types.same_type target source || ((Types.is_void_pointer target && Types.is_object_pointer source) || (Types.is_void_pointer source && Types.is_object_pointer target)))
+
+-- a value that fits, converted to the type; where a pointer's conversion may fail, this stands at the place
+abbrev pub converted : Pos → CType → Known → Value
+converted place (Integer int_type) known = typed.Converted int_type (value_in known)
+converted place (Pointer target) known =
+    if known.is_null then typed.MadeNull (value_in known)
+    else if Types.same_type (Pointer target) known.c_type then value_in known
+    else typed.Repointed place target (value_in known)
+converted place c_type known = value_in known
+
+-- the value of a call may be left unused there
+abbrev pub dropped : Value → Value
+dropped (typed.Call is_used place function c_type arguments) = typed.Call false place function c_type arguments
+dropped (typed.Grouped inner) = typed.Grouped (dropped inner)
+dropped value = value
+
+abbrev pub is_scalar : CType → Bool
+is_scalar c_type = Types.is_integer c_type || Types.is_pointer c_type
+
+-- a condition, or an operand of `!`, `&&` and `||`
+pub record Condition : Type 0 where
+  pub test : Value
+  pub constness : Constness
+
+-- of a pointer nothing is constant
+abbrev pub condition_of : Pos → Known → Condition
+condition_of place known =
+    if Types.is_integer known.c_type then record { test = value_in known; constness = known.constness }
+    else record { test = typed.Tested place (value_in known); constness = NotConstant }
+
+abbrev pub as_condition : Pos → Checked Known → Checked Condition
+as_condition place part = given (as_value place part) (λ value. require (is_scalar value.c_type) T.T08 place (give (condition_of place value)))
+
+abbrev pub as_integer : Pos → Checked Known → Checked Known
+as_integer place part = given (as_value place part) (λ value. require (Types.is_integer value.c_type) T.T07 place (give value))
+
+-- a value that is to fit a type
+abbrev pub as_fitting : CType → Pos → Checked Known → Checked Known
+as_fitting target place value = given value (λ known. require (fits target known) T.T10 place (give known))
+
+abbrev pub int_type_of : CType → IntType
+int_type_of (Integer int_type) = int_type
+int_type_of _ = I.Int
+
+-- ---- names
+
+abbrev pub of_type : Option CType → (CType → Checked Known) → Checked Known
+of_type None rule = unknown
+of_type (Some c_type) rule = rule c_type
+
+-- a function outside, which has to be defined somewhere, or an object
+abbrev pub outer_name : Scope → NameTree → CType → Checked Known
+outer_name scope name (Function result parameters) =
+    require (contains scope.defined name.bytes) T.T23 name.place
+    (give (record { c_type = Function result parameters; typed = OfFunction (typed.Function name.bytes); constness = NotConstant; is_null = false; address = FunctionAddress name.bytes }))
+outer_name scope name c_type = give (object_at c_type (typed.Global name.bytes) (Known.Element (values.Outer name.bytes) [] c_type 1 0))
+
+abbrev pub name_as : Scope → NameTree → Meaning → Checked Known
+name_as scope name NoMeaning = refuse T.T03 name.place
+name_as scope name (Local number c_type) = of_type c_type (λ known. give (object_at known (typed.Local number) NoAddress))
+name_as scope name (Outer c_type) = of_type c_type (outer_name scope name)
+name_as scope name (Library function c_type) = refuse T.T23 name.place
+
+-- an identifier (C17 6.5.1 paragraph 2)
+abbrev pub named : Scope → NameTree → Checked Known
+named scope name = name_as scope name (meaning_of scope name.bytes)
+
+-- ---- pointers
+
+abbrev pub is_pointer_to_complete : Scope → CType → Bool
+is_pointer_to_complete scope (Pointer target) = is_complete scope.structs target
+is_pointer_to_complete scope _ = false
+
+abbrev pub target_of : CType → CType
+target_of (Pointer target) = target
+target_of c_type = c_type
+
+-- the element behind a pointer, as this object
+abbrev pub element : Scope → Pos → Pos → Object → Known → Known → Checked Known
+element scope whole index_place object pointer index =
+    require (is_pointer_to_complete scope pointer.c_type) T.T14 whole
+    (require (Types.is_integer index.c_type) T.T07 index_place
+    (give (object_at (target_of pointer.c_type) object (Constants.moved pointer.address index.constness))))
+
+-- `a[i]`, where either may be the pointer (C17 6.5.2.1)
+abbrev pub indexed : Scope → Pos → Pos → Known → Known → Checked Known
+indexed scope left_place right_place left right =
+    if not (Types.is_pointer left.c_type) && Types.is_pointer right.c_type then element scope left_place left_place (typed.ElementOf left_place (value_in left) (value_in right)) right left
+    else element scope left_place right_place (typed.Element left_place (value_in left) (value_in right)) left right
+
+-- `*p` (C17 6.5.3.2)
+abbrev pub dereferenced : Scope → Pos → Known → Checked Known
+dereferenced scope whole pointer =
+    if Types.is_function_pointer pointer.c_type then give (record pointer { c_type = target_of pointer.c_type; typed = OfFunction (typed.PointedFunction whole (value_in pointer)) })
+    else require (is_pointer_to_complete scope pointer.c_type) T.T14 whole (give (object_at (target_of pointer.c_type) (typed.Pointed whole (value_in pointer)) pointer.address))
+
+abbrev pub address_in : Pos → Known → TypedExpr → Checked Known
+address_in whole operand (OfObject object) = give (record (value_of_type (Pointer operand.c_type) (typed.AddressOf whole object)) { address = operand.address })
+address_in whole operand (OfFunction function) = give (record (value_of_type (Pointer operand.c_type) (typed.AddressOfFunction function)) { address = operand.address })
+address_in whole operand _ = refuse T.T09 whole
+
+abbrev pub address_of : Pos → Known → Checked Known
+address_of whole operand = address_in whole operand operand.typed
+
+abbrev pub add_number : Scope → Pos → Value → Known → Constness → Checked Known
+add_number scope whole value pointer number =
+    require (is_pointer_to_complete scope pointer.c_type) T.T14 whole
+    (give (record (value_of_type pointer.c_type value) { address = Constants.moved pointer.address number }))
+
+-- ---- members (C17 6.5.2.3)
+
+abbrev pub member_at : ℕ → List MemberDef → List ℕ → (ℕ → Object) → Address → Pos → Checked Known
+member_at number [] name object from whole = refuse T.T15 whole
+member_at number (member ∷ members) name object from whole =
+    if bytes_eq member.name name then of_type member.c_type (λ c_type. give (object_at c_type (object number) (Constants.member_address from number c_type)))
+    else member_at (number + 1) members name object from whole
+
+abbrev pub member_in : Option (List MemberDef) → List ℕ → (ℕ → Object) → Address → Pos → Checked Known
+member_in (Some members) name object from whole = member_at 0 members name object from whole
+member_in None name object from whole = refuse T.T15 whole
+
+abbrev pub member_of : Scope → Pos → CType → (ℕ → Object) → Address → NameTree → Checked Known
+member_of scope whole (Struct tag) object from member = member_in (members_by_tag scope.structs tag) member.bytes object from whole
+member_of scope whole _ object from member = refuse T.T15 whole
+
+-- a structure that stands for an object: a value of that type violates a rule itself
+abbrev pub object_in : TypedExpr → Object
+object_in (OfObject object) = object
+object_in _ = typed.Local 0
+
+abbrev pub object_member : Scope → Pos → NameTree → Known → Checked Known
+object_member scope whole member known = member_of scope whole known.c_type (typed.MemberOf whole (object_in known.typed)) known.address member
+
+abbrev pub pointer_member : Scope → Pos → NameTree → Known → Checked Known
+pointer_member scope whole member pointer =
+    require (is_pointer_to_complete scope pointer.c_type) T.T14 whole
+    (member_of scope whole (target_of pointer.c_type) (typed.PointedMember whole (value_in pointer)) pointer.address member)
+
+-- ---- operators of one operand
+
+abbrev pub promoted_type : CType → IntType
+promoted_type c_type = promoted (int_type_of c_type)
+
+abbrev pub negated : IntType → Constness → Constness
+negated int_type constness = Constants.arithmetic B.Sub int_type (Known.Constant (pos 0)) constness
+
+abbrev pub complemented : IntType → Constness → Constness
+complemented int_type constness = Constants.map_constness (λ z. Constants.converted int_type (Known.Constant (neg_ℤ z -ℤ pos 1))) constness
+
+abbrev pub is_modifiable : Known → Bool
+is_modifiable known = is_object known.typed && not (Types.is_array known.c_type)
+  where
+    is_object : TypedExpr → Bool
+    is_object (OfObject object) = true
+    is_object _ = false
+
+abbrev pub step_value : Stepping → Pos → CType → Object → Value
+step_value stepping place (Integer int_type) object = typed.StepInteger stepping place int_type object
+step_value stepping place _ object = typed.StepPointer stepping place object
+
+-- `++` and `--` (C17 6.5.2.4, 6.5.3.1)
+abbrev pub stepped : Scope → Stepping → Pos → Pos → Known → Checked Known
+stepped scope stepping whole operand_place operand =
+    require (is_modifiable operand) T.T09 whole
+    (require (is_scalar operand.c_type) T.T07 operand_place
+    (require (Types.is_integer operand.c_type || is_pointer_to_complete scope operand.c_type) T.T14 whole
+    (give (value_of_type operand.c_type (step_value stepping whole operand.c_type (object_in operand.typed))))))
+
+abbrev pub logical_not : Condition → Known
+logical_not operand = integer_value Types.int (Constants.map_constness (λ z. Constants.truth (not (Constants.not_zero z))) operand.constness) (typed.Not operand.test)
+
+-- an operand of an integer type, converted by the integer promotions
+abbrev pub promoted_value : Known → Value
+promoted_value known = typed.Converted (promoted_type known.c_type) (value_in known)
+
+-- an operator before its operand; the whole stands at the place
+abbrev pub prefixed : Scope → PrefixOperator → Pos → Pos → Checked Known → Checked Known
+prefixed scope P.Increment whole place operand = given operand (stepped scope typed.PreIncrement whole place)
+prefixed scope P.Decrement whole place operand = given operand (stepped scope typed.PreDecrement whole place)
+prefixed scope P.Address whole place operand = given operand (address_of whole)
+prefixed scope P.Dereference whole place operand = given (as_value place operand) (dereferenced scope whole)
+prefixed scope P.Plus whole place operand =
+    given (as_integer place operand) (λ value. give (integer_value (Integer (promoted_type value.c_type)) value.constness (typed.Plus (promoted_value value))))
+prefixed scope P.Minus whole place operand =
+    given (as_integer place operand) (λ value. give (integer_value (Integer (promoted_type value.c_type)) (negated (promoted_type value.c_type) value.constness) (typed.Minus whole (promoted_type value.c_type) (promoted_value value))))
+prefixed scope P.Complement whole place operand =
+    given (as_integer place operand) (λ value. give (integer_value (Integer (promoted_type value.c_type)) (complemented (promoted_type value.c_type) value.constness) (typed.Complement (promoted_type value.c_type) (promoted_value value))))
+prefixed scope P.Not whole place operand = given (as_condition place operand) (λ condition. give (logical_not condition))
+
+-- the size of an object type (C17 6.5.3.4)
+abbrev pub size_value : ℕ → Known
+size_value size = integer_value (Integer I.ULong) (Known.Constant (pos size)) (typed.Constant (pos size))
+
+abbrev pub size_of : Scope → Pos → CType → Checked Known
+size_of scope place c_type = require (is_complete scope.structs c_type) T.T05 place (give (size_value (layout_of scope.structs c_type).size))
+
+-- pointers to objects convert with what they point to, those to functions don't
+abbrev pub cast_pointer : Pos → CType → Known → Value
+cast_pointer whole target value = if Types.is_function target then value_in value else typed.Repointed whole target (value_in value)
+
+-- a cast (C17 6.5.4)
+abbrev pub cast_to : Scope → Pos → CType → Known → Checked Known
+cast_to scope whole Void value = give (value_of_type Void (typed.CastVoid (dropped (value_in value))))
+cast_to scope whole (Integer int_type) value =
+    require (Types.is_integer value.c_type) T.T16 whole
+    (give (integer_value (Integer int_type) (Constants.converted int_type value.constness) (typed.Cast (typed.Converted int_type (value_in value)))))
+cast_to scope whole (Pointer target) value =
+    if value.is_null then give (record (value_of_type (Pointer target) (typed.Cast (typed.MadeNull (value_in value)))) { is_null = Types.is_void target; address = NullAddress })
+    else require ((Types.is_object_pointer (Pointer target) && Types.is_object_pointer value.c_type) || (Types.is_function_pointer (Pointer target) && Types.is_function_pointer value.c_type)) T.T16 whole
+    (give (record (value_of_type (Pointer target) (typed.Cast (cast_pointer whole target value))) { address = Constants.address_as scope.completed (Pointer target) value.address }))
+cast_to scope whole _ value = refuse T.T16 whole
+
+-- ---- operators of two operands
+
+abbrev pub common_type : Known → Known → IntType
+common_type a b = common_of (int_type_of a.c_type) (int_type_of b.c_type)
+
+-- the usual arithmetic conversions, and the operator at their type (C17 6.3.1.8)
+abbrev pub arithmetic : BinOp → Pos → Known → Known → Checked Known
+arithmetic op whole a b =
+    let int_type = common_type a b in
+    give (integer_value (Integer int_type) (Constants.arithmetic op int_type (Constants.converted int_type a.constness) (Constants.converted int_type b.constness))
+    (typed.Arithmetic op whole int_type (typed.Converted int_type (value_in a)) (typed.Converted int_type (value_in b))))
+
+-- a shift works at the promoted type of its left operand (C17 6.5.7)
+abbrev pub shifted : BinOp → Pos → Known → Known → Checked Known
+shifted op whole a b =
+    let int_type = promoted_type a.c_type in
+    give (integer_value (Integer int_type) (Constants.arithmetic op int_type a.constness b.constness) (typed.Arithmetic op whole int_type (promoted_value a) (promoted_value b)))
+
+abbrev pub both_integers : Known → Known → Bool
+both_integers a b = Types.is_integer a.c_type && Types.is_integer b.c_type
+
+abbrev pub sum : Scope → Pos → Known → Known → Checked Known
+sum scope whole a b =
+    if both_integers a b then arithmetic B.Add whole a b
+    else if Types.is_pointer a.c_type && Types.is_integer b.c_type then add_number scope whole (typed.PointerPlus whole (value_in a) (value_in b)) a b.constness
+    else if Types.is_integer a.c_type && Types.is_pointer b.c_type then add_number scope whole (typed.NumberPlus whole (value_in a) (value_in b)) b a.constness
+    else refuse T.T11 whole
+
+abbrev pub difference : Scope → Pos → Known → Known → Checked Known
+difference scope whole a b =
+    if both_integers a b then arithmetic B.Sub whole a b
+    else if Types.is_pointer a.c_type && Types.is_integer b.c_type then add_number scope whole (typed.PointerMinus whole (value_in a) (value_in b)) a (Constants.map_constness (λ z. Known.Constant (neg_ℤ z)) b.constness)
+    else require (Types.is_pointer a.c_type && Types.same_type a.c_type b.c_type) T.T11 whole
+    (require (is_pointer_to_complete scope a.c_type) T.T14 whole (give (value_of_type (Integer I.Long) (typed.PointerDifference whole (value_in a) (value_in b)))))
+
+abbrev pub compared : Relation → Known → Known → Checked Known
+compared relation a b =
+    let int_type = common_type a b in
+    give (integer_value Types.int (Constants.comparison relation (Constants.converted int_type a.constness) (Constants.converted int_type b.constness))
+    (typed.Compare relation (typed.Converted int_type (value_in a)) (typed.Converted int_type (value_in b))))
+
+-- `<` and its like (C17 6.5.8)
+abbrev pub ordered : Relation → Pos → Known → Known → Checked Known
+ordered relation whole a b =
+    if both_integers a b then compared relation a b
+    else require (Types.is_object_pointer a.c_type && Types.same_type a.c_type b.c_type) T.T11 whole
+    (give (value_of_type Types.int (typed.ComparePointers relation whole (value_in a) (value_in b))))
+
+-- pointers that `==` compares, or between which `?:` chooses
+abbrev pub pointers_agree : Known → Known → Bool
+pointers_agree a b =
+    (Types.is_pointer a.c_type && b.is_null) || ((Types.is_pointer b.c_type && a.is_null)
+    || (Types.is_pointer a.c_type && (Types.is_pointer b.c_type && (Types.same_type a.c_type b.c_type
+    || ((Types.is_void_pointer a.c_type && Types.is_object_pointer b.c_type) || (Types.is_void_pointer b.c_type && Types.is_object_pointer a.c_type))))))
+
+-- the type of both, where they agree
+abbrev pub agreed_pointer : Known → Known → CType
+agreed_pointer a b =
+    if Types.is_pointer a.c_type && b.is_null then (if a.is_null && Types.is_pointer b.c_type then b.c_type else a.c_type)
+    else if Types.is_pointer b.c_type && a.is_null then b.c_type
+    else if Types.same_type a.c_type b.c_type then a.c_type
+    else Pointer Void
+
+-- `==` and `!=` (C17 6.5.9)
+abbrev pub equated : Relation → Pos → Known → Known → Checked Known
+equated relation whole a b =
+    if both_integers a b then compared relation a b
+    else require (pointers_agree a b) T.T11 whole
+    (give (value_of_type Types.int (typed.ComparePointers relation whole (converted whole (agreed_pointer a b) a) (converted whole (agreed_pointer a b) b))))
+
+abbrev pub of_integers : (Known → Known → Checked Known) → Pos → Pos → Checked Known → Checked Known → Checked Known
+of_integers rule left_place right_place left right = given_two (as_integer left_place left) (as_integer right_place right) rule
+
+abbrev pub of_values : (Known → Known → Checked Known) → Pos → Pos → Checked Known → Checked Known → Checked Known
+of_values rule left_place right_place left right = given_two (as_value left_place left) (as_value right_place right) rule
+
+abbrev pub of_conditions : (Constness → Constness → Constness) → (Value → Value → Value) → Pos → Pos → Checked Known → Checked Known → Checked Known
+of_conditions rule value left_place right_place left right =
+    given_two (as_condition left_place left) (as_condition right_place right) (λ a b. give (integer_value Types.int (rule a.constness b.constness) (value a.test b.test)))
+
+-- an operator between its operands, whose first tokens stand at these places, the left one's being the whole's
+abbrev pub binary : Scope → BinaryOperator → Pos → Pos → Checked Known → Checked Known → Checked Known
+binary scope O.Multiply place right_place left right = of_integers (arithmetic B.Mul place) place right_place left right
+binary scope O.Divide place right_place left right = of_integers (arithmetic B.Div place) place right_place left right
+binary scope O.Remainder place right_place left right = of_integers (arithmetic B.Rem place) place right_place left right
+binary scope O.Add place right_place left right = of_values (sum scope place) place right_place left right
+binary scope O.Subtract place right_place left right = of_values (difference scope place) place right_place left right
+binary scope O.ShiftLeft place right_place left right = of_integers (shifted B.Shl place) place right_place left right
+binary scope O.ShiftRight place right_place left right = of_integers (shifted B.Shr place) place right_place left right
+binary scope O.Less place right_place left right = of_values (ordered R.Lt place) place right_place left right
+binary scope O.Greater place right_place left right = of_values (ordered R.Gt place) place right_place left right
+binary scope O.LessEqual place right_place left right = of_values (ordered R.Le place) place right_place left right
+binary scope O.GreaterEqual place right_place left right = of_values (ordered R.Ge place) place right_place left right
+binary scope O.Equal place right_place left right = of_values (equated R.Eq place) place right_place left right
+binary scope O.NotEqual place right_place left right = of_values (equated R.Ne place) place right_place left right
+binary scope O.BitAnd place right_place left right = of_integers (arithmetic B.And place) place right_place left right
+binary scope O.BitXor place right_place left right = of_integers (arithmetic B.Xor place) place right_place left right
+binary scope O.BitOr place right_place left right = of_integers (arithmetic B.Or place) place right_place left right
+binary scope O.And place right_place left right = of_conditions Constants.conjunction typed.And place right_place left right
+binary scope O.Or place right_place left right = of_conditions Constants.disjunction typed.Or place right_place left right
+
+-- ---- `?:` (C17 6.5.15)
+
+abbrev pub choice : Pos → Condition → Known → Known → Checked Known
+choice whole condition a b =
+    if both_integers a b then (let int_type = common_type a b in
+    give (integer_value (Integer int_type) (Constants.conditional condition.constness (Constants.converted int_type a.constness) (Constants.converted int_type b.constness))
+    (typed.Conditional condition.test (typed.Converted int_type (value_in a)) (typed.Converted int_type (value_in b)))))
+    else if Types.is_void a.c_type && Types.is_void b.c_type then give (value_of_type Void (typed.Conditional condition.test (value_in a) (value_in b)))
+    else require (pointers_agree a b) T.T11 whole
+    (give (value_of_type (agreed_pointer a b) (typed.Conditional condition.test (converted whole (agreed_pointer a b) a) (converted whole (agreed_pointer a b) b))))
+
+-- ---- assignments (C17 6.5.16)
+
+-- is the operator `+=` or `-=`?
+abbrev pub moves_pointers : AssignOperator → Bool
+moves_pointers A.Add = true
+moves_pointers A.Subtract = true
+moves_pointers _ = false
+
+-- the object of a compound assignment
+abbrev pub compound_object : Scope → AssignOperator → Pos → Known → Checked Known
+compound_object scope operator place object =
+    if Types.is_pointer object.c_type && moves_pointers operator then require (is_pointer_to_complete scope object.c_type) T.T14 place (give object)
+    else require (Types.is_integer object.c_type) T.T07 place (give object)
+
+abbrev pub modifiable : Pos → Checked Known → Checked Known
+modifiable whole object = given object (λ known. require (is_modifiable known) T.T09 whole (give known))
+
+-- the operator of a compound assignment
+abbrev pub operator_of : AssignOperator → BinOp
+operator_of A.Multiply = B.Mul
+operator_of A.Divide = B.Div
+operator_of A.Remainder = B.Rem
+operator_of A.Add = B.Add
+operator_of A.Subtract = B.Sub
+operator_of A.ShiftLeft = B.Shl
+operator_of A.ShiftRight = B.Shr
+operator_of A.BitAnd = B.And
+operator_of A.BitXor = B.Xor
+operator_of A.BitOr = B.Or
+operator_of A.Assign = B.Add
+
+abbrev pub is_subtraction : AssignOperator → Bool
+is_subtraction A.Subtract = true
+is_subtraction _ = false
+
+abbrev pub compound_integer : BinOp → Pos → IntType → Object → Known → Value
+compound_integer op whole object_type object value =
+    if is_shift op then typed.AssignArithmetic op whole object_type (promoted object_type) object (promoted_value value)
+    else (let int_type = common_of object_type (int_type_of value.c_type) in typed.AssignArithmetic op whole object_type int_type object (typed.Converted int_type (value_in value)))
+
+abbrev pub compound_value : AssignOperator → Pos → CType → Object → Known → Value
+compound_value operator whole (Integer object_type) object value = compound_integer (operator_of operator) whole object_type object value
+compound_value operator whole _ object value = typed.AssignMoved (is_subtraction operator) whole object (value_in value)
+
+abbrev pub assigned : Scope → AssignOperator → Pos → Pos → Checked Known → Checked Known → Checked Known
+assigned scope A.Assign place value_place object value =
+    given_two (modifiable place object) (as_value value_place value)
+    (λ left right. require (fits left.c_type right) T.T10 value_place (give (value_of_type left.c_type (typed.Assign place (object_in left.typed) (converted place left.c_type right)))))
+assigned scope operator place value_place object value =
+    given_two (given (modifiable place object) (compound_object scope operator place)) (as_integer value_place value)
+    (λ left right. give (value_of_type left.c_type (compound_value operator place left.c_type (object_in left.typed) right)))
+
+-- ---- calls (C17 6.5.2.2)
+
+-- an argument, and the place of its first token
+pub record ArgumentValue : Type 0 where
+  pub place : Pos
+  pub value : Checked Known
+
+abbrev pub found_in : List ArgumentValue → List Violation
+found_in [] = []
+found_in (argument ∷ arguments) = argument.value.found ++ found_in arguments
+
+abbrev pub as_many : CTypes → List ArgumentValue → Bool
+as_many NoTypes [] = true
+as_many (MoreTypes first others) (argument ∷ arguments) = as_many others arguments
+as_many _ _ = false
+
+-- all arguments fit, and are converted to the parameters' types
+abbrev pub passed : Pos → CTypes → List ArgumentValue → Checked Values
+passed whole (MoreTypes first others) (argument ∷ arguments) =
+    given_two (with_known argument.value.known (λ known. require (fits first known) T.T10 argument.place (give (converted whole first known)))) (passed whole others arguments) (λ value values. give (typed.MoreValues value values))
+passed whole _ _ = give typed.NoValues
+
+-- what `free` is given needs no conversion
+abbrev pub unconverted : List ArgumentValue → Values
+unconverted [] = typed.NoValues
+unconverted (argument ∷ arguments) = typed.MoreValues (by argument.value.known) (unconverted arguments)
+  where
+    by : Option Known → Value
+    by None = typed.NullPointer
+    by (Some known) = if known.is_null then typed.MadeNull (value_in known) else value_in known
+
+abbrev pub library_call : Pos → LibraryName → ℕ → List ArgumentValue → Values → Value
+library_call whole typed.Free groups arguments given = typed.LibraryCall typed.Free groups whole (unconverted arguments)
+library_call whole function groups arguments given = typed.LibraryCall function groups whole given
+
+-- the call of what the called expression stands for
+abbrev pub call_value : Pos → TypedExpr → CType → CType → List ArgumentValue → Values → Value
+call_value whole (OfLibrary function groups) pointer c_type arguments given = library_call whole function groups arguments given
+call_value whole (OfFunction function) pointer c_type arguments given = typed.Call true whole function c_type given
+call_value whole expression pointer c_type arguments given = typed.Call true whole (typed.ThroughPointer whole (value_from whole pointer expression)) c_type given
+
+abbrev pub called_as : Pos → Known → CType → List ArgumentValue → Checked Known
+called_as whole function (Pointer (Function result parameters)) arguments =
+    require (as_many parameters arguments) T.T13 whole
+    (given (passed whole parameters arguments) (λ values. give (value_of_type result (call_value whole function.typed function.c_type (Function result parameters) arguments values))))
+called_as whole function _ arguments = refuse T.T12 whole
+
+abbrev pub call : Pos → Checked Known → List ArgumentValue → Checked Known
+call whole function arguments =
+    also (found_in arguments) (given function (λ known. also (unless (not (Types.is_struct known.c_type)) T.T19 whole) (called_as whole known (Types.decayed known.c_type) arguments)))
