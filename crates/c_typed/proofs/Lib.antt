@@ -1,0 +1,17 @@
+mod Apart
+mod Building
+mod Completing
+pub mod Grown
+mod Growth
+pub mod Kept
+mod Keys
+mod Lists
+mod Meanings
+mod Members
+mod Reading
+pub mod Same
+mod Sizes
+mod Steps
+mod Structures
+mod Tags
+pub mod TypedStays

@@ -1,0 +1,9 @@
+pub mod Types
+pub mod Layouts
+pub mod Table
+pub mod Extents
+pub mod Inside
+pub mod Values
+pub mod Typed
+pub mod Views
+pub mod Kept
