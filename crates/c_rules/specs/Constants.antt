@@ -8,11 +8,15 @@ use Rattle.c_num.specs.declared.ArithUb.{ArithUb}
 use Rattle.c_num.specs.declared.Relation.{Relation}
 use Rattle.c_num.specs.declared.Relation.TheVariants as R
 use Rattle.c_num.specs.Conversion.{convert_to}
-use Rattle.c_num.specs.Arith.{outcome_of}
-use Rattle.c_rules.specs.Types.{CType, Void, Struct, Pointer, same_type}
+use Rattle.c_num.specs.Arith.{outcome_of, compare_of}
+use Rattle.c_typed.specs.Types.{CType, Void, Struct, Pointer, same_type}
 use Rattle.c_rules.specs.Names.{contains}
-use Rattle.c_rules.specs.Known.{Constness, NotConstant, Undefined, Constant, Address, NoAddress, Outside, NullAddress, FunctionAddress, Element}
-use Rattle.c_rules.specs.Values.{Name, Step, MemberStep}
+use Rattle.c_rules.specs.Known.{Address, NoAddress, Outside, NullAddress, FunctionAddress, Element}
+use Rattle.c_rules.specs.declared.constness.Constness.{Constness}
+use Rattle.c_rules.specs.declared.constness.Constness.TheVariants.{NotConstant, Undefined, Constant}
+use Rattle.c_typed.specs.declared.part.Part.{Part}
+use Rattle.c_typed.specs.declared.part.Part.TheVariants as Parts
+use Rattle.c_typed.specs.Values.{Name}
 
 abbrev pub outcome_constness : Result ℤ ArithUb → Constness
 outcome_constness (Ok value) = Constant value
@@ -41,16 +45,8 @@ abbrev pub truth : Bool → Constness
 truth true = Constant (pos 1)
 truth false = Constant (pos 0)
 
-abbrev pub holds_between : Relation → ℤ → ℤ → Bool
-holds_between R.Eq a b = int_eq a b
-holds_between R.Ne a b = not (int_eq a b)
-holds_between R.Lt a b = int_lt a b
-holds_between R.Le a b = int_le a b
-holds_between R.Gt a b = int_lt b a
-holds_between R.Ge a b = int_le b a
-
 abbrev pub comparison : Relation → Constness → Constness → Constness
-comparison relation a b = both_constness (λ x y. truth (holds_between relation x y)) a b
+comparison relation a b = both_constness (λ x y. truth (compare_of relation x y)) a b
 
 abbrev pub not_zero : ℤ → Bool
 not_zero z = not (int_eq z (pos 0))
@@ -66,11 +62,15 @@ chosen condition a b = if not_zero condition then a else b
 abbrev pub conditional : Constness → Constness → Constness → Constness
 conditional condition a b = if is_constant a && is_constant b then map_constness (λ z. chosen z a b) condition else NotConstant
 
+-- whether it isn't zero
+abbrev pub truth_of : Constness → Constness
+truth_of constness = map_constness (λ z. truth (not_zero z)) constness
+
 abbrev pub conjunction : Constness → Constness → Constness
-conjunction a b = conditional a (map_constness (λ z. truth (not_zero z)) b) (Constant (pos 0))
+conjunction a b = conditional a (truth_of b) (Constant (pos 0))
 
 abbrev pub disjunction : Constness → Constness → Constness
-disjunction a b = conditional a (Constant (pos 1)) (map_constness (λ z. truth (not_zero z)) b)
+disjunction a b = conditional a (Constant (pos 1)) (truth_of b)
 
 -- ---- addresses
 
@@ -79,7 +79,7 @@ abbrev pub index_within : ℕ → ℤ → Option ℕ
 index_within count (pos n) = if nat_lt count n then None else Some n
 index_within count (negsuc n) = None
 
-abbrev pub element_at : Name → List Step → CType → ℕ → Option ℕ → Address
+abbrev pub element_at : Name → List Part → CType → ℕ → Option ℕ → Address
 element_at root steps c_type count (Some index) = Element root steps c_type count index
 element_at root steps c_type count None = Outside
 
@@ -98,7 +98,7 @@ moved from (Constant z) = moved_by from z
 -- a member of the object at an address
 abbrev pub member_address : Address → ℕ → CType → Address
 member_address NoAddress number c_type = NoAddress
-member_address (Element root steps struct count index) number c_type = if nat_lt index count then Element root (steps ++ MemberStep index number ∷ []) c_type 1 0 else Outside
+member_address (Element root steps struct count index) number c_type = if nat_lt index count then Element root (steps ++ Parts.Member index number ∷ []) c_type 1 0 else Outside
 member_address _ number c_type = Outside
 
 -- the target is treated as void (a structure that the text never completes is, too)

@@ -7,14 +7,18 @@ use Rattle.c_num.specs.Types.{promoted}
 use Rattle.c_num.specs.Conversion.{convert_to}
 use Rattle.c_syntax.specs.Trees
 use Rattle.c_syntax.specs.Trees.{NameTree, ExprTree, ArgumentsTree, TypeTree, OptionalTree, DeclaratorTree, DirectTree, SuffixesTree, LengthTree, ParametersTree, InitTree, InitsTree, InitDeclaratorTree, DeclarationTree, ForTree, StmtTree, BlockTree, SwitchTree, MemberTree, BaseTree, ItemTree, ProgramTree}
-use Rattle.c_rules.specs.Types
-use Rattle.c_rules.specs.Types.{CType, CTypes, Void, Integer, Pointer, Array, Struct, Function, NoTypes, MoreTypes}
-use Rattle.c_rules.specs.Layouts.{StructDef, MemberDef, members_by_tag}
-use Rattle.c_rules.specs.Values.{Step, MemberStep, ElementsStep, Scalar, IntegerValue, NullValue, FunctionValue, PointerValue, Leaf, Held}
-use Rattle.c_rules.specs.Typed as typed
-use Rattle.c_rules.specs.Typed.{Value, Stmt, Block, SwitchItems, LocalDef, ForStart, GlobalDef, LiteralDef, FunctionDef, Program, NullPointer}
+use Rattle.c_typed.specs.Types
+use Rattle.c_typed.specs.Types.{CType, CTypes, Void, Integer, Pointer, Array, Struct, Function, NoTypes, MoreTypes}
+use Rattle.c_typed.specs.Layouts.{StructDef, MemberDef, members_by_tag}
+use Rattle.c_typed.specs.declared.part.Part.{Part}
+use Rattle.c_typed.specs.declared.part.Part.TheVariants as Parts
+use Rattle.c_typed.specs.Values.{Scalar, IntegerValue, NullValue, FunctionValue, PointerValue, Leaf, Held}
+use Rattle.c_typed.specs.Typed as typed
+use Rattle.c_typed.specs.Typed.{Value, Stmt, Block, SwitchItems, LocalDef, ForStart, GlobalDef, LiteralDef, FunctionDef, Program, NullPointer}
 use Rattle.c_rules.specs.Names.{Scope, FileName, entered}
-use Rattle.c_rules.specs.Known.{Checked, Known, value_in, as_value, Constness, Constant, Address, NoAddress, Outside, NullAddress, FunctionAddress, Element}
+use Rattle.c_rules.specs.Known.{Checked, Known, value_in, as_value, Address, NoAddress, Outside, NullAddress, FunctionAddress, Element}
+use Rattle.c_rules.specs.declared.constness.Constness.{Constness}
+use Rattle.c_rules.specs.declared.constness.Constness.TheVariants.{Constant}
 use Rattle.c_rules.specs.Operators.{Condition, as_condition, as_integer, converted, dropped}
 use Rattle.c_rules.specs.Expressions.{expr, place_of, words_type, declared_type, declared_name, name_place, as_constant, Required}
 use Rattle.c_rules.specs.Initializers.{is_text, members_of}
@@ -131,7 +135,7 @@ abbrev mutual
 
 -- ---- first values of variables outside functions
 
-abbrev pub held_at : List Step → ℕ → Scalar → List Held
+abbrev pub held_at : List Part → ℕ → Scalar → List Held
 held_at steps index value = record { leaf = record { steps = steps; index = index }; value = value } ∷ []
 
 abbrev pub address_value : Address → Scalar
@@ -147,12 +151,12 @@ abbrev pub scalar_of : CType → Known → Scalar
 scalar_of (Integer int_type) known = integer_first int_type known.constness
 scalar_of c_type known = if known.is_null then NullValue else address_value known.address
 
-abbrev pub scalar_held : Scope → List Step → ℕ → CType → Option Known → List Held
+abbrev pub scalar_held : Scope → List Part → ℕ → CType → Option Known → List Held
 scalar_held scope steps index c_type None = []
 scalar_held scope steps index c_type (Some known) = held_at steps index (scalar_of c_type known)
 
 -- the bytes of a literal, as far as they have room; what follows is zero
-abbrev pub text_held : List Step → IntType → ℕ → ℕ → List ℕ → List Held
+abbrev pub text_held : List Part → IntType → ℕ → ℕ → List ℕ → List Held
 text_held steps int_type index room [] = []
 text_held steps int_type index zero (byte ∷ bytes) = []
 text_held steps int_type index (suc room) (byte ∷ bytes) = held_at steps index (IntegerValue (convert_to int_type (pos byte))) ++ text_held steps int_type (suc index) room bytes
@@ -161,34 +165,34 @@ abbrev pub character_type : CType → IntType
 character_type (Integer int_type) = int_type
 character_type _ = I.Char
 
-abbrev pub within : List Step → Step → List Step
+abbrev pub within : List Part → Part → List Part
 within steps step = steps ++ step ∷ []
 
-abbrev pub value_held : Scope → List Step → ℕ → CType → ExprTree → List Held
-value_held scope steps index (Array element n) (Trees.Literal bytes place) = text_held (within steps (ElementsStep index)) (character_type element) 0 n bytes
+abbrev pub value_held : Scope → List Part → ℕ → CType → ExprTree → List Held
+value_held scope steps index (Array element n) (Trees.Literal bytes place) = text_held (within steps (Parts.Elements index)) (character_type element) 0 n bytes
 value_held scope steps index c_type value = scalar_held scope steps index c_type (as_value (place_of value) (expr scope value)).known
 
 abbrev mutual
   -- what an initializer stores in the element of a row
-  pub held_of : Scope → List Step → ℕ → Option CType → InitTree → List Held
+  pub held_of : Scope → List Part → ℕ → Option CType → InitTree → List Held
   held_of scope steps index None init = []
   held_of scope steps index (Some c_type) (Trees.InitValue value) = value_held scope steps index c_type value
   held_of scope steps index (Some (Array element n)) (Trees.InitList place inits) =
-      if is_text element inits then text_list scope steps index element n inits else elements_held scope (within steps (ElementsStep index)) 0 element inits
+      if is_text element inits then text_list scope steps index element n inits else elements_held scope (within steps (Parts.Elements index)) 0 element inits
   held_of scope steps index (Some (Struct tag)) (Trees.InitList place inits) = members_held scope steps index 0 (members_of (members_by_tag scope.structs tag)) inits
   held_of scope steps index (Some c_type) (Trees.InitList place inits) = []
 
-  pub text_list : Scope → List Step → ℕ → CType → ℕ → InitsTree → List Held
+  pub text_list : Scope → List Part → ℕ → CType → ℕ → InitsTree → List Held
   text_list scope steps index element n (Trees.Inits (Trees.InitValue value) Trees.NoInits) = value_held scope steps index (Array element n) value
   text_list scope steps index element n _ = []
 
-  pub elements_held : Scope → List Step → ℕ → CType → InitsTree → List Held
+  pub elements_held : Scope → List Part → ℕ → CType → InitsTree → List Held
   elements_held scope steps index element Trees.NoInits = []
   elements_held scope steps index element (Trees.Inits init others) = held_of scope steps index (Some element) init ++ elements_held scope steps (suc index) element others
 
-  pub members_held : Scope → List Step → ℕ → ℕ → List MemberDef → InitsTree → List Held
+  pub members_held : Scope → List Part → ℕ → ℕ → List MemberDef → InitsTree → List Held
   members_held scope steps index number (member ∷ members) (Trees.Inits init others) =
-      held_of scope (within steps (MemberStep index number)) 0 member.c_type init ++ members_held scope steps index (suc number) members others
+      held_of scope (within steps (Parts.Member index number)) 0 member.c_type init ++ members_held scope steps index (suc number) members others
   members_held scope steps index number _ _ = []
 
 -- ---- literals

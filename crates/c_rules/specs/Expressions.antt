@@ -6,16 +6,19 @@ use Rattle.c_num.specs.Conversion.{convert_to}
 use Rattle.c_syntax.specs.Trees
 use Rattle.c_syntax.specs.Trees.{NameTree, ExprTree, ArgumentsTree, TypeTree, OptionalTree, DeclaratorTree, DirectTree, SuffixesTree, LengthTree, ParametersTree, WordsTree, SimpleTree}
 use Rattle.c_types.specs.declared.rule.TypeRule.TheVariants as T
-use Rattle.c_types.specs.Typing.{Violation}
-use Rattle.c_rules.specs.Types
-use Rattle.c_rules.specs.Types.{CType, CTypes, Void, Integer, Pointer, Array, Struct, Function, NoTypes, MoreTypes}
-use Rattle.c_rules.specs.Layouts.{is_complete}
+use Rattle.c_rules.specs.declared.violation.Violation.{Violation}
+use Rattle.c_typed.specs.Types
+use Rattle.c_typed.specs.Types.{CType, CTypes, Void, Integer, Pointer, Array, Struct, Function, NoTypes, MoreTypes}
+use Rattle.c_typed.specs.Layouts.{is_complete}
 use Rattle.c_rules.specs.Names.{Scope, Meaning, Library, meaning_of, declares_tag, contains, is_library}
 use Rattle.c_rules.specs.Known
-use Rattle.c_rules.specs.Known.{Checked, Known, give, unknown, refuse, also, require, with_known, given, given_two, given_three, at, unless, as_value, value_of_type, object_at, integer_value, OfLibrary, grouped, Constness, NotConstant, Undefined, Constant, NoAddress, NullAddress, Element}
-use Rattle.c_rules.specs.Values.{Text}
-use Rattle.c_rules.specs.Typed as typed
-use Rattle.c_rules.specs.Typed.{LibraryName}
+use Rattle.c_rules.specs.Known.{Checked, Known, give, unknown, refuse, also, require, with_known, given, given_two, given_three, at, unless, as_value, value_of_type, object_at, integer_value, OfLibrary, grouped, NoAddress, NullAddress, Element}
+use Rattle.c_rules.specs.declared.constness.Constness.{Constness}
+use Rattle.c_rules.specs.declared.constness.Constness.TheVariants.{NotConstant, Undefined, Constant}
+use Rattle.c_typed.specs.Values.{Text}
+use Rattle.c_typed.specs.Typed as typed
+use Rattle.c_typed.specs.declared.typed.LibraryFunction.{LibraryFunction}
+use Rattle.c_typed.specs.declared.typed.Stepping.TheVariants as S
 use Rattle.c_rules.specs.Operators
 
 -- the place of an expression's first token
@@ -180,8 +183,8 @@ abbrev mutual
       Operators.call (place_of function) (library_called scope 0 function (expr scope function)) (argument_values scope arguments)
   expr scope (Trees.Member object member) = given (expr scope object) (Operators.object_member scope (place_of object) member)
   expr scope (Trees.PointerMember pointer member) = given (as_value (place_of pointer) (expr scope pointer)) (Operators.pointer_member scope (place_of pointer) member)
-  expr scope (Trees.PostIncrement operand) = given (expr scope operand) (Operators.stepped scope typed.PostIncrement (place_of operand) (place_of operand))
-  expr scope (Trees.PostDecrement operand) = given (expr scope operand) (Operators.stepped scope typed.PostDecrement (place_of operand) (place_of operand))
+  expr scope (Trees.PostIncrement operand) = given (expr scope operand) (Operators.stepped scope S.PostIncrement (place_of operand) (place_of operand))
+  expr scope (Trees.PostDecrement operand) = given (expr scope operand) (Operators.stepped scope S.PostDecrement (place_of operand) (place_of operand))
   expr scope (Trees.Prefix operator place operand) = Operators.prefixed scope operator place (place_of operand) (expr scope operand)
   expr scope (Trees.SizeofExpr place operand) = given (expr scope operand) (λ known. Operators.size_of scope place known.c_type)
   expr scope (Trees.SizeofType place type_name) = given (type_named scope type_name) (Operators.size_of scope (type_place type_name))
@@ -191,9 +194,9 @@ abbrev mutual
       given_three (Operators.as_condition (place_of condition) (expr scope condition)) (as_value (place_of taken) (expr scope taken)) (as_value (place_of otherwise) (expr scope otherwise)) (Operators.choice (place_of condition))
   expr scope (Trees.Assign operator object value) = Operators.assigned scope operator (place_of object) (place_of value) (expr scope object) (expr scope value)
 
-  pub argument_values : Scope → ArgumentsTree → List Operators.ArgumentValue
-  argument_values scope Trees.NoArguments = []
-  argument_values scope (Trees.Argument value others) = record { place = place_of value; value = as_value (place_of value) (expr scope value) } ∷ argument_values scope others
+  pub argument_values : Scope → ArgumentsTree → Operators.Arguments
+  argument_values scope Trees.NoArguments = Operators.no_arguments
+  argument_values scope (Trees.Argument value others) = Operators.with_argument (place_of value) (as_value (place_of value) (expr scope value)) (argument_values scope others)
 
   -- the place of a type name's first token
   pub type_place : TypeTree → Pos

@@ -5,10 +5,16 @@ use Rattle.std.specs.Ordering.{int_eq}
 use Rattle.run_theory.specs.declared.ends.Pos.{Pos}
 use Rattle.c_types.specs.declared.rule.TypeRule.{TypeRule}
 use Rattle.c_types.specs.declared.rule.TypeRule.TheVariants as T
-use Rattle.c_types.specs.Typing.{Violation}
-use Rattle.c_rules.specs.Values.{Name, Step, ElementsStep}
-use Rattle.c_rules.specs.Typed.{Value, Object, Designator, LibraryName, NullPointer, Grouped, Read, Decay, FunctionValue, GroupedObject, GroupedFunction}
-use Rattle.c_rules.specs.Types.{CType, CTypes, Void, Integer, Pointer, Array, Struct, Function, decayed, is_array, is_struct}
+use Rattle.c_rules.specs.declared.violation.Violation.{Violation}
+use Rattle.c_rules.specs.declared.constness.Constness.{Constness}
+use Rattle.c_rules.specs.declared.constness.Constness.TheVariants.{NotConstant, Undefined, Constant}
+use Rattle.c_typed.specs.declared.part.Part.{Part}
+use Rattle.c_typed.specs.declared.part.Part.TheVariants as Parts
+use Rattle.c_typed.specs.Values.{Name}
+use Rattle.c_typed.specs.declared.typed.LibraryFunction.{LibraryFunction}
+use Rattle.c_typed.specs.Typed.{Value, Object, Designator, NullPointer, Grouped, Read, Decay, FunctionValue, GroupedObject, GroupedFunction}
+use Rattle.c_typed.specs.Types
+use Rattle.c_typed.specs.Types.{CType, CTypes, Void, Integer, Pointer, Array, Struct, Function, decayed, is_struct}
 
 -- ---- violations
 
@@ -111,13 +117,7 @@ pub data TypedExpr : Type 0 where
   OfValue : (value : Value) → TypedExpr
   OfObject : (object : Object) → TypedExpr
   OfFunction : (function : Designator) → TypedExpr
-  OfLibrary : (function : LibraryName) (groups : ℕ) → TypedExpr
-
--- of an integer constant expression its value, or that this is undefined (C17 6.6 paragraph 6)
-pub data Constness : Type 0 where
-  NotConstant : Constness
-  Undefined : Constness
-  Constant : (value : ℤ) → Constness
+  OfLibrary : (function : LibraryFunction) (groups : ℕ) → TypedExpr
 
 -- An address that is known before the program runs (C17 6.6 paragraph 9): none; one outside its object and its end; null;
 -- a function's; or that of the element with an index in a row of so many elements of one type, to which steps lead from
@@ -125,7 +125,7 @@ pub data Constness : Type 0 where
 pub data Address : Type 0 where
   NoAddress Outside NullAddress : Address
   FunctionAddress : (name : List ℕ) → Address
-  Element : (root : Name) (steps : List Step) (c_type : CType) (count index : ℕ) → Address
+  Element : (root : Name) (steps : List Part) (c_type : CType) (count index : ℕ) → Address
 
 -- What is known of an expression that has a type. An object's address is that of it, a pointer's its value.
 pub record Known : Type 0 where
@@ -153,7 +153,7 @@ integer_value c_type constness value = record (value_of_type c_type value) { con
 
 -- the address of an array's first element
 abbrev pub first_element : Address → Address
-first_element (Element root steps (Array element length) count index) = if nat_lt index count then Element root (steps ++ ElementsStep index ∷ []) element length 0 else Outside
+first_element (Element root steps (Array element length) count index) = if nat_lt index count then Element root (steps ++ Parts.Elements index ∷ []) element length 0 else Outside
 first_element NoAddress = NoAddress
 first_element _ = Outside
 
@@ -163,11 +163,15 @@ value_address (OfObject object) (Array element length) stored = first_element st
 value_address (OfObject object) _ stored = NoAddress
 value_address _ _ stored = stored
 
+-- the value of a typed tree, which may be that of an array
+abbrev pub value_of_typed : Pos → Bool → TypedExpr → Value
+value_of_typed place is_array (OfValue value) = value
+value_of_typed place is_array (OfObject object) = if is_array then Decay place object else Read place object
+value_of_typed place is_array (OfFunction function) = FunctionValue function
+value_of_typed place is_array (OfLibrary function groups) = NullPointer
+
 abbrev pub value_from : Pos → CType → TypedExpr → Value
-value_from place c_type (OfValue value) = value
-value_from place c_type (OfObject object) = if is_array c_type then Decay place object else Read place object
-value_from place c_type (OfFunction function) = FunctionValue function
-value_from place c_type (OfLibrary function groups) = NullPointer
+value_from place c_type typed = value_of_typed place (Types.is_array c_type) typed
 
 abbrev pub read_value : Pos → Known → Known
 read_value place known =
@@ -178,8 +182,11 @@ read_value place known =
     }
 
 -- An expression for its value, the first token of which stands at the place. No struct is one.
+abbrev pub value_rule : Pos → Known → Checked Known
+value_rule place known = also (unless (not (is_struct known.c_type)) T.T19 place) (give (read_value place known))
+
 abbrev pub as_value : Pos → Checked Known → Checked Known
-as_value place part = given part (λ known. also (unless (not (is_struct known.c_type)) T.T19 place) (give (read_value place known)))
+as_value place part = given part (value_rule place)
 
 -- the value that was made by it
 abbrev pub value_in : Known → Value

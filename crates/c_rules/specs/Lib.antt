@@ -1,7 +1,3 @@
-pub mod Types
-pub mod Layouts
-pub mod Values
-pub mod Typed
 pub mod Known
 pub mod Names
 pub mod Constants
@@ -13,3 +9,8 @@ pub mod Programs
 pub mod Elaborated
 pub mod Store
 pub mod Meaning
+pub mod Finding
+pub mod NameTables
+pub mod LocalTables
+pub mod Checkers
+pub mod Staying

@@ -19,14 +19,20 @@ use Rattle.c_num.specs.declared.ArithUb.{ArithUb}
 use Rattle.c_num.specs.declared.ArithUb.TheVariants as U
 use Rattle.c_num.specs.Types.{common_of}
 use Rattle.c_num.specs.Conversion.{convert_to, modulo}
-use Rattle.c_num.specs.Arith.{outcome_of}
-use Rattle.c_rules.specs.Types.{CType, Void, Integer, Pointer, Array, Struct, Function, NoTypes, same_type, is_void}
-use Rattle.c_rules.specs.Layouts.{layout_of}
-use Rattle.c_rules.specs.Constants.{is_like_void, holds_between, not_zero}
-use Rattle.c_rules.specs.Values
-use Rattle.c_rules.specs.Values.{Scalar, Place, Content, IntegerValue, NullValue, FunctionValue, PointerValue, RawPointer}
-use Rattle.c_rules.specs.Typed as T
-use Rattle.c_rules.specs.Typed.{Value, Object, Designator, Stmt, Block, SwitchItems, LocalDef, ForStart, FunctionDef, Program, Stepping}
+use Rattle.c_num.specs.Arith.{outcome_of, compare_of}
+use Rattle.c_typed.specs.Types.{CType, Void, Integer, Pointer, Array, Struct, Function, NoTypes, same_type, is_void}
+use Rattle.c_typed.specs.Layouts.{layout_of}
+use Rattle.c_rules.specs.Constants.{is_like_void, not_zero}
+use Rattle.c_typed.specs.Values
+use Rattle.c_typed.specs.Values.{Scalar, Place, Content, IntegerValue, NullValue, FunctionValue, PointerValue, RawPointer}
+use Rattle.c_typed.specs.Typed as T
+use Rattle.c_typed.specs.Typed.{Value, Object, Designator, Stmt, Block, SwitchItems, LocalDef, ForStart, FunctionDef, Program}
+use Rattle.c_typed.specs.declared.typed.LibraryFunction.{LibraryFunction}
+use Rattle.c_typed.specs.declared.typed.LibraryFunction.TheVariants as L
+use Rattle.c_typed.specs.declared.typed.Stepping.{Stepping}
+use Rattle.c_typed.specs.declared.typed.Stepping.TheVariants as Steppings
+use Rattle.c_typed.specs.declared.part.Part.{Part}
+use Rattle.c_typed.specs.declared.part.Part.TheVariants as Parts
 use Rattle.c_rules.specs.Store
 use Rattle.c_rules.specs.Store.{◌>>=◌}
 
@@ -120,7 +126,7 @@ element around here pointer z = Store.with_objects (λ objects.
     ∷ Store.premise (is_negative index) Ub.U08 ∷ [])
     (Store.give (at_index place (or_zero index))))
 
-abbrev pub stepped_into : Place → Values.Step → Place
+abbrev pub stepped_into : Place → Part → Place
 stepped_into place step = record { name = place.name; steps = place.steps ++ step ∷ []; index = 0 }
 
 -- conversions to `T *` (this project's rules)
@@ -203,7 +209,7 @@ compared_pointers around relation here a b = Store.with_objects (λ objects.
     Store.unless here
     (Store.premise (Store.is_dead_pointer objects a || Store.is_dead_pointer objects b) Ub.U06
     ∷ Store.premise (if is_equality relation then is_end_beside around objects a b else not (is_one_row a b)) Ub.U09 ∷ [])
-    (Store.give (if is_equality relation then truth_of_equality relation (are_equal around objects a b) else truth (holds_between relation (index_of a) (index_of b)))))
+    (Store.give (if is_equality relation then truth_of_equality relation (are_equal around objects a b) else truth (compare_of relation (index_of a) (index_of b)))))
 
 abbrev pub difference : Pos → Scalar → Scalar → Store.Eval Scalar
 difference here a b = Store.with_objects (λ objects.
@@ -271,12 +277,12 @@ natural_in value = by (integer_in value)
     by (pos n) = n
     by (negsuc n) = 0
 
-abbrev pub library : Store.Around → T.LibraryName → Pos → List Scalar → Store.Eval Scalar
-library around T.Malloc here (size ∷ []) = allocated (natural_in size)
-library around T.Free here (pointer ∷ []) = freed around here pointer
-library around T.GetChar here [] = next_byte
-library around T.PutChar here (value ∷ []) = written (low_byte value)
-library around T.Exit here (status ∷ []) = Store.over (Ended (low_byte status))
+abbrev pub library : Store.Around → LibraryFunction → Pos → List Scalar → Store.Eval Scalar
+library around L.Malloc here (size ∷ []) = allocated (natural_in size)
+library around L.Free here (pointer ∷ []) = freed around here pointer
+library around L.GetChar here [] = next_byte
+library around L.PutChar here (value ∷ []) = written (low_byte value)
+library around L.Exit here (status ∷ []) = Store.over (Ended (low_byte status))
 library around _ here _ = Store.give NullValue
 
 -- ---- expressions
@@ -305,18 +311,18 @@ local_place number state = by (local_name state.locals number)
 
 -- `x++` and its like: x + 1 in the common type of x and int, converted back
 abbrev pub step_operator : Stepping → BinOp
-step_operator T.PreIncrement = B.Add
-step_operator T.PostIncrement = B.Add
+step_operator Steppings.PreIncrement = B.Add
+step_operator Steppings.PostIncrement = B.Add
 step_operator _ = B.Sub
 
 abbrev pub step_amount : Stepping → ℤ
-step_amount T.PreIncrement = pos 1
-step_amount T.PostIncrement = pos 1
+step_amount Steppings.PreIncrement = pos 1
+step_amount Steppings.PostIncrement = pos 1
 step_amount _ = neg_ℤ (pos 1)
 
 abbrev pub step_result : Stepping → Scalar → Scalar → Scalar
-step_result T.PostIncrement old new = old
-step_result T.PostDecrement old new = old
+step_result Steppings.PostIncrement old new = old
+step_result Steppings.PostDecrement old new = old
 step_result _ old new = new
 
 abbrev mutual
@@ -325,7 +331,7 @@ abbrev mutual
   value around calls T.NullPointer = Store.entered (Store.give NullValue)
   value around calls (T.Grouped inner) = Store.entered (value around calls inner)
   value around calls (T.Read place object) = find around calls object >>= λ p. read around place p
-  value around calls (T.Decay place object) = find around calls object >>= λ p. Store.give (PointerValue (stepped_into p (Values.ElementsStep p.index)))
+  value around calls (T.Decay place object) = find around calls object >>= λ p. Store.give (PointerValue (stepped_into p (Parts.Elements p.index)))
   value around calls (T.FunctionValue function) = designated around calls function
   value around calls (T.Converted int_type operand) = value around calls operand >>= λ a. Store.give (converted int_type a)
   value around calls (T.Repointed place target operand) = value around calls operand >>= λ a. repointed around place target a
@@ -336,7 +342,7 @@ abbrev mutual
   value around calls (T.Complement int_type operand) = Store.entered (value around calls operand >>= λ a. Store.give (converted int_type (IntegerValue (neg_ℤ (integer_in a) -ℤ pos 1))))
   value around calls (T.Not operand) = Store.entered (value around calls operand >>= λ a. Store.give (truth (not (is_true a))))
   value around calls (T.Arithmetic op place int_type left right) = Store.entered (value around calls left >>= λ a. value around calls right >>= λ b. arithmetic op int_type place a b)
-  value around calls (T.Compare relation left right) = Store.entered (value around calls left >>= λ a. value around calls right >>= λ b. Store.give (truth (holds_between relation (integer_in a) (integer_in b))))
+  value around calls (T.Compare relation left right) = Store.entered (value around calls left >>= λ a. value around calls right >>= λ b. Store.give (truth (compare_of relation (integer_in a) (integer_in b))))
   value around calls (T.ComparePointers relation place left right) = Store.entered (value around calls left >>= λ a. value around calls right >>= λ b. compared_pointers around relation place a b)
   value around calls (T.PointerPlus place pointer number) = Store.entered (value around calls pointer >>= λ p. value around calls number >>= λ n. added around place p (integer_in n))
   value around calls (T.NumberPlus place number pointer) = Store.entered (value around calls number >>= λ n. value around calls pointer >>= λ p. added around place p (integer_in n))
@@ -374,8 +380,8 @@ abbrev mutual
   find around calls (T.Pointed place pointer) = Store.entered (value around calls pointer >>= λ p. accessed around place p)
   find around calls (T.Element place pointer number) = Store.entered (value around calls pointer >>= λ p. value around calls number >>= λ n. element around place p (integer_in n))
   find around calls (T.ElementOf place number pointer) = Store.entered (value around calls number >>= λ n. value around calls pointer >>= λ p. element around place p (integer_in n))
-  find around calls (T.MemberOf place object number) = Store.entered (find around calls object >>= λ p. Store.give (stepped_into p (Values.MemberStep p.index number)))
-  find around calls (T.PointedMember place pointer number) = Store.entered (value around calls pointer >>= λ a. accessed around place a >>= λ p. Store.give (stepped_into p (Values.MemberStep p.index number)))
+  find around calls (T.MemberOf place object number) = Store.entered (find around calls object >>= λ p. Store.give (stepped_into p (Parts.Member p.index number)))
+  find around calls (T.PointedMember place pointer number) = Store.entered (value around calls pointer >>= λ a. accessed around place a >>= λ p. Store.give (stepped_into p (Parts.Member p.index number)))
 
   -- the address of an object: `&*p` is p and `&p[i]` is p + i (C17 6.5.3.2 paragraph 3)
   pub address : Store.Around → Calls → Object → Store.Eval Scalar
@@ -386,8 +392,8 @@ abbrev mutual
   address around calls (T.Local number) = Store.entered (local_place number) >>= λ p. Store.give (PointerValue p)
   address around calls (T.Global name) = Store.entered (Store.give (PointerValue (place_of_name (Values.Outer name))))
   address around calls (T.Literal place bytes) = Store.entered (Store.give (PointerValue (place_of_name (Values.Text place))))
-  address around calls (T.MemberOf place object number) = Store.entered (find around calls object >>= λ p. Store.give (PointerValue (stepped_into p (Values.MemberStep p.index number))))
-  address around calls (T.PointedMember place pointer number) = Store.entered (value around calls pointer >>= λ a. accessed around place a >>= λ p. Store.give (PointerValue (stepped_into p (Values.MemberStep p.index number))))
+  address around calls (T.MemberOf place object number) = Store.entered (find around calls object >>= λ p. Store.give (PointerValue (stepped_into p (Parts.Member p.index number))))
+  address around calls (T.PointedMember place pointer number) = Store.entered (value around calls pointer >>= λ a. accessed around place a >>= λ p. Store.give (PointerValue (stepped_into p (Parts.Member p.index number))))
 
   -- the function of an expression, which may be null where it is a pointer's
   pub designated : Store.Around → Calls → Designator → Store.Eval Scalar
@@ -621,7 +627,7 @@ global_objects (first ∷ others) =
 abbrev pub text_of : ℕ → List ℕ → List Values.Held
 text_of index [] = []
 text_of index (byte ∷ bytes) =
-    record { leaf = record { steps = Values.ElementsStep 0 ∷ []; index = index }; value = IntegerValue (convert_to I.Char (pos byte)) } ∷ text_of (suc index) bytes
+    record { leaf = record { steps = Parts.Elements 0 ∷ []; index = index }; value = IntegerValue (convert_to I.Char (pos byte)) } ∷ text_of (suc index) bytes
 
 abbrev pub literal_objects : List T.LiteralDef → List Store.Object
 literal_objects [] = []

@@ -8,7 +8,7 @@ use Rattle.c_num.specs.declared.BinOp.TheVariants as B
 use Rattle.c_num.specs.declared.Relation.{Relation}
 use Rattle.c_num.specs.declared.Relation.TheVariants as R
 use Rattle.c_num.specs.Types.{promoted, common_of}
-use Rattle.c_num.specs.Arith.{is_shift}
+use Rattle.c_num.specs.Arith.{is_shift, negated_of, complement_of}
 use Rattle.c_syntax.specs.declared.operator.PrefixOperator.{PrefixOperator}
 use Rattle.c_syntax.specs.declared.operator.PrefixOperator.TheVariants as P
 use Rattle.c_syntax.specs.declared.operator.BinaryOperator.{BinaryOperator}
@@ -17,29 +17,36 @@ use Rattle.c_syntax.specs.declared.operator.AssignOperator.{AssignOperator}
 use Rattle.c_syntax.specs.declared.operator.AssignOperator.TheVariants as A
 use Rattle.c_syntax.specs.Trees.{NameTree}
 use Rattle.c_types.specs.declared.rule.TypeRule.TheVariants as T
-use Rattle.c_types.specs.Typing.{Violation}
-use Rattle.c_rules.specs.Types
-use Rattle.c_rules.specs.Types.{CType, CTypes, Void, Integer, Pointer, Array, Struct, Function, NoTypes, MoreTypes}
-use Rattle.c_rules.specs.Layouts.{StructDef, MemberDef, is_complete, layout_of, members_by_tag}
+use Rattle.c_rules.specs.declared.violation.Violation.{Violation}
+use Rattle.c_typed.specs.Types
+use Rattle.c_typed.specs.Types.{CType, CTypes, Void, Integer, Pointer, Array, Struct, Function, NoTypes, MoreTypes}
+use Rattle.c_typed.specs.Layouts.{StructDef, MemberDef, is_complete, layout_of, members_by_tag}
 use Rattle.c_rules.specs.Names.{Scope, Meaning, NoMeaning, Local, Outer, Library, meaning_of, contains}
 use Rattle.c_rules.specs.Known
-use Rattle.c_rules.specs.Known.{Checked, Known, TypedExpr, OfValue, OfObject, OfFunction, OfLibrary, value_in, value_from, give, unknown, refuse, also, require, with_known, given, given_two, given_three, at, unless, as_value, value_of_type, object_at, integer_value, Constness, NotConstant, Address, NoAddress, NullAddress, FunctionAddress}
-use Rattle.c_rules.specs.Values as values
-use Rattle.c_rules.specs.Typed as typed
-use Rattle.c_rules.specs.Typed.{Value, Object, Designator, Values, LibraryName, Stepping}
+use Rattle.c_rules.specs.Known.{Checked, Known, TypedExpr, OfValue, OfObject, OfFunction, OfLibrary, value_in, value_of_typed, give, unknown, refuse, also, require, with_known, given, given_two, given_three, at, unless, as_value, value_of_type, object_at, integer_value, Address, NoAddress, NullAddress, FunctionAddress}
+use Rattle.c_rules.specs.declared.constness.Constness.{Constness}
+use Rattle.c_rules.specs.declared.constness.Constness.TheVariants.{NotConstant, Constant}
+use Rattle.c_typed.specs.Values as values
+use Rattle.c_typed.specs.Typed as typed
+use Rattle.c_typed.specs.declared.typed.LibraryFunction.{LibraryFunction}
+use Rattle.c_typed.specs.declared.typed.LibraryFunction.TheVariants as L
+use Rattle.c_typed.specs.declared.typed.Stepping.{Stepping}
+use Rattle.c_typed.specs.declared.typed.Stepping.TheVariants as S
+use Rattle.c_typed.specs.Typed.{Value, Object, Designator, Values}
 use Rattle.c_rules.specs.Constants
 
 -- ---- conversions
+
+-- a pointer converts without a cast
+abbrev pub pointer_fits : CType → CType → Bool
+pointer_fits target source =
+    Types.is_pointer source && (Types.same_type target source || ((Types.is_void_pointer target && Types.is_object_pointer source) || (Types.is_void_pointer source && Types.is_object_pointer target)))
 
 -- A value of this type may be assigned, passed, returned or a first value (C17 6.5.16.1 paragraph 1).
 abbrev pub fits : CType → Known → Bool
 fits target value =
     (Types.is_integer target && Types.is_integer value.c_type)
     || (Types.is_pointer target && (value.is_null || pointer_fits target value.c_type))
-  where
-    pointer_fits : CType → CType → Bool
-    pointer_fits target source =
-        Types.is_pointer source && (Types.same_type target source || ((Types.is_void_pointer target && Types.is_object_pointer source) || (Types.is_void_pointer source && Types.is_object_pointer target)))
 
 -- a value that fits, converted to the type; where a pointer's conversion may fail, this stands at the place
 abbrev pub converted : Pos → CType → Known → Value
@@ -70,15 +77,29 @@ condition_of place known =
     if Types.is_integer known.c_type then record { test = value_in known; constness = known.constness }
     else record { test = typed.Tested place (value_in known); constness = NotConstant }
 
+-- a value that is an integer or a pointer
+abbrev pub scalar_rule : Pos → Known → Checked Known
+scalar_rule place value = require (is_scalar value.c_type) T.T08 place (give value)
+
+abbrev pub as_scalar : Pos → Checked Known → Checked Known
+as_scalar place part = given (as_value place part) (scalar_rule place)
+
 abbrev pub as_condition : Pos → Checked Known → Checked Condition
-as_condition place part = given (as_value place part) (λ value. require (is_scalar value.c_type) T.T08 place (give (condition_of place value)))
+as_condition place part = given (as_scalar place part) (λ value. give (condition_of place value))
+
+-- a value that is an integer
+abbrev pub integer_rule : Pos → Known → Checked Known
+integer_rule place value = require (Types.is_integer value.c_type) T.T07 place (give value)
 
 abbrev pub as_integer : Pos → Checked Known → Checked Known
-as_integer place part = given (as_value place part) (λ value. require (Types.is_integer value.c_type) T.T07 place (give value))
+as_integer place part = given (as_value place part) (integer_rule place)
 
 -- a value that is to fit a type
+abbrev pub fitting_rule : CType → Pos → Known → Checked Known
+fitting_rule target place value = require (fits target value) T.T10 place (give value)
+
 abbrev pub as_fitting : CType → Pos → Checked Known → Checked Known
-as_fitting target place value = given value (λ known. require (fits target known) T.T10 place (give known))
+as_fitting target place value = given value (fitting_rule target place)
 
 abbrev pub int_type_of : CType → IntType
 int_type_of (Integer int_type) = int_type
@@ -118,11 +139,12 @@ target_of (Pointer target) = target
 target_of c_type = c_type
 
 -- the element behind a pointer, as this object
+abbrev pub element_at : Scope → Pos → Pos → CType → CType → Object → Address → Checked Known
+element_at scope whole index_place pointer index object address =
+    require (is_pointer_to_complete scope pointer) T.T14 whole (require (Types.is_integer index) T.T07 index_place (give (object_at (target_of pointer) object address)))
+
 abbrev pub element : Scope → Pos → Pos → Object → Known → Known → Checked Known
-element scope whole index_place object pointer index =
-    require (is_pointer_to_complete scope pointer.c_type) T.T14 whole
-    (require (Types.is_integer index.c_type) T.T07 index_place
-    (give (object_at (target_of pointer.c_type) object (Constants.moved pointer.address index.constness))))
+element scope whole index_place object pointer index = element_at scope whole index_place pointer.c_type index.c_type object (Constants.moved pointer.address index.constness)
 
 -- `a[i]`, where either may be the pointer (C17 6.5.2.1)
 abbrev pub indexed : Scope → Pos → Pos → Known → Known → Checked Known
@@ -144,10 +166,12 @@ address_in whole operand _ = refuse T.T09 whole
 abbrev pub address_of : Pos → Known → Checked Known
 address_of whole operand = address_in whole operand operand.typed
 
+-- a pointer that was moved, as this value at an address
+abbrev pub moved_pointer : Scope → Pos → Value → CType → Address → Checked Known
+moved_pointer scope whole value c_type address = require (is_pointer_to_complete scope c_type) T.T14 whole (give (record (value_of_type c_type value) { address = address }))
+
 abbrev pub add_number : Scope → Pos → Value → Known → Constness → Checked Known
-add_number scope whole value pointer number =
-    require (is_pointer_to_complete scope pointer.c_type) T.T14 whole
-    (give (record (value_of_type pointer.c_type value) { address = Constants.moved pointer.address number }))
+add_number scope whole value pointer number = moved_pointer scope whole value pointer.c_type (Constants.moved pointer.address number)
 
 -- ---- members (C17 6.5.2.3)
 
@@ -184,17 +208,21 @@ abbrev pub promoted_type : CType → IntType
 promoted_type c_type = promoted (int_type_of c_type)
 
 abbrev pub negated : IntType → Constness → Constness
-negated int_type constness = Constants.arithmetic B.Sub int_type (Known.Constant (pos 0)) constness
+negated int_type constness = Constants.map_constness (λ z. Constants.outcome_constness (negated_of int_type z)) (Constants.converted int_type constness)
 
 abbrev pub complemented : IntType → Constness → Constness
-complemented int_type constness = Constants.map_constness (λ z. Constants.converted int_type (Known.Constant (neg_ℤ z -ℤ pos 1))) constness
+complemented int_type constness = Constants.map_constness (λ z. Constant (complement_of int_type z)) constness
+
+-- an object that may be assigned to: no array (C17 6.3.2.1 paragraph 1)
+abbrev pub is_object : TypedExpr → Bool
+is_object (OfObject object) = true
+is_object _ = false
 
 abbrev pub is_modifiable : Known → Bool
 is_modifiable known = is_object known.typed && not (Types.is_array known.c_type)
-  where
-    is_object : TypedExpr → Bool
-    is_object (OfObject object) = true
-    is_object _ = false
+
+abbrev pub modifiable_rule : Pos → Known → Checked Known
+modifiable_rule whole object = require (is_modifiable object) T.T09 whole (give object)
 
 abbrev pub step_value : Stepping → Pos → CType → Object → Value
 step_value stepping place (Integer int_type) object = typed.StepInteger stepping place int_type object
@@ -203,35 +231,45 @@ step_value stepping place _ object = typed.StepPointer stepping place object
 -- `++` and `--` (C17 6.5.2.4, 6.5.3.1)
 abbrev pub stepped : Scope → Stepping → Pos → Pos → Known → Checked Known
 stepped scope stepping whole operand_place operand =
-    require (is_modifiable operand) T.T09 whole
-    (require (is_scalar operand.c_type) T.T07 operand_place
-    (require (Types.is_integer operand.c_type || is_pointer_to_complete scope operand.c_type) T.T14 whole
-    (give (value_of_type operand.c_type (step_value stepping whole operand.c_type (object_in operand.typed))))))
+    given (modifiable_rule whole operand) (λ object.
+    require (is_scalar object.c_type) T.T07 operand_place
+    (require (Types.is_integer object.c_type || is_pointer_to_complete scope object.c_type) T.T14 whole
+    (give (value_of_type object.c_type (step_value stepping whole object.c_type (object_in object.typed))))))
+
+abbrev pub not_constness : Constness → Constness
+not_constness constness = Constants.map_constness (λ z. Constants.truth (not (Constants.not_zero z))) constness
 
 abbrev pub logical_not : Condition → Known
-logical_not operand = integer_value Types.int (Constants.map_constness (λ z. Constants.truth (not (Constants.not_zero z))) operand.constness) (typed.Not operand.test)
+logical_not operand = integer_value Types.int (not_constness operand.constness) (typed.Not operand.test)
 
 -- an operand of an integer type, converted by the integer promotions
 abbrev pub promoted_value : Known → Value
 promoted_value known = typed.Converted (promoted_type known.c_type) (value_in known)
 
+-- an integer with a sign in front, or complemented
+abbrev pub with_plus : Known → Known
+with_plus value = integer_value (Integer (promoted_type value.c_type)) value.constness (typed.Plus (promoted_value value))
+
+abbrev pub with_minus : Pos → Known → Known
+with_minus whole value = integer_value (Integer (promoted_type value.c_type)) (negated (promoted_type value.c_type) value.constness) (typed.Minus whole (promoted_type value.c_type) (promoted_value value))
+
+abbrev pub with_complement : Known → Known
+with_complement value = integer_value (Integer (promoted_type value.c_type)) (complemented (promoted_type value.c_type) value.constness) (typed.Complement (promoted_type value.c_type) (promoted_value value))
+
 -- an operator before its operand; the whole stands at the place
 abbrev pub prefixed : Scope → PrefixOperator → Pos → Pos → Checked Known → Checked Known
-prefixed scope P.Increment whole place operand = given operand (stepped scope typed.PreIncrement whole place)
-prefixed scope P.Decrement whole place operand = given operand (stepped scope typed.PreDecrement whole place)
+prefixed scope P.Increment whole place operand = given operand (stepped scope S.PreIncrement whole place)
+prefixed scope P.Decrement whole place operand = given operand (stepped scope S.PreDecrement whole place)
 prefixed scope P.Address whole place operand = given operand (address_of whole)
 prefixed scope P.Dereference whole place operand = given (as_value place operand) (dereferenced scope whole)
-prefixed scope P.Plus whole place operand =
-    given (as_integer place operand) (λ value. give (integer_value (Integer (promoted_type value.c_type)) value.constness (typed.Plus (promoted_value value))))
-prefixed scope P.Minus whole place operand =
-    given (as_integer place operand) (λ value. give (integer_value (Integer (promoted_type value.c_type)) (negated (promoted_type value.c_type) value.constness) (typed.Minus whole (promoted_type value.c_type) (promoted_value value))))
-prefixed scope P.Complement whole place operand =
-    given (as_integer place operand) (λ value. give (integer_value (Integer (promoted_type value.c_type)) (complemented (promoted_type value.c_type) value.constness) (typed.Complement (promoted_type value.c_type) (promoted_value value))))
-prefixed scope P.Not whole place operand = given (as_condition place operand) (λ condition. give (logical_not condition))
+prefixed scope P.Plus whole place operand = given (as_integer place operand) (λ value. give (with_plus value))
+prefixed scope P.Minus whole place operand = given (as_integer place operand) (λ value. give (with_minus whole value))
+prefixed scope P.Complement whole place operand = given (as_integer place operand) (λ value. give (with_complement value))
+prefixed scope P.Not whole place operand = given (as_scalar place operand) (λ value. give (logical_not (condition_of place value)))
 
 -- the size of an object type (C17 6.5.3.4)
 abbrev pub size_value : ℕ → Known
-size_value size = integer_value (Integer I.ULong) (Known.Constant (pos size)) (typed.Constant (pos size))
+size_value size = integer_value (Integer I.ULong) (Constant (pos size)) (typed.Constant (pos size))
 
 abbrev pub size_of : Scope → Pos → CType → Checked Known
 size_of scope place c_type = require (is_complete scope.structs c_type) T.T05 place (give (size_value (layout_of scope.structs c_type).size))
@@ -268,7 +306,7 @@ arithmetic op whole a b =
 abbrev pub shifted : BinOp → Pos → Known → Known → Checked Known
 shifted op whole a b =
     let int_type = promoted_type a.c_type in
-    give (integer_value (Integer int_type) (Constants.arithmetic op int_type a.constness b.constness) (typed.Arithmetic op whole int_type (promoted_value a) (promoted_value b)))
+    give (integer_value (Integer int_type) (Constants.arithmetic op int_type (Constants.converted int_type a.constness) b.constness) (typed.Arithmetic op whole int_type (promoted_value a) (promoted_value b)))
 
 abbrev pub both_integers : Known → Known → Bool
 both_integers a b = Types.is_integer a.c_type && Types.is_integer b.c_type
@@ -280,12 +318,16 @@ sum scope whole a b =
     else if Types.is_integer a.c_type && Types.is_pointer b.c_type then add_number scope whole (typed.NumberPlus whole (value_in a) (value_in b)) b a.constness
     else refuse T.T11 whole
 
+abbrev pub pointer_difference : Scope → Pos → Known → Known → Checked Known
+pointer_difference scope whole a b =
+    require (Types.is_pointer a.c_type && Types.same_type a.c_type b.c_type) T.T11 whole
+    (require (is_pointer_to_complete scope a.c_type) T.T14 whole (give (value_of_type (Integer I.Long) (typed.PointerDifference whole (value_in a) (value_in b)))))
+
 abbrev pub difference : Scope → Pos → Known → Known → Checked Known
 difference scope whole a b =
     if both_integers a b then arithmetic B.Sub whole a b
-    else if Types.is_pointer a.c_type && Types.is_integer b.c_type then add_number scope whole (typed.PointerMinus whole (value_in a) (value_in b)) a (Constants.map_constness (λ z. Known.Constant (neg_ℤ z)) b.constness)
-    else require (Types.is_pointer a.c_type && Types.same_type a.c_type b.c_type) T.T11 whole
-    (require (is_pointer_to_complete scope a.c_type) T.T14 whole (give (value_of_type (Integer I.Long) (typed.PointerDifference whole (value_in a) (value_in b)))))
+    else if Types.is_pointer a.c_type && Types.is_integer b.c_type then add_number scope whole (typed.PointerMinus whole (value_in a) (value_in b)) a (Constants.map_constness (λ z. Constant (neg_ℤ z)) b.constness)
+    else pointer_difference scope whole a b
 
 abbrev pub compared : Relation → Known → Known → Checked Known
 compared relation a b =
@@ -322,147 +364,199 @@ equated relation whole a b =
     else require (pointers_agree a b) T.T11 whole
     (give (value_of_type Types.int (typed.ComparePointers relation whole (converted whole (agreed_pointer a b) a) (converted whole (agreed_pointer a b) b))))
 
-abbrev pub of_integers : (Known → Known → Checked Known) → Pos → Pos → Checked Known → Checked Known → Checked Known
-of_integers rule left_place right_place left right = given_two (as_integer left_place left) (as_integer right_place right) rule
+-- `&&` and `||` (C17 6.5.13, 6.5.14)
+abbrev pub both : Condition → Condition → Known
+both a b = integer_value Types.int (Constants.conjunction a.constness b.constness) (typed.And a.test b.test)
 
-abbrev pub of_values : (Known → Known → Checked Known) → Pos → Pos → Checked Known → Checked Known → Checked Known
-of_values rule left_place right_place left right = given_two (as_value left_place left) (as_value right_place right) rule
+abbrev pub either : Condition → Condition → Known
+either a b = integer_value Types.int (Constants.disjunction a.constness b.constness) (typed.Or a.test b.test)
 
-abbrev pub of_conditions : (Constness → Constness → Constness) → (Value → Value → Value) → Pos → Pos → Checked Known → Checked Known → Checked Known
-of_conditions rule value left_place right_place left right =
-    given_two (as_condition left_place left) (as_condition right_place right) (λ a b. give (integer_value Types.int (rule a.constness b.constness) (value a.test b.test)))
+-- what an operator between two operands asks of each: an integer, any value, or a scalar
+pub data OperandKind : Type 0 where
+  AnInteger AnyValue AScalar : OperandKind
+
+abbrev pub operand_kind : BinaryOperator → OperandKind
+operand_kind O.Add = AnyValue
+operand_kind O.Subtract = AnyValue
+operand_kind O.Less = AnyValue
+operand_kind O.Greater = AnyValue
+operand_kind O.LessEqual = AnyValue
+operand_kind O.GreaterEqual = AnyValue
+operand_kind O.Equal = AnyValue
+operand_kind O.NotEqual = AnyValue
+operand_kind O.And = AScalar
+operand_kind O.Or = AScalar
+operand_kind _ = AnInteger
+
+abbrev pub operand : OperandKind → Pos → Checked Known → Checked Known
+operand AnInteger place part = as_integer place part
+operand AnyValue place part = as_value place part
+operand AScalar place part = as_scalar place part
+
+-- what it gives of both; the whole stands where the left one does
+abbrev pub combined : Scope → BinaryOperator → Pos → Pos → Known → Known → Checked Known
+combined scope O.Multiply whole right_place a b = arithmetic B.Mul whole a b
+combined scope O.Divide whole right_place a b = arithmetic B.Div whole a b
+combined scope O.Remainder whole right_place a b = arithmetic B.Rem whole a b
+combined scope O.Add whole right_place a b = sum scope whole a b
+combined scope O.Subtract whole right_place a b = difference scope whole a b
+combined scope O.ShiftLeft whole right_place a b = shifted B.Shl whole a b
+combined scope O.ShiftRight whole right_place a b = shifted B.Shr whole a b
+combined scope O.Less whole right_place a b = ordered R.Lt whole a b
+combined scope O.Greater whole right_place a b = ordered R.Gt whole a b
+combined scope O.LessEqual whole right_place a b = ordered R.Le whole a b
+combined scope O.GreaterEqual whole right_place a b = ordered R.Ge whole a b
+combined scope O.Equal whole right_place a b = equated R.Eq whole a b
+combined scope O.NotEqual whole right_place a b = equated R.Ne whole a b
+combined scope O.BitAnd whole right_place a b = arithmetic B.And whole a b
+combined scope O.BitXor whole right_place a b = arithmetic B.Xor whole a b
+combined scope O.BitOr whole right_place a b = arithmetic B.Or whole a b
+combined scope O.And whole right_place a b = give (both (condition_of whole a) (condition_of right_place b))
+combined scope O.Or whole right_place a b = give (either (condition_of whole a) (condition_of right_place b))
 
 -- an operator between its operands, whose first tokens stand at these places, the left one's being the whole's
 abbrev pub binary : Scope → BinaryOperator → Pos → Pos → Checked Known → Checked Known → Checked Known
-binary scope O.Multiply place right_place left right = of_integers (arithmetic B.Mul place) place right_place left right
-binary scope O.Divide place right_place left right = of_integers (arithmetic B.Div place) place right_place left right
-binary scope O.Remainder place right_place left right = of_integers (arithmetic B.Rem place) place right_place left right
-binary scope O.Add place right_place left right = of_values (sum scope place) place right_place left right
-binary scope O.Subtract place right_place left right = of_values (difference scope place) place right_place left right
-binary scope O.ShiftLeft place right_place left right = of_integers (shifted B.Shl place) place right_place left right
-binary scope O.ShiftRight place right_place left right = of_integers (shifted B.Shr place) place right_place left right
-binary scope O.Less place right_place left right = of_values (ordered R.Lt place) place right_place left right
-binary scope O.Greater place right_place left right = of_values (ordered R.Gt place) place right_place left right
-binary scope O.LessEqual place right_place left right = of_values (ordered R.Le place) place right_place left right
-binary scope O.GreaterEqual place right_place left right = of_values (ordered R.Ge place) place right_place left right
-binary scope O.Equal place right_place left right = of_values (equated R.Eq place) place right_place left right
-binary scope O.NotEqual place right_place left right = of_values (equated R.Ne place) place right_place left right
-binary scope O.BitAnd place right_place left right = of_integers (arithmetic B.And place) place right_place left right
-binary scope O.BitXor place right_place left right = of_integers (arithmetic B.Xor place) place right_place left right
-binary scope O.BitOr place right_place left right = of_integers (arithmetic B.Or place) place right_place left right
-binary scope O.And place right_place left right = of_conditions Constants.conjunction typed.And place right_place left right
-binary scope O.Or place right_place left right = of_conditions Constants.disjunction typed.Or place right_place left right
+binary scope operator place right_place left right =
+    given_two (operand (operand_kind operator) place left) (operand (operand_kind operator) right_place right) (combined scope operator place right_place)
 
 -- ---- `?:` (C17 6.5.15)
 
+abbrev pub integer_choice : Condition → Known → Known → Checked Known
+integer_choice condition a b =
+    let int_type = common_type a b in
+    give (integer_value (Integer int_type) (Constants.conditional condition.constness (Constants.converted int_type a.constness) (Constants.converted int_type b.constness))
+    (typed.Conditional condition.test (typed.Converted int_type (value_in a)) (typed.Converted int_type (value_in b))))
+
 abbrev pub choice : Pos → Condition → Known → Known → Checked Known
 choice whole condition a b =
-    if both_integers a b then (let int_type = common_type a b in
-    give (integer_value (Integer int_type) (Constants.conditional condition.constness (Constants.converted int_type a.constness) (Constants.converted int_type b.constness))
-    (typed.Conditional condition.test (typed.Converted int_type (value_in a)) (typed.Converted int_type (value_in b)))))
+    if both_integers a b then integer_choice condition a b
     else if Types.is_void a.c_type && Types.is_void b.c_type then give (value_of_type Void (typed.Conditional condition.test (value_in a) (value_in b)))
     else require (pointers_agree a b) T.T11 whole
     (give (value_of_type (agreed_pointer a b) (typed.Conditional condition.test (converted whole (agreed_pointer a b) a) (converted whole (agreed_pointer a b) b))))
 
 -- ---- assignments (C17 6.5.16)
 
--- is the operator `+=` or `-=`?
-abbrev pub moves_pointers : AssignOperator → Bool
-moves_pointers A.Add = true
-moves_pointers A.Subtract = true
+-- the operator of a compound assignment
+abbrev pub operator_of : AssignOperator → Option BinOp
+operator_of A.Assign = None
+operator_of A.Multiply = Some B.Mul
+operator_of A.Divide = Some B.Div
+operator_of A.Remainder = Some B.Rem
+operator_of A.Add = Some B.Add
+operator_of A.Subtract = Some B.Sub
+operator_of A.ShiftLeft = Some B.Shl
+operator_of A.ShiftRight = Some B.Shr
+operator_of A.BitAnd = Some B.And
+operator_of A.BitXor = Some B.Xor
+operator_of A.BitOr = Some B.Or
+
+-- `+=` and `-=` move pointers
+abbrev pub moves_pointers : BinOp → Bool
+moves_pointers B.Add = true
+moves_pointers B.Sub = true
 moves_pointers _ = false
 
+abbrev pub is_subtraction : BinOp → Bool
+is_subtraction B.Sub = true
+is_subtraction _ = false
+
 -- the object of a compound assignment
-abbrev pub compound_object : Scope → AssignOperator → Pos → Known → Checked Known
-compound_object scope operator place object =
-    if Types.is_pointer object.c_type && moves_pointers operator then require (is_pointer_to_complete scope object.c_type) T.T14 place (give object)
+abbrev pub compound_object : Scope → BinOp → Pos → Known → Checked Known
+compound_object scope op place object =
+    if moves_pointers op && Types.is_pointer object.c_type then require (is_pointer_to_complete scope object.c_type) T.T14 place (give object)
     else require (Types.is_integer object.c_type) T.T07 place (give object)
 
-abbrev pub modifiable : Pos → Checked Known → Checked Known
-modifiable whole object = given object (λ known. require (is_modifiable known) T.T09 whole (give known))
+-- what is assigned to, by the operator where there is one
+abbrev pub assigned_object : Scope → Option BinOp → Pos → Checked Known → Checked Known
+assigned_object scope None place object = given object (modifiable_rule place)
+assigned_object scope (Some op) place object = given (given object (modifiable_rule place)) (compound_object scope op place)
 
--- the operator of a compound assignment
-abbrev pub operator_of : AssignOperator → BinOp
-operator_of A.Multiply = B.Mul
-operator_of A.Divide = B.Div
-operator_of A.Remainder = B.Rem
-operator_of A.Add = B.Add
-operator_of A.Subtract = B.Sub
-operator_of A.ShiftLeft = B.Shl
-operator_of A.ShiftRight = B.Shr
-operator_of A.BitAnd = B.And
-operator_of A.BitXor = B.Xor
-operator_of A.BitOr = B.Or
-operator_of A.Assign = B.Add
-
-abbrev pub is_subtraction : AssignOperator → Bool
-is_subtraction A.Subtract = true
-is_subtraction _ = false
+-- what is assigned, or the right operand
+abbrev pub assigned_value : Option BinOp → Pos → Checked Known → Checked Known
+assigned_value None place part = as_value place part
+assigned_value (Some op) place part = as_integer place part
 
 abbrev pub compound_integer : BinOp → Pos → IntType → Object → Known → Value
 compound_integer op whole object_type object value =
     if is_shift op then typed.AssignArithmetic op whole object_type (promoted object_type) object (promoted_value value)
     else (let int_type = common_of object_type (int_type_of value.c_type) in typed.AssignArithmetic op whole object_type int_type object (typed.Converted int_type (value_in value)))
 
-abbrev pub compound_value : AssignOperator → Pos → CType → Object → Known → Value
-compound_value operator whole (Integer object_type) object value = compound_integer (operator_of operator) whole object_type object value
-compound_value operator whole _ object value = typed.AssignMoved (is_subtraction operator) whole object (value_in value)
+abbrev pub compound_value : BinOp → Pos → CType → Object → Known → Value
+compound_value op whole (Integer object_type) object value = compound_integer op whole object_type object value
+compound_value op whole _ object value = typed.AssignMoved (is_subtraction op) whole object (value_in value)
+
+abbrev pub assignment : Option BinOp → Pos → Pos → Known → Known → Checked Known
+assignment None whole value_place left right =
+    require (fits left.c_type right) T.T10 value_place (give (value_of_type left.c_type (typed.Assign whole (object_in left.typed) (converted whole left.c_type right))))
+assignment (Some op) whole value_place left right = give (value_of_type left.c_type (compound_value op whole left.c_type (object_in left.typed) right))
 
 abbrev pub assigned : Scope → AssignOperator → Pos → Pos → Checked Known → Checked Known → Checked Known
-assigned scope A.Assign place value_place object value =
-    given_two (modifiable place object) (as_value value_place value)
-    (λ left right. require (fits left.c_type right) T.T10 value_place (give (value_of_type left.c_type (typed.Assign place (object_in left.typed) (converted place left.c_type right)))))
 assigned scope operator place value_place object value =
-    given_two (given (modifiable place object) (compound_object scope operator place)) (as_integer value_place value)
-    (λ left right. give (value_of_type left.c_type (compound_value operator place left.c_type (object_in left.typed) right)))
+    given_two (assigned_object scope (operator_of operator) place object) (assigned_value (operator_of operator) value_place value) (assignment (operator_of operator) place value_place)
 
 -- ---- calls (C17 6.5.2.2)
 
--- an argument, and the place of its first token
+-- the place of an argument's first token, and its value where that is known
 pub record ArgumentValue : Type 0 where
   pub place : Pos
-  pub value : Checked Known
+  pub value : Option Known
 
-abbrev pub found_in : List ArgumentValue → List Violation
-found_in [] = []
-found_in (argument ∷ arguments) = argument.value.found ++ found_in arguments
+-- the arguments of a call, and what they violate
+pub record Arguments : Type 0 where
+  pub found : List Violation
+  pub values : List ArgumentValue
+
+abbrev pub no_arguments : Arguments
+no_arguments = record { found = []; values = [] }
+
+abbrev pub with_argument : Pos → Checked Known → Arguments → Arguments
+with_argument place first others = record { found = first.found ++ others.found; values = record { place = place; value = first.known } ∷ others.values }
 
 abbrev pub as_many : CTypes → List ArgumentValue → Bool
 as_many NoTypes [] = true
 as_many (MoreTypes first others) (argument ∷ arguments) = as_many others arguments
 as_many _ _ = false
 
+-- an argument converted to a parameter's type
+abbrev pub passed_rule : Pos → Pos → CType → Known → Checked Value
+passed_rule whole place first known = require (fits first known) T.T10 place (give (converted whole first known))
+
 -- all arguments fit, and are converted to the parameters' types
 abbrev pub passed : Pos → CTypes → List ArgumentValue → Checked Values
 passed whole (MoreTypes first others) (argument ∷ arguments) =
-    given_two (with_known argument.value.known (λ known. require (fits first known) T.T10 argument.place (give (converted whole first known)))) (passed whole others arguments) (λ value values. give (typed.MoreValues value values))
+    given_two (with_known argument.value (passed_rule whole argument.place first)) (passed whole others arguments) (λ value values. give (typed.MoreValues value values))
 passed whole _ _ = give typed.NoValues
 
 -- what `free` is given needs no conversion
+abbrev pub unconverted_value : Option Known → Value
+unconverted_value None = typed.NullPointer
+unconverted_value (Some known) = if known.is_null then typed.MadeNull (value_in known) else value_in known
+
 abbrev pub unconverted : List ArgumentValue → Values
 unconverted [] = typed.NoValues
-unconverted (argument ∷ arguments) = typed.MoreValues (by argument.value.known) (unconverted arguments)
-  where
-    by : Option Known → Value
-    by None = typed.NullPointer
-    by (Some known) = if known.is_null then typed.MadeNull (value_in known) else value_in known
+unconverted (argument ∷ arguments) = typed.MoreValues (unconverted_value argument.value) (unconverted arguments)
 
-abbrev pub library_call : Pos → LibraryName → ℕ → List ArgumentValue → Values → Value
-library_call whole typed.Free groups arguments given = typed.LibraryCall typed.Free groups whole (unconverted arguments)
-library_call whole function groups arguments given = typed.LibraryCall function groups whole given
+abbrev pub is_free : TypedExpr → Bool
+is_free (OfLibrary L.Free groups) = true
+is_free _ = false
 
--- the call of what the called expression stands for
-abbrev pub call_value : Pos → TypedExpr → CType → CType → List ArgumentValue → Values → Value
-call_value whole (OfLibrary function groups) pointer c_type arguments given = library_call whole function groups arguments given
-call_value whole (OfFunction function) pointer c_type arguments given = typed.Call true whole function c_type given
-call_value whole expression pointer c_type arguments given = typed.Call true whole (typed.ThroughPointer whole (value_from whole pointer expression)) c_type given
+-- the call of what the called expression stands for, which may be an array
+abbrev pub call_of : Pos → Bool → TypedExpr → CType → Values → Value
+call_of whole is_array (OfLibrary function groups) c_type given = typed.LibraryCall function groups whole given
+call_of whole is_array (OfFunction function) c_type given = typed.Call true whole function c_type given
+call_of whole is_array expression c_type given = typed.Call true whole (typed.ThroughPointer whole (value_of_typed whole is_array expression)) c_type given
+
+abbrev pub call_value : Pos → Known → CType → List ArgumentValue → Values → Value
+call_value whole function c_type arguments given = call_of whole (Types.is_array function.c_type) function.typed c_type (if is_free function.typed then unconverted arguments else given)
 
 abbrev pub called_as : Pos → Known → CType → List ArgumentValue → Checked Known
 called_as whole function (Pointer (Function result parameters)) arguments =
     require (as_many parameters arguments) T.T13 whole
-    (given (passed whole parameters arguments) (λ values. give (value_of_type result (call_value whole function.typed function.c_type (Function result parameters) arguments values))))
+    (given (passed whole parameters arguments) (λ values. give (value_of_type result (call_value whole function (Function result parameters) arguments values))))
 called_as whole function _ arguments = refuse T.T12 whole
 
-abbrev pub call : Pos → Checked Known → List ArgumentValue → Checked Known
-call whole function arguments =
-    also (found_in arguments) (given function (λ known. also (unless (not (Types.is_struct known.c_type)) T.T19 whole) (called_as whole known (Types.decayed known.c_type) arguments)))
+abbrev pub call_rule : Pos → Known → List ArgumentValue → Checked Known
+call_rule whole known arguments = also (unless (not (Types.is_struct known.c_type)) T.T19 whole) (called_as whole known (Types.decayed known.c_type) arguments)
+
+abbrev pub call : Pos → Checked Known → Arguments → Checked Known
+call whole function arguments = also arguments.found (given function (λ known. call_rule whole known arguments.values))

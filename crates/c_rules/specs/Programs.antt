@@ -4,11 +4,11 @@ use Rattle.run_theory.specs.declared.ends.Pos.{Pos}
 use Rattle.c_syntax.specs.Trees
 use Rattle.c_syntax.specs.Trees.{NameTree, WordsTree, SimpleTree, ExprTree, ArgumentsTree, TypeTree, OptionalTree, DeclaratorTree, DirectTree, SuffixesTree, LengthTree, ParametersTree, InitTree, InitsTree, InitDeclaratorTree, MemberTree, BaseTree, ItemTree, BlockTree, ProgramTree}
 use Rattle.c_types.specs.declared.rule.TypeRule.TheVariants as T
-use Rattle.c_types.specs.Typing.{Violation}
-use Rattle.c_rules.specs.Types
-use Rattle.c_rules.specs.Types.{CType, Void, Integer, Struct, Function, NoTypes, same_type}
-use Rattle.c_rules.specs.Layouts.{StructDef, MemberDef, is_complete, members_by_tag}
-use Rattle.c_rules.specs.Names.{Scope, FileName, LocalName, file_name, is_library, contains, with_local, is_local_here}
+use Rattle.c_rules.specs.declared.violation.Violation.{Violation}
+use Rattle.c_typed.specs.Types
+use Rattle.c_typed.specs.Types.{CType, Void, Integer, Struct, Function, NoTypes, same_type}
+use Rattle.c_typed.specs.Layouts.{StructDef, MemberDef, is_complete, members_by_tag}
+use Rattle.c_rules.specs.Names.{Scope, FileName, file_name, is_library, contains, with_local, in_function, with_file_name}
 use Rattle.c_rules.specs.Known.{Checked, Known, also, require, given, at, unless, give, refuse, unknown, least}
 use Rattle.c_rules.specs.Expressions.{LengthRole, Required, Adjusted, Initialized, words_type, declared_type, optional_type, declared_name, optional_name, name_place, is_void_alone, adds, parameter_type}
 use Rattle.c_rules.specs.Initializers.{first_of, initial_length, found_within}
@@ -222,7 +222,7 @@ declare_outside name c_type has_init has_body scope =
     let old = file_name scope.file name.bytes in
     record {
       found = unless (not (is_library name.bytes)) T.T04 name.place ++ main_clash name c_type ++ again_clash name.place old entry;
-      scope = record scope { file = joined_name old entry ∷ scope.file };
+      scope = record scope { file = with_file_name (joined_name old entry) scope.file };
     }
 
 abbrev pub role_of : Option InitTree → LengthRole
@@ -288,7 +288,7 @@ enter_parameters outside (Trees.Parameter words declarator others) scope =
 
 abbrev pub entered_function : Scope → ParametersTree → Filed
 entered_function scope parameters =
-    let inside = record scope { blocks = [] ∷ [] } in
+    let inside = in_function scope in
     if is_void_alone parameters then record { found = []; scope = inside } else enter_parameters scope parameters inside
 
 abbrev pub result_of : Option CType → Option CType
@@ -323,16 +323,31 @@ abbrev pub items : Scope → List ItemTree → List Violation
 items scope [] = []
 items scope (first ∷ others) = let one = item scope first in one.found ++ items one.scope others
 
+abbrev pub has_tag : List NameTree → List ℕ → Bool
+has_tag [] name = false
+has_tag (first ∷ others) name = bytes_eq first.bytes name || has_tag others name
+
+-- each tag once, with its first place, behind these
+abbrev pub first_places : List NameTree → List NameTree → List NameTree
+first_places tags [] = tags
+first_places tags (tag ∷ others) = first_places (if has_tag tags tag.bytes then tags else tags ++ tag ∷ []) others
+
+-- each name once, behind these
+abbrev pub each_once : List (List ℕ) → List (List ℕ) → List (List ℕ)
+each_once names [] = names
+each_once names (name ∷ others) = each_once (if contains names name then names else names ++ name ∷ []) others
+
 -- what is known where a program begins
 abbrev pub outermost : ProgramTree → Scope
 outermost program =
     record {
-      tags = tags_in_items program.items;
-      completed = completed_in program.items;
-      defined = defined_in program.items;
+      tags = first_places [] (tags_in_items program.items);
+      completed = each_once [] (completed_in program.items);
+      defined = each_once [] (defined_in program.items);
       structs = [];
       file = [];
-      blocks = [];
+      inner = [];
+      outer = [];
     }
 
 -- all that a program violates

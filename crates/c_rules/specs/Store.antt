@@ -4,10 +4,12 @@ use Rattle.run_theory.specs.declared.ends.Pos.{Pos}
 use Rattle.run_theory.specs.declared.ends.UbKind.{UbKind}
 use Rattle.run_theory.specs.declared.ends.UbKind.TheVariants as Ub
 use Rattle.run_theory.specs.Runs.{Trace, Event, Answer, Going, Over, Final, Undefined}
-use Rattle.c_rules.specs.Types.{CType, Void, Integer, Pointer, Array, Struct, Function}
-use Rattle.c_rules.specs.Layouts.{StructDef, MemberDef, Layout, Table, layouts, layout_in, layout_of, members_by_tag, member_layout, behind, aligned, no_layout}
+use Rattle.c_typed.specs.Types.{CType, Void, Integer, Pointer, Array, Struct, Function}
+use Rattle.c_typed.specs.Layouts.{StructDef, MemberDef, Layout, Table, layouts, layout_in, layout_of, members_by_tag, member_layout, behind, aligned, no_layout}
 use Rattle.c_rules.specs.Known.{is_same_place}
-use Rattle.c_rules.specs.Values
+use Rattle.c_typed.specs.declared.part.Part.{Part}
+use Rattle.c_typed.specs.declared.part.Part.TheVariants as Parts
+use Rattle.c_typed.specs.Values
 
 -- ---- objects
 
@@ -18,12 +20,12 @@ same_name (Values.Text a) (Values.Text b) = is_same_place a b
 same_name (Values.Own a) (Values.Own b) = a == b
 same_name _ _ = false
 
-abbrev pub same_step : Values.Step → Values.Step → Bool
-same_step (Values.MemberStep i m) (Values.MemberStep j n) = (i == j) && (m == n)
-same_step (Values.ElementsStep i) (Values.ElementsStep j) = i == j
+abbrev pub same_step : Part → Part → Bool
+same_step (Parts.Member i m) (Parts.Member j n) = (i == j) && (m == n)
+same_step (Parts.Elements i) (Parts.Elements j) = i == j
 same_step _ _ = false
 
-abbrev pub same_steps : List Values.Step → List Values.Step → Bool
+abbrev pub same_steps : List Part → List Part → Bool
 same_steps [] [] = true
 same_steps (a ∷ others) (b ∷ rest) = same_step a b && same_steps others rest
 same_steps _ _ = false
@@ -69,19 +71,19 @@ abbrev pub members_of : Around → CType → List MemberDef
 members_of around (Struct tag) = members_or_none (members_by_tag around.structs tag)
 members_of around _ = []
 
-abbrev pub step_row : Around → Values.Step → RowType → RowType
-step_row around (Values.MemberStep index number) row = record { c_type = member_type (members_of around row.c_type) number; count = 1 }
-step_row around (Values.ElementsStep index) row = elements row.c_type
+abbrev pub step_row : Around → Part → RowType → RowType
+step_row around (Parts.Member index number) row = record { c_type = member_type (members_of around row.c_type) number; count = 1 }
+step_row around (Parts.Elements index) row = elements row.c_type
   where
     elements : CType → RowType
     elements (Array element n) = record { c_type = element; count = n }
     elements c_type = record { c_type = c_type; count = 1 }
 
-abbrev pub row_behind : Around → List Values.Step → RowType → RowType
+abbrev pub row_behind : Around → List Part → RowType → RowType
 row_behind around [] row = row
 row_behind around (step ∷ steps) row = row_behind around steps (step_row around step row)
 
-abbrev pub row_in : Around → Values.Content → List Values.Step → RowType
+abbrev pub row_in : Around → Values.Content → List Part → RowType
 row_in around (Values.Row is_static c_type count held) steps = row_behind around steps (record { c_type = c_type; count = count })
 row_in around _ steps = record { c_type = Void; count = 0 }
 
@@ -92,13 +94,13 @@ member_offset table front [] number = 0
 member_offset table front (member ∷ members) zero = aligned (member_layout table member).alignment front.size
 member_offset table front (member ∷ members) (suc number) = member_offset table (behind front (member_layout table member)) members number
 
-abbrev pub step_offset : Around → Values.Step → RowType → ℕ
-step_offset around (Values.MemberStep index number) row =
+abbrev pub step_offset : Around → Part → RowType → ℕ
+step_offset around (Parts.Member index number) row =
     index * (layout_of around.structs row.c_type).size + member_offset (layouts around.structs) no_layout (members_of around row.c_type) number
-step_offset around (Values.ElementsStep index) row = index * (layout_of around.structs row.c_type).size
+step_offset around (Parts.Elements index) row = index * (layout_of around.structs row.c_type).size
 
 -- how many bytes an element lies behind its object's first
-abbrev pub offset_from : Around → List Values.Step → ℕ → RowType → ℕ
+abbrev pub offset_from : Around → List Part → ℕ → RowType → ℕ
 offset_from around [] index row = index * (layout_of around.structs row.c_type).size
 offset_from around (step ∷ steps) index row = step_offset around step row + offset_from around steps index (step_row around step row)
 
@@ -208,7 +210,7 @@ is_end around objects place = not (nat_lt place.index (count_at around objects p
 
 -- ---- scalars in objects
 
-abbrev pub held_value : List Values.Held → List Values.Step → ℕ → Option Values.Scalar
+abbrev pub held_value : List Values.Held → List Part → ℕ → Option Values.Scalar
 held_value [] steps index = None
 held_value (first ∷ others) steps index =
     if (first.leaf.index == index) && same_steps first.leaf.steps steps then Some first.value else held_value others steps index
@@ -229,7 +231,7 @@ scalar_in around (Values.Row is_static c_type count held) place =
     scalar_or (held_value held place.steps place.index) is_static (row_behind around place.steps (record { c_type = c_type; count = count })).c_type
 scalar_in around _ place = None
 
-abbrev pub without : List Values.Step → ℕ → List Values.Held → List Values.Held
+abbrev pub without : List Part → ℕ → List Values.Held → List Values.Held
 without steps index [] = []
 without steps index (first ∷ others) =
     if (first.leaf.index == index) && same_steps first.leaf.steps steps then others else first ∷ without steps index others

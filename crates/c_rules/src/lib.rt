@@ -1,2 +1,17 @@
-//! The types of the language, their layouts, its type rules, and what its programs mean, as definitions (C17 6.2 to 6.9).
+//! The type rules of the language and what its programs mean, as definitions (C17 6.2 to 6.9).
 #![tactic(auto)]
+
+mod checker;
+mod constness;
+mod file_name;
+mod known;
+mod locals;
+mod name_meaning;
+mod violation;
+
+pub use checker::Checker;
+pub use constness::Constness;
+pub use file_name::FileEntry;
+pub use known::{Address, Condition, Known, Static, TypedExpr};
+pub use name_meaning::{NameMeaning, library_function};
+pub use violation::{Violation, is_before};
