@@ -1,8 +1,8 @@
 use super::*;
 use c_num::IntType;
 use c_syntax::{
-    Base, BinaryOperator, Block, BlockItem, Bytes, Declaration, Declarator, Direct, Expr, ForFirst,
-    InitDeclarator, Item, Name, Parameter, Program, Simple, SimpleKind, Stmt, Suffix,
+    Base, BinaryOperator, Block, BlockItem, ByteString, Declaration, Declarator, Direct, Expr,
+    ForFirst, InitDeclarator, Item, Name, Parameter, Program, Simple, SimpleKind, Stmt, Suffix,
 };
 use run_theory::Pos;
 use std::alloc::Global;
@@ -13,7 +13,7 @@ fn at(column: u32) -> Pos {
 }
 
 fn name(alloc: Global, bytes: &[u8], column: u32) -> Result<Name, Fail> {
-    let bytes = Bytes::new(Vec::from_slice(alloc, bytes)?);
+    let bytes = ByteString::new(Vec::from_slice(alloc, bytes)?);
     Ok(Name {
         bytes,
         place: at(column),

@@ -8,7 +8,7 @@ ghost use Rattle.c_lexer.specs.Tokens.{UnlessMemory};
 use crate::characters::{escape_byte, escape_width};
 use crate::front::Front;
 use crate::lex_err::LexErr;
-use c_token::{Bytes, Lexeme};
+use c_token::{ByteString, Lexeme};
 use run_theory::Pos;
 use std::alloc::Global;
 
@@ -50,7 +50,7 @@ pub(crate) fn literal(alloc: Global, text: &[u8], place: Pos) -> Result<Front, L
         Ok(found) => found,
         Err(error) => return Err(error),
     };
-    let literal = Bytes::new(found.bytes);
+    let literal = ByteString::new(found.bytes);
     Ok(Front::Token(Lexeme::Literal(literal), 1 + found.width))
 }
 

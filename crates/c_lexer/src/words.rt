@@ -10,7 +10,7 @@ use crate::classes::is_word_byte;
 use crate::front::Front;
 use crate::lex_err::LexErr;
 use crate::tables::word_symbol;
-use c_token::{Bytes, Lexeme};
+use c_token::{ByteString, Lexeme};
 use run_theory::Pos;
 use std::alloc::{AllocError, Global};
 
@@ -53,5 +53,5 @@ fn word_lexeme(alloc: Global, word: &[u8]) -> Result<Lexeme, AllocError>
         return Ok(Lexeme::Symbol(symbol));
     }
     let bytes = Vec::from_slice(alloc, word)?;
-    Ok(Lexeme::Name(Bytes::new(bytes)))
+    Ok(Lexeme::Name(ByteString::new(bytes)))
 }

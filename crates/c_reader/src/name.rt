@@ -9,7 +9,7 @@ use crate::syntax_err::SyntaxErr;
 use crate::token::pass;
 use c_grammar::Kind;
 use c_syntax::Name;
-use c_token::{Bytes, Lexeme, Token};
+use c_token::{ByteString, Lexeme, Token};
 use std::alloc::{AllocError, Global};
 
 /// A name that was passed, and the tokens behind it.
@@ -20,15 +20,15 @@ pub(crate) struct PassedName<'a> {
 }
 
 /// The same bytes once more.
-pub(crate) fn copy(alloc: Global, bytes: &Bytes) -> Result<Bytes, AllocError>
+pub(crate) fn copy(alloc: Global, bytes: &ByteString) -> Result<ByteString, AllocError>
     ensures { IfOk result (λ copy. copy ≡ bytes.now) }
 {
     let bytes = Vec::from_slice(alloc, bytes.as_slice())?;
-    Ok(Bytes::new(bytes))
+    Ok(ByteString::new(bytes))
 }
 
 /// The bytes of the first of the tokens, where it is a name or a literal, else none.
-pub(crate) fn token_bytes(alloc: Global, tokens: &[Token]) -> Result<Bytes, AllocError>
+pub(crate) fn token_bytes(alloc: Global, tokens: &[Token]) -> Result<ByteString, AllocError>
     ensures { IfOk result (λ bytes. bytes ≡ first_bytes (leaves_of tokens.now)) }
 {
     match tokens.first() {
@@ -36,10 +36,10 @@ pub(crate) fn token_bytes(alloc: Global, tokens: &[Token]) -> Result<Bytes, Allo
             match &token.lexeme {
                 Lexeme::Name(bytes) => copy(alloc, bytes),
                 Lexeme::Literal(bytes) => copy(alloc, bytes),
-                _ => Ok(Bytes::new(Vec::new(alloc))),
+                _ => Ok(ByteString::new(Vec::new(alloc))),
             }
         }
-        None => Ok(Bytes::new(Vec::new(alloc))),
+        None => Ok(ByteString::new(Vec::new(alloc))),
     }
 }
 

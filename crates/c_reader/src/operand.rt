@@ -12,7 +12,7 @@ use crate::syntax_err::SyntaxErr;
 use crate::token::{first_kind, pass, room_below};
 use c_grammar::Kind;
 use c_syntax::{Expr, Name};
-use c_token::{Bytes, Lexeme, Symbol, Token};
+use c_token::{ByteString, Lexeme, Symbol, Token};
 use run_theory::Pos;
 use std::alloc::{AllocError, Global};
 
@@ -124,7 +124,7 @@ pub(crate) fn read_text(
     let Literals { bytes, rest } = read_literals(alloc, first.rest, bytes)?;
     Ok(Operand {
         expr: Expr::Literal {
-            bytes: Bytes::new(bytes),
+            bytes: ByteString::new(bytes),
             place: first.place,
         },
         level: 0,

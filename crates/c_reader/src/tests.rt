@@ -2,7 +2,7 @@
 
 use crate::{SyntaxErr, read};
 use c_num::IntType;
-use c_token::{Bytes, Lexeme, Symbol, Token};
+use c_token::{ByteString, Lexeme, Symbol, Token};
 use run_theory::Pos;
 use std::alloc::{AllocError, Global};
 use std::test::Fail;
@@ -39,7 +39,7 @@ fn word(c: u8) -> Symbol {
 
 fn lexeme(alloc: Global, c: u8) -> Result<Lexeme, AllocError> {
     if c == b'x' {
-        return Ok(Lexeme::Name(Bytes::new(Vec::from_slice(alloc, b"x")?)));
+        return Ok(Lexeme::Name(ByteString::new(Vec::from_slice(alloc, b"x")?)));
     }
     if c == b'1' {
         return Ok(Lexeme::Integer {

@@ -2,8 +2,8 @@
 
 use crate::name::Name;
 use crate::operator::{AssignOperator, BinaryOperator, PrefixOperator};
+use byte_string::ByteString;
 use c_num::IntType;
-use c_token::Bytes;
 use run_theory::Pos;
 
 /// An expression (C17 6.5). Where its first token is one of its own, it holds the place of that token.
@@ -25,7 +25,7 @@ pub enum Expr {
     },
     /// Adjacent literals joined, without the zero at their end (C17 6.4.5).
     Literal {
-        bytes: Bytes,
+        bytes: ByteString,
         place: Pos,
     },
     /// `NULL` (C17 7.19)

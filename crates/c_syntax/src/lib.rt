@@ -12,7 +12,7 @@ mod name;
 mod operator;
 mod statement;
 
-pub use c_token::Bytes;
+pub use byte_string::ByteString;
 pub use declaration::{Base, Declaration, Init, InitDeclarator, Item, Member, Program};
 pub use expr::{Declarator, Direct, Expr, Parameter, Simple, SimpleKind, Suffix, TypeName};
 pub use name::Name;

@@ -1,11 +1,11 @@
 // Names.
 
-use c_token::Bytes;
+use byte_string::ByteString;
 use run_theory::Pos;
 
 /// A name (C17 6.4.2.1) and its place.
 #[derive(Debug, Drop)]
 pub struct Name {
-    pub bytes: Bytes,
+    pub bytes: ByteString,
     pub place: Pos,
 }

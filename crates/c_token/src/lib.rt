@@ -1,8 +1,7 @@
 //! The tokens of a text, and the kinds of them that the grammar tells apart.
 #![tactic(auto)]
 
-mod bytes;
 mod token;
 
-pub use bytes::Bytes;
+pub use byte_string::ByteString;
 pub use token::{Lexeme, Symbol, Token};

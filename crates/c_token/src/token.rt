@@ -3,7 +3,7 @@
 ghost use Rattle.std.specs.Prelude.{◌≡◌};
 ghost use Rattle.c_token.specs.Leaves.{kind_of_symbol, kind_of_lexeme};
 
-use crate::bytes::Bytes;
+use byte_string::ByteString;
 use c_grammar::Kind;
 use c_num::IntType;
 use run_theory::Pos;
@@ -301,14 +301,14 @@ impl Symbol {
 pub enum Lexeme {
     Symbol(Symbol),
     /// A name (C17 6.4.2.1).
-    Name(Bytes),
+    Name(ByteString),
     /// An integer constant (C17 6.4.4.1).
     Integer { value: u64, int_type: IntType },
     /// A character constant: the byte between its quotes, or the one that its escape stands for (C17 6.4.4.4).
     Character(u8),
     /// A literal (C17 6.4.5): the bytes between its quotes, escapes resolved, without the zero at its end. Adjacent
     /// literals are tokens of their own.
-    Literal(Bytes),
+    Literal(ByteString),
     /// The end of the text.
     EndOfText,
 }
