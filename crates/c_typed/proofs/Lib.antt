@@ -15,3 +15,4 @@ mod Steps
 mod Structures
 mod Tags
 pub mod TypedStays
+pub mod StatementsStay

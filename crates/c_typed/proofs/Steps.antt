@@ -13,7 +13,7 @@ use Rattle.c_typed.specs.declared.structure.Step.{Step}
 use Rattle.c_typed.specs.declared.structure.Step.TheVariants as Steps
 use Rattle.c_typed.specs.Types.{CType, Void, Integer, Pointer, Array, Struct}
 use Rattle.c_typed.specs.Layouts.{StructDef, greatest, saturated, layouts, members_by_tag, known_members, member_type, member_slots, slot_at}
-use Rattle.c_typed.specs.Table.{Interned, structs_in, known_in, KnownStands, member_def, member_defs, tag_in, type_in, Stands, shape_type, members_of, names_of, member_number, IsMember}
+use Rattle.c_typed.specs.Table.{Interned, structs_in, known_in, KnownStands, member_def, member_defs, tag_in, type_in, Stands, shape_type, members_of, names_of, member_number, IsMember, IsMemberType}
 use Rattle.c_typed.specs.Inside.{IsStep, IsStructure, MemberStands, MembersStand, member_entry, struct_entry, before, placed_names, IsFirst}
 use Rattle.c_typed.proofs.Sizes.{saturated-le, small_slots_before}
 
@@ -94,6 +94,21 @@ module _ (table : Interned) where
         small = let e = is.slots n member at in let le = small_slots_before (structs_in table) n (member_defs table.tags table.entries (struct_entry s).members) in omega arith;
         stands = stands_there s.members.items is.stand n member at;
       }
+
+  -- a member by its number
+  pub member_there : (id : tag.StructId) (s : Structure) → IsStructure table id s → (n : ℕ) (found : Option (Option number.CType)) → found ≡ option_map (λ (m : PlacedMember). m.c_type) (slice_get s.members.items n)
+      → IsMemberType table (slice_get (members_of (structs_in table) (Struct (tag_in table id))) n) found
+  member_there id s is n found e =
+      subst (IsMemberType table (slice_get (members_of (structs_in table) (Struct (tag_in table id))) n)) (sym e)
+      (subst (λ o. IsMemberType table o (option_map (λ (m : PlacedMember). m.c_type) (slice_get s.members.items n))) (sym (ap (λ o. slice_get (known_members o) n) is.members ∙ def_there s.members.items n)) (by (slice_get s.members.items n) refl))
+    where
+      by : (o : Option PlacedMember) → slice_get s.members.items n ≡ o → IsMemberType table (option_map (λ (m : PlacedMember). member_def table.tags table.entries (member_entry m)) o) (option_map (λ (m : PlacedMember). m.c_type) o)
+      by None at = tt
+      by (Some member) at = (refl, stands_there s.members.items is.stand n member at)
+
+  -- there is none before the structure is completed
+  pub no_member_there : (id : tag.StructId) → members_by_tag (structs_in table) (tag_in table id) ≡ None → (n : ℕ) → IsMemberType table (slice_get (members_of (structs_in table) (Struct (tag_in table id))) n) None
+  no_member_there id is n = subst (λ o. IsMemberType table (slice_get (known_members o) n) None) (sym is) tt
 
   -- a step from a part with a type
   pub step_from : (whole : Option number.CType) (t : number.CType) (c_type : CType) (step step' : Step) (found : ℕ × Option number.CType) → whole ≡ Some t → type_in table t ≡ c_type → step ≡ step'

@@ -7,3 +7,5 @@ pub mod Values
 pub mod Typed
 pub mod Views
 pub mod Kept
+pub mod StatementViews
+pub mod DefinitionViews

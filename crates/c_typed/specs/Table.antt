@@ -194,6 +194,12 @@ IsMember table members name (Some found) =
     × KnownStands table found.c_type
 IsMember table members name None = member_number (names_of members) name ≡ None
 
+-- the type of a member, where there is such a member and where it has a type
+abbrev pub IsMemberType : Interned → Option MemberDef → Option (Option number.CType) → Type 0
+IsMemberType table (Some member) (Some t) = (known_in table.tags table.entries t ≡ member.c_type) × KnownStands table t
+IsMemberType table None None = Unit {0}
+IsMemberType table _ _ = ⊥
+
 -- the members that complete a structure
 abbrev pub member_entries : List Member → List MemberEntry
 member_entries members = map (λ member. record { name = member.name.items; c_type = member.c_type }) members

@@ -5,10 +5,11 @@
 //! stands for. `specs/Typed.antt` has typed trees as plain data, and `specs/Views.antt` leads from those in memory to these.
 #![tactic(auto)]
 
-mod byte_string;
 mod c_type;
+mod definition;
 mod extent;
 mod part;
+mod statement;
 mod structure;
 #[cfg(test)]
 mod tests;
@@ -17,7 +18,9 @@ mod typed;
 
 pub use byte_string::ByteString;
 pub use c_type::{CType, Derived, Parameters, Shape, StructId};
+pub use definition::{First, FunctionDef, GlobalDef, Held, LiteralDef, Program, Scalar, Static};
 pub use part::Part;
+pub use statement::{BlockItem, ForStart, LocalDef, Stmt, SwitchItem};
 pub use structure::{Member, MemberAt, Step};
 pub use type_table::TypeTable;
 pub use typed::{Designator, LibraryFunction, Object, Stepping, Value};

@@ -1,6 +1,6 @@
 // Structures with their members.
 
-ghost use Rattle.std.specs.Prelude.{◌≡◌, slice_get, OnOk};
+ghost use Rattle.std.specs.Prelude.{◌≡◌, slice_get, option_map, OnOk};
 ghost use Rattle.c_typed.specs.Extents.{extent_layout, IsSmall};
 
 use crate::c_type::{CType, StructId};
@@ -110,6 +110,16 @@ impl Structure {
         match self.members.get(number as usize) {
             Some(member) => (member.slots_before, member.c_type),
             None => (0, None),
+        }
+    }
+
+    /// The type of the member of this number, where there is one and it has a type.
+    pub(crate) fn member_type(&self, number: usize) -> Option<Option<CType>>
+        ensures { result ≡ option_map (λ member. member.c_type) (slice_get self.now.members.items number) }
+    {
+        match self.members.get(number) {
+            Some(member) => Some(member.c_type),
+            None => None,
         }
     }
 }

@@ -5,7 +5,7 @@ ghost use Rattle.c_typed.specs.Types as T;
 ghost use Rattle.c_typed.specs.Table.{Interned, Stands, type_in, TagStands, tag_in, AreComplete, member_entries};
 ghost use Rattle.c_typed.specs.Kept.{IsObject, MakesObject};
 
-use crate::{ByteString, CType, Member, Shape, Step, StructId, TypeTable};
+use crate::{CType, Member, Shape, Step, StructId, TypeTable};
 use c_num::IntType;
 use std::alloc::{AllocError, Global};
 use std::test::Fail;
@@ -274,12 +274,5 @@ fn a_tag_is_read_back(rt: HostRuntime) -> Result<(), Fail> {
     let list = table.struct_type(b"list")?;
     let id = id_of(&table, list)?;
     assert_eq!(rt; table.tag(id), b"list".as_slice());
-    Ok(())
-}
-
-#[test]
-fn a_byte_string_is_a_copy(rt: HostRuntime) -> Result<(), Fail> {
-    let bytes = ByteString::from_slice(rt.alloc(), b"a\0b")?;
-    assert_eq!(rt; bytes.as_slice(), b"a\0b".as_slice());
     Ok(())
 }

@@ -1,11 +1,11 @@
 // The table of types.
 
-ghost use Rattle.std.specs.Prelude.{◌≡◌, ℕ, ◌<◌, ◌≤◌, true, false, Some, IfOk, OnOk, OnErr};
+ghost use Rattle.std.specs.Prelude.{◌≡◌, ℕ, ◌<◌, ◌≤◌, true, false, Some, IfOk, OnOk, OnErr, slice_get};
 ghost use Rattle.c_typed.specs.Types as T;
 ghost use Rattle.c_typed.specs.Types.{same_type, is_array};
 ghost use Rattle.c_typed.specs.Layouts.{is_complete, layouts, layout_of, known_layout, slot_at};
 ghost use Rattle.c_typed.specs.Extents.{extent_layout, IsSmall};
-ghost use Rattle.c_typed.specs.Table.{empty, numbered, derived_meaning, meaning_of, Stands, type_in, ListStands, types_in, TagStands, tag_in, structs_in, members_of, IsMember, base_meaning, the_type, Interned, KnownStands, known_in, member_entries, IsCompleteMember, AreComplete, MakesType, MakesList, completed, HasShape, IsSplit};
+ghost use Rattle.c_typed.specs.Table.{empty, numbered, derived_meaning, meaning_of, Stands, type_in, ListStands, types_in, TagStands, tag_in, structs_in, members_of, IsMember, IsMemberType, base_meaning, the_type, Interned, KnownStands, known_in, member_entries, IsCompleteMember, AreComplete, MakesType, MakesList, completed, HasShape, IsSplit};
 ghost use Rattle.c_typed.specs.Inside.{IsSomething, is_sized, is_known_sized, IsBuilt, HasExtent, MakesEntry, EntryIs, StructureIs, IsStep};
 ghost use Rattle.c_typed.specs.declared.structure.Step.TheVariants as Steps;
 
@@ -236,6 +236,14 @@ impl TypeTable {
             Shape::Struct(id) => self.structure(id)?.member(name),
             _ => None,
         }
+    }
+
+    /// The type of a structure's member, by how many stand before it, where that has one.
+    pub fn member_at(&self, id: StructId, number: usize) -> Option<Option<CType>>
+        requires { TagStands self.now id }
+        ensures { IsMemberType self.now (slice_get (members_of (structs_in self.now) (T.Struct (tag_in self.now id))) number) result }
+    {
+        self.structure(id)?.member_type(number)
     }
 
     /// The number of the slot at which the part of an object begins to which a path leads.

@@ -1,7 +1,7 @@
 // Typed trees of expressions.
 
-use crate::byte_string::ByteString;
 use crate::c_type::CType;
+use byte_string::ByteString;
 use c_num::{BinOp, IntType, Relation};
 use run_theory::Pos;
 
