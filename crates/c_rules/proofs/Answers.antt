@@ -9,7 +9,7 @@ use Rattle.c_syntax.specs.declared.operator.BinaryOperator.TheVariants as B
 use Rattle.c_syntax.specs.declared.operator.AssignOperator.TheVariants as A
 use Rattle.c_syntax.specs.Trees
 use Rattle.run_theory.specs.declared.ends.UbKind.TheVariants as Ub
-use Rattle.run_theory.specs.Runs.{Over, Ended, DepthReached, Undefined, Output}
+use Rattle.run_theory.specs.Runs.{Over, Ended, Undefined}
 use Rattle.c_rules.specs.Programs.{refusal}
 use Rattle.c_rules.specs.Elaborated.{typed_of}
 use Rattle.c_rules.specs.Meaning.{reference, spent, calls_within, greatest_depth}

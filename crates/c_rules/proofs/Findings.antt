@@ -1,7 +1,7 @@
 -- What is found of a part of the text from what is found of its parts.
 use Rattle.std.proofs.Common.{◌≡◌, Bool, true, false, List, ◌++◌, Option, Some, None, refl, sym, ap, subst, ◌∙◌}
 use Rattle.run_theory.specs.declared.ends.Pos.{Pos}
-use Rattle.c_types.specs.declared.rule.TypeRule.{TypeRule}
+use Rattle.c_rules.specs.declared.rule.TypeRule.{TypeRule}
 use Rattle.c_typed.specs.Table.{Interned, Grows}
 use Rattle.c_typed.proofs.Grown.{grows_refl, grows_trans, stays, list_stays}
 use Rattle.c_typed.proofs.TypedStays.{value_stays, object_stays, designator_stays, values_stay}
@@ -14,7 +14,8 @@ use Rattle.c_rules.specs.declared.known.Known as memory_known
 use Rattle.c_rules.specs.Known.{OfValue, OfObject, OfFunction, Element, Checked, give, unknown, refuse, also, unless, require, with_known, given, given_two, given_three}
 use Rattle.c_rules.specs.Names.{Scope}
 use Rattle.c_rules.specs.NameTables.{State, scope_of}
-use Rattle.c_rules.specs.Finding.{typed_in, name_of, address_in, expr_in, condition_in, TypedStands, AddressStands, ExprStands, IsExpr, IsType, IsTypes, IsCondition, each_in, lesser, noted, IsOption, Finds}
+use Rattle.c_typed.specs.DefinitionViews.{name_of}
+use Rattle.c_rules.specs.Finding.{typed_in, address_in, expr_in, condition_in, TypedStands, AddressStands, ExprStands, IsExpr, IsType, IsTypes, IsCondition, each_in, lesser, noted, IsOption, Finds}
 use Rattle.c_rules.specs.Staying.{Stays, IsValue, IsObject, IsValues, IsSame, IsSeen}
 use Rattle.c_rules.proofs.Noted.{noted_append}
 

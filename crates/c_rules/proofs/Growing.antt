@@ -1,9 +1,9 @@
 -- What names stand for stays while the table of types grows.
-use Rattle.std.proofs.Common.{◌≡◌, ℕ, List, [], ◌∷◌, map, Option, Some, None, refl, ap, subst, Vec}
+use Rattle.std.proofs.Common.{◌≡◌, ℕ, List, [], ◌∷◌, map, Option, Some, None, refl, ap, subst, sym, Vec}
 use Rattle.c_typed.specs.declared.c_type.CType as number
 use Rattle.c_typed.specs.declared.c_type.Parameters as numbers
 use Rattle.c_typed.specs.Types.{CType, CTypes}
-use Rattle.c_typed.specs.Table.{Interned, KnownStands, known_in, Grows, MakesType, MakesList}
+use Rattle.c_typed.specs.Table.{Interned, MemberEntry, KnownStands, known_in, Grows, MakesType, MakesList, completed}
 use Rattle.c_typed.proofs.Grown.{stays}
 use Rattle.c_rules.specs.declared.file_name.FileEntry.{FileEntry}
 use Rattle.c_rules.specs.Known.{give}
@@ -88,4 +88,27 @@ module _ (state now : State) (view : state ≡ now) (stand : StateStands state) 
         scope = scope_stays state stand new makes.grows;
         least = refl;
         known = (makes.stands, makes.means);
+      })
+
+-- what names stand for stays where a structure is completed
+module _ (table : Interned) (tag : ℕ) (members : List MemberEntry) where
+  known_with : (t : Option number.CType) → KnownStands table t → KnownStands (completed table tag members) t
+  known_with None h = tt
+  known_with (Some t) h = h
+
+  rows_with : (rows : List FileRow) → FileStands table rows → FileStands (completed table tag members) rows
+  rows_with [] h = tt
+  rows_with (row ∷ rows) h = (known_with row.entry.c_type h.0, rows_with rows h.1)
+
+  locals_with : (locals : List LocalEntry) → LocalsStand table locals → LocalsStand (completed table tag members) locals
+  locals_with [] h = tt
+  locals_with (local ∷ locals) h = (known_with local.c_type h.0, locals_with locals h.1)
+
+  pub names_with : {Z : Type 0} (new : Interned) → new ≡ completed table tag members → (entries : List (Vec ℕ Z × FileEntry)) (locals : LocalTable) → AreNames table entries locals → AreNames new entries locals
+  names_with new is entries locals names =
+      subst (λ (t : Interned). AreNames t entries locals) (sym is)
+      (record {
+        file = rows_with (rows_of entries) names.file;
+        inner = locals_with locals.inner names.inner;
+        outer = locals_with locals.outer names.outer;
       })

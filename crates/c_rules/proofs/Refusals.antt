@@ -8,8 +8,7 @@ use Rattle.c_syntax.specs.declared.operator.PrefixOperator.TheVariants as P
 use Rattle.c_syntax.specs.declared.operator.BinaryOperator.TheVariants as B
 use Rattle.c_syntax.specs.declared.operator.AssignOperator.TheVariants as A
 use Rattle.c_syntax.specs.Trees
-use Rattle.c_types.specs.declared.rule.TypeRule.TheVariants as T
-use Rattle.c_rules.specs.declared.violation.Violation.{Violation}
+use Rattle.c_rules.specs.declared.rule.TypeRule.TheVariants as T
 use Rattle.c_rules.specs.Programs.{refusal}
 
 abbrev at_place : ℕ → ℕ → Pos

@@ -1,5 +1,5 @@
 -- What the fields of a checker stand for.
-use Rattle.std.specs.Prelude.{◌≡◌, ℕ, List, map, Option, Vec}
+use Rattle.std.specs.Prelude.{ℕ, List, map, Option, Vec}
 use Rattle.run_theory.specs.declared.ends.Pos.{Pos}
 use Rattle.c_syntax.specs.Trees.{NameTree}
 use Rattle.c_typed.specs.Table.{Interned}

@@ -1,17 +1,15 @@
 -- Integer constant expressions and address constants (C17 6.6).
-use Rattle.std.specs.Prelude.{ℕ, Bool, true, false, not, ◌&&◌, ◌||◌, nat_lt, if◌then◌else◌, List, [], ◌∷◌, ◌++◌, Option, Some, None, Result, Ok, Err, ℤ, pos, negsuc, neg_ℤ, ◌+ℤ◌, ◌-ℤ◌, int_le, int_lt}
+use Rattle.std.specs.Prelude.{ℕ, Bool, true, false, not, ◌&&◌, ◌||◌, nat_lt, if◌then◌else◌, List, [], ◌∷◌, ◌++◌, Option, Some, None, Result, Ok, Err, ℤ, pos, negsuc, ◌+ℤ◌}
 use Rattle.std.specs.Ordering.{int_eq}
 use Rattle.c_num.specs.declared.IntType.{IntType}
 use Rattle.c_num.specs.declared.BinOp.{BinOp}
-use Rattle.c_num.specs.declared.BinOp.TheVariants as B
 use Rattle.c_num.specs.declared.ArithUb.{ArithUb}
 use Rattle.c_num.specs.declared.Relation.{Relation}
-use Rattle.c_num.specs.declared.Relation.TheVariants as R
 use Rattle.c_num.specs.Conversion.{convert_to}
 use Rattle.c_num.specs.Arith.{outcome_of, compare_of}
 use Rattle.c_typed.specs.Types.{CType, Void, Struct, Pointer, same_type}
 use Rattle.c_rules.specs.Names.{contains}
-use Rattle.c_rules.specs.Known.{Address, NoAddress, Outside, NullAddress, FunctionAddress, Element}
+use Rattle.c_rules.specs.Known.{Address, NoAddress, Outside, Element}
 use Rattle.c_rules.specs.declared.constness.Constness.{Constness}
 use Rattle.c_rules.specs.declared.constness.Constness.TheVariants.{NotConstant, Undefined, Constant}
 use Rattle.c_typed.specs.declared.part.Part.{Part}

@@ -1,29 +1,29 @@
 -- The typed tree of a program that violates no rule.
-use Rattle.std.specs.Prelude.{ℕ, zero, suc, Bool, true, false, if◌then◌else◌, List, [], ◌∷◌, ◌++◌, Option, Some, None, ℤ, pos, bytes_eq}
+use Rattle.std.specs.Prelude.{ℕ, suc, Bool, true, false, nat_le, bytes_eq, if◌then◌else◌, List, [], ◌∷◌, ◌++◌, length, Option, Some, None, ℤ, pos}
 use Rattle.run_theory.specs.declared.ends.Pos.{Pos}
 use Rattle.c_num.specs.declared.IntType.{IntType}
 use Rattle.c_num.specs.declared.IntType.TheVariants as I
-use Rattle.c_num.specs.Types.{promoted}
 use Rattle.c_num.specs.Conversion.{convert_to}
 use Rattle.c_syntax.specs.Trees
 use Rattle.c_syntax.specs.Trees.{NameTree, ExprTree, ArgumentsTree, TypeTree, OptionalTree, DeclaratorTree, DirectTree, SuffixesTree, LengthTree, ParametersTree, InitTree, InitsTree, InitDeclaratorTree, DeclarationTree, ForTree, StmtTree, BlockTree, SwitchTree, MemberTree, BaseTree, ItemTree, ProgramTree}
-use Rattle.c_typed.specs.Types
-use Rattle.c_typed.specs.Types.{CType, CTypes, Void, Integer, Pointer, Array, Struct, Function, NoTypes, MoreTypes}
+use Rattle.c_typed.specs.Types.{CType, CTypes, Void, Integer, Array, Struct, Function, NoTypes, MoreTypes, is_character}
 use Rattle.c_typed.specs.Layouts.{StructDef, MemberDef, members_by_tag}
 use Rattle.c_typed.specs.declared.part.Part.{Part}
 use Rattle.c_typed.specs.declared.part.Part.TheVariants as Parts
-use Rattle.c_typed.specs.Values.{Scalar, IntegerValue, NullValue, FunctionValue, PointerValue, Leaf, Held}
+use Rattle.c_typed.specs.Values.{Scalar, IntegerValue, NullValue, FunctionValue, PointerValue, Held}
+use Rattle.c_typed.specs.DefinitionViews.{characters_held}
 use Rattle.c_typed.specs.Typed as typed
 use Rattle.c_typed.specs.Typed.{Value, Stmt, Block, SwitchItems, LocalDef, ForStart, GlobalDef, LiteralDef, FunctionDef, Program, NullPointer}
-use Rattle.c_rules.specs.Names.{Scope, FileName, entered}
-use Rattle.c_rules.specs.Known.{Checked, Known, value_in, as_value, Address, NoAddress, Outside, NullAddress, FunctionAddress, Element}
+use Rattle.c_rules.specs.Names.{Scope, entered}
+use Rattle.c_rules.specs.Known.{Known, value_in, as_value, Address, FunctionAddress, Element}
 use Rattle.c_rules.specs.declared.constness.Constness.{Constness}
 use Rattle.c_rules.specs.declared.constness.Constness.TheVariants.{Constant}
-use Rattle.c_rules.specs.Operators.{Condition, as_condition, as_integer, converted, dropped}
+use Rattle.c_rules.specs.Constants.{address_as}
+use Rattle.c_rules.specs.Operators.{Condition, as_condition, as_integer, converted, dropped, fits}
 use Rattle.c_rules.specs.Expressions.{expr, place_of, words_type, declared_type, declared_name, name_place, as_constant, Required}
 use Rattle.c_rules.specs.Initializers.{is_text, members_of}
-use Rattle.c_rules.specs.Statements.{silent, object_type, declare_local, with_declared, label_type, converted_label, for_start, declaration}
-use Rattle.c_rules.specs.Programs.{Based, Filed, base_type, base_place, file_declarator, function_item, entered_function, own_parameters, outside_type, role_of, outermost, declare_outside, has_first, item}
+use Rattle.c_rules.specs.Statements.{object_type, declare_local, with_declared, label_type, converted_label, for_start, declaration}
+use Rattle.c_rules.specs.Programs.{base_type, base_place, file_declarator, entered_function, own_parameters, outside_type, body_type, role_of, result_of, outermost, declare_outside, has_first, item}
 
 -- ---- values
 
@@ -68,19 +68,19 @@ abbrev pub type_or_void : Option CType → CType
 type_or_void None = Void
 type_or_void (Some c_type) = c_type
 
-abbrev pub local_of : Pos → Checked CType → InitDeclaratorTree → Scope → LocalDef
+abbrev pub local_of : Pos → Option CType → InitDeclaratorTree → Scope → LocalDef
 local_of place base tree scope =
     let name = declared_name tree.declarator in
     let here = name_place name place in
     let own = object_type scope here (declared_type scope here Required base tree.declarator) in
     record { c_type = type_or_void own.known; first = first_local (with_declared name own.known scope) own.known tree.init }
 
-abbrev pub locals_of : Pos → Checked CType → List InitDeclaratorTree → Scope → List LocalDef
+abbrev pub locals_of : Pos → Option CType → List InitDeclaratorTree → Scope → List LocalDef
 locals_of place base [] scope = []
 locals_of place base (first ∷ others) scope = local_of place base first scope ∷ locals_of place base others (declare_local place base first scope).scope
 
 abbrev pub declared_locals : Scope → DeclarationTree → List LocalDef
-declared_locals scope tree = locals_of tree.words.place (silent (words_type scope tree.words)) tree.declarators scope
+declared_locals scope tree = locals_of tree.words.place (words_type scope tree.words).known tree.declarators scope
 
 abbrev pub declare_each : List LocalDef → Block → Block
 declare_each [] block = block
@@ -135,6 +135,7 @@ abbrev mutual
 
 -- ---- first values of variables outside functions
 
+-- the element of the row to which steps lead
 abbrev pub held_at : List Part → ℕ → Scalar → List Held
 held_at steps index value = record { leaf = record { steps = steps; index = index }; value = value } ∷ []
 
@@ -147,19 +148,14 @@ abbrev pub integer_first : IntType → Constness → Scalar
 integer_first int_type (Constant value) = IntegerValue (convert_to int_type value)
 integer_first int_type _ = IntegerValue (pos 0)
 
-abbrev pub scalar_of : CType → Known → Scalar
-scalar_of (Integer int_type) known = integer_first int_type known.constness
-scalar_of c_type known = if known.is_null then NullValue else address_value known.address
+abbrev pub scalar_of : Scope → CType → Known → Scalar
+scalar_of scope (Integer int_type) known = integer_first int_type known.constness
+scalar_of scope c_type known = if known.is_null then NullValue else address_value (address_as scope.completed c_type known.address)
 
+-- a value that fits
 abbrev pub scalar_held : Scope → List Part → ℕ → CType → Option Known → List Held
 scalar_held scope steps index c_type None = []
-scalar_held scope steps index c_type (Some known) = held_at steps index (scalar_of c_type known)
-
--- the bytes of a literal, as far as they have room; what follows is zero
-abbrev pub text_held : List Part → IntType → ℕ → ℕ → List ℕ → List Held
-text_held steps int_type index room [] = []
-text_held steps int_type index zero (byte ∷ bytes) = []
-text_held steps int_type index (suc room) (byte ∷ bytes) = held_at steps index (IntegerValue (convert_to int_type (pos byte))) ++ text_held steps int_type (suc index) room bytes
+scalar_held scope steps index c_type (Some known) = if fits c_type known then held_at steps index (scalar_of scope c_type known) else []
 
 abbrev pub character_type : CType → IntType
 character_type (Integer int_type) = int_type
@@ -168,8 +164,12 @@ character_type _ = I.Char
 abbrev pub within : List Part → Part → List Part
 within steps step = steps ++ step ∷ []
 
+-- The bytes of a literal, where they have room in the array; what follows is zero.
+abbrev pub text_held : List Part → ℕ → CType → ℕ → List ℕ → List Held
+text_held steps index element n bytes = if nat_le (length bytes) n then characters_held (within steps (Parts.Elements index)) (character_type element) 0 bytes else []
+
 abbrev pub value_held : Scope → List Part → ℕ → CType → ExprTree → List Held
-value_held scope steps index (Array element n) (Trees.Literal bytes place) = text_held (within steps (Parts.Elements index)) (character_type element) 0 n bytes
+value_held scope steps index (Array element n) (Trees.Literal bytes place) = if is_character element then text_held steps index element n bytes else []
 value_held scope steps index c_type value = scalar_held scope steps index c_type (as_value (place_of value) (expr scope value)).known
 
 abbrev mutual
@@ -178,7 +178,7 @@ abbrev mutual
   held_of scope steps index None init = []
   held_of scope steps index (Some c_type) (Trees.InitValue value) = value_held scope steps index c_type value
   held_of scope steps index (Some (Array element n)) (Trees.InitList place inits) =
-      if is_text element inits then text_list scope steps index element n inits else elements_held scope (within steps (Parts.Elements index)) 0 element inits
+      if is_text element inits then text_list scope steps index element n inits else elements_held scope (within steps (Parts.Elements index)) 0 element n inits
   held_of scope steps index (Some (Struct tag)) (Trees.InitList place inits) = members_held scope steps index 0 (members_of (members_by_tag scope.structs tag)) inits
   held_of scope steps index (Some c_type) (Trees.InitList place inits) = []
 
@@ -186,9 +186,9 @@ abbrev mutual
   text_list scope steps index element n (Trees.Inits (Trees.InitValue value) Trees.NoInits) = value_held scope steps index (Array element n) value
   text_list scope steps index element n _ = []
 
-  pub elements_held : Scope → List Part → ℕ → CType → InitsTree → List Held
-  elements_held scope steps index element Trees.NoInits = []
-  elements_held scope steps index element (Trees.Inits init others) = held_of scope steps index (Some element) init ++ elements_held scope steps (suc index) element others
+  pub elements_held : Scope → List Part → ℕ → CType → ℕ → InitsTree → List Held
+  elements_held scope steps index element (suc n) (Trees.Inits init others) = held_of scope steps index (Some element) init ++ elements_held scope steps (suc index) element n others
+  elements_held scope steps index element _ _ = []
 
   pub members_held : Scope → List Part → ℕ → ℕ → List MemberDef → InitsTree → List Held
   members_held scope steps index number (member ∷ members) (Trees.Inits init others) =
@@ -285,10 +285,6 @@ abbrev pub parameters_of : Option CType → List CType
 parameters_of (Some (Function result parameters)) = types_in parameters
 parameters_of _ = []
 
-abbrev pub result_of : Option CType → CType
-result_of (Some (Function result parameters)) = result
-result_of _ = Void
-
 -- the variables and functions of a program
 pub record Defined : Type 0 where
   pub globals : List GlobalDef
@@ -298,7 +294,7 @@ abbrev pub is_object_type : CType → Bool
 is_object_type (Function result parameters) = false
 is_object_type _ = true
 
--- A variable is declared once or more, and has first values at most once: those with them come first.
+-- a declaration of a variable
 abbrev pub global_of : NameTree → Option CType → List Held → List GlobalDef
 global_of name None first = []
 global_of name (Some c_type) first = if is_object_type c_type then record { name = name.bytes; c_type = c_type; first = first } ∷ [] else []
@@ -307,41 +303,56 @@ abbrev pub first_held : Scope → Option CType → Option InitTree → List Held
 first_held scope c_type None = []
 first_held scope c_type (Some init) = held_of scope [] 0 c_type init
 
-abbrev pub declared_global : Scope → Checked CType → InitDeclaratorTree → Option NameTree → List GlobalDef
+abbrev pub declared_global : Scope → Option CType → InitDeclaratorTree → Option NameTree → List GlobalDef
 declared_global scope base tree None = []
 declared_global scope base tree (Some name) =
     let own = outside_type scope name.place (declared_type scope name.place (role_of tree.init) base tree.declarator) in
     global_of name own.known (first_held (declare_outside name own.known (has_first tree.init) false scope).scope own.known tree.init)
 
-abbrev pub declared_globals : Scope → Pos → Checked CType → List InitDeclaratorTree → List GlobalDef
+abbrev pub declared_globals : Scope → Pos → Option CType → List InitDeclaratorTree → List GlobalDef
 declared_globals scope place base [] = []
 declared_globals scope place base (first ∷ others) =
     declared_global scope base first (declared_name first.declarator) ++ declared_globals (file_declarator scope place base first (declared_name first.declarator)).scope place base others
 
-abbrev pub defined_function : Scope → Checked CType → DeclaratorTree → BlockTree → Option NameTree → List FunctionDef
+abbrev pub defined_function : Scope → Option CType → DeclaratorTree → BlockTree → Option NameTree → List FunctionDef
 defined_function scope base declarator body None = []
 defined_function scope base declarator body (Some name) =
-    let own = declared_type scope name.place Required base declarator in
+    let own = body_type name.place (declared_type scope name.place Required base declarator) in
     let inside = (entered_function (declare_outside name own.known false true scope).scope (own_parameters declarator)).scope in
     record {
       name = name.bytes;
       c_type = type_or_void own.known;
       parameters = parameters_of own.known;
-      result = result_of own.known;
-      body = block_of inside (Some (result_of own.known)) body;
+      result = type_or_void (result_of own.known);
+      body = block_of inside (result_of own.known) body;
     } ∷ []
 
 abbrev pub in_item : Scope → ItemTree → Defined → Defined
 in_item scope (Trees.Declaration base declarators) rest =
     let based = base_type scope base in
-    record rest { globals = declared_globals based.scope (base_place base) (silent based.type_of) declarators ++ rest.globals }
+    record rest { globals = declared_globals based.scope (base_place base) based.type_of.known declarators ++ rest.globals }
 in_item scope (Trees.Function base declarator place body) rest =
     let based = base_type scope base in
-    record rest { functions = defined_function based.scope (silent based.type_of) declarator body (declared_name declarator) ++ rest.functions }
+    record rest { functions = defined_function based.scope based.type_of.known declarator body (declared_name declarator) ++ rest.functions }
 
 abbrev pub in_items : Scope → List ItemTree → Defined
 in_items scope [] = record { globals = []; functions = [] }
 in_items scope (first ∷ others) = in_item scope first (in_items (item scope first).scope others)
+
+-- A variable may be declared more than once, and stands once: its first values are those of the declaration that has them.
+abbrev pub latest_first : List Held → List Held → List Held
+latest_first old [] = old
+latest_first old first = first
+
+abbrev pub with_global : GlobalDef → List GlobalDef → List GlobalDef
+with_global global [] = global ∷ []
+with_global global (first ∷ others) =
+    if bytes_eq first.name global.name then record first { first = latest_first first.first global.first } ∷ others
+    else first ∷ with_global global others
+
+abbrev pub each_global : List GlobalDef → List GlobalDef → List GlobalDef
+each_global globals [] = globals
+each_global globals (first ∷ others) = each_global (with_global first globals) others
 
 abbrev pub all_structs : Scope → List ItemTree → List StructDef
 all_structs scope [] = scope.structs
@@ -353,7 +364,7 @@ typed_of program =
     record {
       structs = all_structs (outermost program) program.items;
       completed = (outermost program).completed;
-      globals = all.globals;
+      globals = each_global [] all.globals;
       literals = literals_in_items program.items;
       functions = all.functions;
     }

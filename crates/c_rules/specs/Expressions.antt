@@ -1,23 +1,21 @@
 -- The rules of expressions, of the names of types and of declarators (C17 6.5, 6.7.6, 6.7.7).
-use Rattle.std.specs.Prelude.{ℕ, zero, suc, Bool, true, false, not, ◌&&◌, ◌||◌, nat_lt, if◌then◌else◌, List, [], ◌∷◌, ◌++◌, length, Option, Some, None, ℤ, pos, negsuc, neg_ℤ, is_some, ◌+◌, ◌==◌}
+use Rattle.std.specs.Prelude.{ℕ, zero, suc, min, Bool, true, false, not, ◌||◌, if◌then◌else◌, List, [], ◌∷◌, length, Option, Some, None, ℤ, pos, neg_ℤ}
 use Rattle.run_theory.specs.declared.ends.Pos.{Pos}
 use Rattle.c_num.specs.declared.IntType.TheVariants as I
 use Rattle.c_num.specs.Conversion.{convert_to}
 use Rattle.c_syntax.specs.Trees
 use Rattle.c_syntax.specs.Trees.{NameTree, ExprTree, ArgumentsTree, TypeTree, OptionalTree, DeclaratorTree, DirectTree, SuffixesTree, LengthTree, ParametersTree, WordsTree, SimpleTree}
-use Rattle.c_types.specs.declared.rule.TypeRule.TheVariants as T
+use Rattle.c_rules.specs.declared.rule.TypeRule.TheVariants as T
 use Rattle.c_rules.specs.declared.violation.Violation.{Violation}
 use Rattle.c_typed.specs.Types
 use Rattle.c_typed.specs.Types.{CType, CTypes, Void, Integer, Pointer, Array, Struct, Function, NoTypes, MoreTypes}
 use Rattle.c_typed.specs.Layouts.{is_complete}
 use Rattle.c_rules.specs.Names.{Scope, Meaning, Library, meaning_of, declares_tag, contains, is_library}
-use Rattle.c_rules.specs.Known
-use Rattle.c_rules.specs.Known.{Checked, Known, give, unknown, refuse, also, require, with_known, given, given_two, given_three, at, unless, as_value, value_of_type, object_at, integer_value, OfLibrary, grouped, NoAddress, NullAddress, Element}
+use Rattle.c_rules.specs.Known.{Checked, Known, known_already, give, refuse, also, require, with_known, given, given_two, given_three, unless, as_value, value_of_type, object_at, integer_value, OfLibrary, grouped, NullAddress, Element}
 use Rattle.c_rules.specs.declared.constness.Constness.{Constness}
 use Rattle.c_rules.specs.declared.constness.Constness.TheVariants.{NotConstant, Undefined, Constant}
 use Rattle.c_typed.specs.Values.{Text}
 use Rattle.c_typed.specs.Typed as typed
-use Rattle.c_typed.specs.declared.typed.LibraryFunction.{LibraryFunction}
 use Rattle.c_typed.specs.declared.typed.Stepping.TheVariants as S
 use Rattle.c_rules.specs.Operators
 
@@ -58,6 +56,10 @@ abbrev pub pointers : ℕ → CType → CType
 pointers zero c_type = c_type
 pointers (suc n) c_type = Pointer (pointers n c_type)
 
+abbrev pub pointed : ℕ → Option CType → Option CType
+pointed stars None = None
+pointed stars (Some c_type) = Some (pointers stars c_type)
+
 -- Where a length may be left out: nowhere; in a parameter, which is a pointer; or in a global with an initializer that
 -- gives the length for each type of elements (C17 6.7.6.3 paragraph 7, 6.7.9 paragraph 22).
 pub data LengthRole : Type 0 where
@@ -77,8 +79,12 @@ constant_value place (Constant value) = give value
 abbrev pub as_constant : Pos → Checked Known → Checked ℤ
 as_constant place part = given (Operators.as_integer place part) (λ value. constant_value place value.constness)
 
+-- no value of an integer type is greater than this
+abbrev pub greatest_length : ℕ
+greatest_length = 18446744073709551615
+
 abbrev pub positive : Pos → ℤ → Checked ℕ
-positive here (pos (suc n)) = give (suc n)
+positive here (pos (suc n)) = give (min (suc n) greatest_length)
 positive here _ = refuse T.T06 here
 
 abbrev pub length_value : Pos → LengthRole → Option CType → Length → Checked ℕ
@@ -166,6 +172,11 @@ abbrev pub with_name : Option NameTree → List (List ℕ) → List (List ℕ)
 with_name None names = names
 with_name (Some name) names = name.bytes ∷ names
 
+-- a parameter behind these names
+abbrev pub one_parameter : List (List ℕ) → WordsTree → OptionalTree → Checked CType → Checked CType
+one_parameter names words declarator named =
+    also (name_clash names (optional_name declarator)) (given named (parameter_type (name_place (optional_name declarator) words.place)))
+
 -- ---- the rules
 
 abbrev mutual
@@ -205,22 +216,22 @@ abbrev mutual
   pub type_named : Scope → TypeTree → Checked CType
   type_named scope (Trees.TypeName words declarator) = optional_type scope words.place Required (words_type scope words) declarator
 
+  -- the type that words and a declarator name, where the words name this one
   pub optional_type : Scope → Pos → LengthRole → Checked CType → OptionalTree → Checked CType
   optional_type scope here role base Trees.NoDeclarator = base
-  optional_type scope here role base (Trees.Declared declarator) = declared_type scope here role base declarator
+  optional_type scope here role base (Trees.Declared declarator) = also base.found (declared_type scope here role base.known declarator)
 
-  -- the type of a declared name, from the type that the words before it name
-  pub declared_type : Scope → Pos → LengthRole → Checked CType → DeclaratorTree → Checked CType
-  declared_type scope here role base (Trees.Declarator stars direct suffixes) =
-      direct_type scope here role (suffixes_type scope here (role_outside direct role) (given base (λ c_type. give (pointers stars c_type))) suffixes) direct
+  -- the type of a declared name, where the words before it name this one
+  pub declared_type : Scope → Pos → LengthRole → Option CType → DeclaratorTree → Checked CType
+  declared_type scope here role base (Trees.Declarator stars direct suffixes) = direct_type scope here role (suffixes_type scope here (role_outside direct role) (pointed stars base) suffixes) direct
 
   pub direct_type : Scope → Pos → LengthRole → Checked CType → DirectTree → Checked CType
-  direct_type scope here role outer (Trees.Nested declarator) = declared_type scope here role outer declarator
+  direct_type scope here role outer (Trees.Nested declarator) = also outer.found (declared_type scope here role outer.known declarator)
   direct_type scope here role outer _ = outer
 
   -- what follows a declarator first is what the name is first
-  pub suffixes_type : Scope → Pos → LengthRole → Checked CType → SuffixesTree → Checked CType
-  suffixes_type scope here role base Trees.NoSuffixes = base
+  pub suffixes_type : Scope → Pos → LengthRole → Option CType → SuffixesTree → Checked CType
+  suffixes_type scope here role base Trees.NoSuffixes = known_already base
   suffixes_type scope here role base (Trees.ArraySuffix length others) = array_type scope here role (length_stated scope length) (suffixes_type scope here Required base others)
   suffixes_type scope here role base (Trees.FunctionSuffix parameters others) = function_type here (if is_void_alone parameters then give NoTypes else parameter_types scope [] parameters) (suffixes_type scope here Required base others)
 
@@ -231,7 +242,5 @@ abbrev mutual
   pub parameter_types : Scope → List (List ℕ) → ParametersTree → Checked CTypes
   parameter_types scope names Trees.NoParameters = give NoTypes
   parameter_types scope names (Trees.Parameter words declarator others) =
-      let name = optional_name declarator in
-      let here = name_place name words.place in
-      also (name_clash names name)
-      (given_two (given (optional_type scope here Adjusted (words_type scope words) declarator) (parameter_type here)) (parameter_types scope (with_name name names) others) (λ first types. give (MoreTypes first types)))
+      given_two (one_parameter names words declarator (optional_type scope (name_place (optional_name declarator) words.place) Adjusted (words_type scope words) declarator)) (parameter_types scope (with_name (optional_name declarator) names) others)
+      (λ first types. give (MoreTypes first types))

@@ -1,18 +1,15 @@
 -- What stands in memory for what is known, and what a checker finds.
-use Rattle.std.specs.Prelude.{◌≡◌, ℕ, List, [], ◌∷◌, map, Option, Some, None, if◌then◌else◌}
-use Rattle.run_theory.specs.declared.ends.Pos.{Pos}
+use Rattle.std.specs.Prelude.{◌≡◌, List, [], ◌∷◌, Option, Some, None, if◌then◌else◌}
 use Rattle.c_typed.specs.declared.c_type.CType as number
-use Rattle.c_typed.specs.Typed as typed
 use Rattle.c_typed.specs.declared.c_type.Parameters as numbers
 use Rattle.c_typed.specs.Types.{CType, CTypes}
 use Rattle.c_typed.specs.Table.{Interned, Stands, type_in, ListStands, types_in, Grows}
-use Rattle.c_typed.specs.Views.{value_in, object_in, designator_in, values_in, ValueStands, ObjectStands, DesignatorStands, ValuesStand}
+use Rattle.c_typed.specs.Views.{value_in, object_in, designator_in, ValueStands, ObjectStands, DesignatorStands}
 use Rattle.c_typed.specs.Values.{Name, Outer, Text}
 use Rattle.c_rules.specs.declared.violation.Violation.{Violation}
 use Rattle.c_rules.specs.declared.known.TypedExpr as memory_typed
 use Rattle.c_rules.specs.declared.known.TypedExpr.TheVariants as E
-use Rattle.c_rules.specs.declared.known.Static as memory_static
-use Rattle.c_rules.specs.declared.known.Static.TheVariants as R
+use Rattle.c_typed.specs.DefinitionViews.{name_of}
 use Rattle.c_rules.specs.declared.known.Address as memory_address
 use Rattle.c_rules.specs.declared.known.Address.TheVariants as A
 use Rattle.c_rules.specs.declared.known.Known as memory_known
@@ -28,10 +25,6 @@ typed_in table (E.Value value) = OfValue (value_in table value)
 typed_in table (E.Object object) = OfObject (object_in table object)
 typed_in table (E.Function function) = OfFunction (designator_in table function)
 typed_in table (E.Library function groups) = OfLibrary function groups
-
-abbrev pub name_of : memory_static.Static → Name
-name_of (R.Variable name) = Outer name
-name_of (R.Literal place) = Text place
 
 abbrev pub address_in : Interned → memory_address.Address → Address
 address_in table A.Unknown = NoAddress

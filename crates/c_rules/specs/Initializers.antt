@@ -1,15 +1,15 @@
 -- The rules of initializers (C17 6.7.9).
-use Rattle.std.specs.Prelude.{ℕ, zero, suc, Bool, true, false, not, ◌||◌, ◌&&◌, nat_le, if◌then◌else◌, List, [], ◌∷◌, ◌++◌, length, Option, Some, None}
+use Rattle.std.specs.Prelude.{ℕ, zero, suc, Bool, true, false, ◌||◌, nat_le, if◌then◌else◌, List, [], ◌∷◌, ◌++◌, length, Option, Some, None}
 use Rattle.run_theory.specs.declared.ends.Pos.{Pos}
 use Rattle.c_syntax.specs.Trees
 use Rattle.c_syntax.specs.Trees.{ExprTree, InitTree, InitsTree}
-use Rattle.c_types.specs.declared.rule.TypeRule.TheVariants as T
+use Rattle.c_rules.specs.declared.rule.TypeRule.TheVariants as T
 use Rattle.c_rules.specs.declared.violation.Violation.{Violation}
 use Rattle.c_typed.specs.Types
 use Rattle.c_typed.specs.Types.{CType, Void, Integer, Pointer, Array, Struct, Function}
 use Rattle.c_typed.specs.Layouts.{MemberDef, members_by_tag}
 use Rattle.c_rules.specs.Names.{Scope}
-use Rattle.c_rules.specs.Known.{Checked, Known, also, require, given, at, unless, as_value, give, refuse, unknown, Address, NoAddress, Outside, NullAddress, FunctionAddress, Element}
+use Rattle.c_rules.specs.Known.{Checked, Known, require, given, at, unless, as_value, give, Address, NoAddress, Outside}
 use Rattle.c_rules.specs.declared.constness.Constness.{Constness}
 use Rattle.c_rules.specs.declared.constness.Constness.TheVariants.{NotConstant, Undefined, Constant}
 use Rattle.c_rules.specs.Constants.{address_as}

@@ -1,13 +1,13 @@
 -- What the rules find of a part of the text: what it violates, and what is known of it where it violates nothing that is
 -- needed for that.
-use Rattle.std.specs.Prelude.{ℕ, suc, ◌+◌, ◌<◌, Bool, true, false, not, ◌&&◌, ◌||◌, ◌==◌, nat_lt, nat_le, if◌then◌else◌, List, [], ◌∷◌, ◌++◌, Option, Some, None, ℤ, pos, bytes_eq}
+use Rattle.std.specs.Prelude.{ℕ, suc, Bool, true, false, not, ◌&&◌, ◌||◌, ◌==◌, nat_lt, nat_le, if◌then◌else◌, List, [], ◌∷◌, ◌++◌, Option, Some, None, pos}
 use Rattle.std.specs.Ordering.{int_eq}
 use Rattle.run_theory.specs.declared.ends.Pos.{Pos}
-use Rattle.c_types.specs.declared.rule.TypeRule.{TypeRule}
-use Rattle.c_types.specs.declared.rule.TypeRule.TheVariants as T
+use Rattle.c_rules.specs.declared.rule.TypeRule.{TypeRule}
+use Rattle.c_rules.specs.declared.rule.TypeRule.TheVariants as T
 use Rattle.c_rules.specs.declared.violation.Violation.{Violation}
 use Rattle.c_rules.specs.declared.constness.Constness.{Constness}
-use Rattle.c_rules.specs.declared.constness.Constness.TheVariants.{NotConstant, Undefined, Constant}
+use Rattle.c_rules.specs.declared.constness.Constness.TheVariants.{NotConstant, Constant}
 use Rattle.c_typed.specs.declared.part.Part.{Part}
 use Rattle.c_typed.specs.declared.part.Part.TheVariants as Parts
 use Rattle.c_typed.specs.Values.{Name}
@@ -84,6 +84,10 @@ unknown = record { found = []; known = None }
 -- it violates this rule, and nothing is known of it
 abbrev pub refuse : {A : Type 0} → TypeRule → Pos → Checked A
 refuse kind place = record { found = at kind place; known = None }
+
+-- what is known already, or isn't
+abbrev pub known_already : {A : Type 0} → Option A → Checked A
+known_already known = record { found = []; known = known }
 
 -- with other violations
 abbrev pub also : {A : Type 0} → List Violation → Checked A → Checked A

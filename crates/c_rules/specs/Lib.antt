@@ -1,3 +1,4 @@
+pub mod Rules
 pub mod Known
 pub mod Names
 pub mod Constants

@@ -3,12 +3,12 @@
 -- Evaluation goes down the typed tree by one rule for each form, in the order of C17 as this project's profile fixes it:
 -- operands and arguments from left to right, the left object of an assignment first. A unit is spent as each expression,
 -- each statement and each tested label is entered; where none is left, the run is going.
-use Rattle.std.specs.Prelude.{ℕ, zero, suc, ◌+◌, ◌-◌, ◌*◌, ◌/◌, ◌%◌, Bool, true, false, not, ◌&&◌, ◌||◌, ◌==◌, nat_lt, if◌then◌else◌, List, [], ◌∷◌, ◌++◌, length, Option, Some, None, Result, Ok, Err, ℤ, pos, negsuc, neg_ℤ, ◌+ℤ◌, ◌-ℤ◌, bytes_eq, codes}
+use Rattle.std.specs.Prelude.{ℕ, zero, suc, ◌-◌, ◌/◌, ◌%◌, Bool, true, false, not, ◌&&◌, ◌||◌, ◌==◌, nat_lt, if◌then◌else◌, List, [], ◌∷◌, ◌++◌, length, Option, Some, None, Result, Ok, Err, ℤ, pos, negsuc, neg_ℤ, ◌+ℤ◌, ◌-ℤ◌, bytes_eq, codes}
 use Rattle.std.specs.Ordering.{int_eq}
 use Rattle.run_theory.specs.declared.ends.Pos.{Pos}
 use Rattle.run_theory.specs.declared.ends.UbKind.{UbKind}
 use Rattle.run_theory.specs.declared.ends.UbKind.TheVariants as Ub
-use Rattle.run_theory.specs.Runs.{Trace, Output, Answer, Going, Over, Final, Ended, DepthReached}
+use Rattle.run_theory.specs.Runs.{Output, Answer, Over, Ended, DepthReached}
 use Rattle.c_num.specs.declared.IntType.{IntType}
 use Rattle.c_num.specs.declared.IntType.TheVariants as I
 use Rattle.c_num.specs.declared.BinOp.{BinOp}
@@ -20,7 +20,7 @@ use Rattle.c_num.specs.declared.ArithUb.TheVariants as U
 use Rattle.c_num.specs.Types.{common_of}
 use Rattle.c_num.specs.Conversion.{convert_to, modulo}
 use Rattle.c_num.specs.Arith.{outcome_of, compare_of}
-use Rattle.c_typed.specs.Types.{CType, Void, Integer, Pointer, Array, Struct, Function, NoTypes, same_type, is_void}
+use Rattle.c_typed.specs.Types.{CType, Integer, Array, Function, NoTypes, same_type, is_void}
 use Rattle.c_typed.specs.Layouts.{layout_of}
 use Rattle.c_rules.specs.Constants.{is_like_void, not_zero}
 use Rattle.c_typed.specs.Values
@@ -634,25 +634,13 @@ literal_objects [] = []
 literal_objects (first ∷ others) =
     record { name = Values.Text first.place; content = Values.Row true (Array (Integer I.Char) (suc (length first.bytes))) 1 (text_of 0 first.bytes) } ∷ literal_objects others
 
--- Variables with first values stand before their other declarations, so that they are found.
-abbrev pub has_held : T.GlobalDef → Bool
-has_held global = by global.first
-  where
-    by : List Values.Held → Bool
-    by [] = false
-    by (first ∷ others) = true
-
-abbrev pub initialized : List T.GlobalDef → List T.GlobalDef
-initialized [] = []
-initialized (first ∷ others) = if has_held first then first ∷ initialized others else initialized others
-
 abbrev pub first_state : Program → List ℕ → ℕ → Store.State
 first_state program input units =
     record {
       units = units;
       input = input;
       trace = [];
-      objects = global_objects (initialized program.globals) ++ global_objects program.globals ++ literal_objects program.literals;
+      objects = global_objects program.globals ++ literal_objects program.literals;
       locals = [];
       next_local = 1;
       next_heap = 1;

@@ -1,6 +1,5 @@
 -- What a checker holds.
-use Rattle.std.specs.Prelude.{◌≡◌, ℕ, ◌≤◌, Bool, true, false, not, if◌then◌else◌, List, [], ◌∷◌, ◌++◌, length, reverse, map, take, drop, slice_get, Option, Some, None, Vec, bytes_eq}
-use Rattle.run_theory.specs.declared.ends.Pos.{Pos}
+use Rattle.std.specs.Prelude.{◌≡◌, ℕ, Bool, true, false, if◌then◌else◌, List, [], ◌∷◌, ◌++◌, length, map, Option, Some, None, bytes_eq}
 use Rattle.c_syntax.specs.Trees.{NameTree}
 use Rattle.c_typed.specs.declared.c_type.CType as number
 use Rattle.c_typed.specs.Table.{Interned, empty, KnownStands, known_in, structs_in}

@@ -1,6 +1,5 @@
 -- What names mean at a place of the text (C17 6.2.1 to 6.2.3).
-use Rattle.std.specs.Prelude.{ℕ, ◌+◌, length, Bool, true, false, not, ◌||◌, if◌then◌else◌, List, [], ◌∷◌, ◌++◌, Option, Some, None, bytes_eq, codes}
-use Rattle.run_theory.specs.declared.ends.Pos.{Pos}
+use Rattle.std.specs.Prelude.{ℕ, length, Bool, true, false, not, ◌||◌, if◌then◌else◌, List, [], ◌∷◌, ◌++◌, Option, Some, None, bytes_eq, codes}
 use Rattle.c_num.specs.declared.IntType.TheVariants as I
 use Rattle.c_syntax.specs.Trees.{NameTree}
 use Rattle.c_typed.specs.Types.{CType, Void, Integer, Pointer, Function, NoTypes, MoreTypes, int}

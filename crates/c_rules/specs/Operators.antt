@@ -1,5 +1,5 @@
 -- What the operators ask of their operands, and what they give (C17 6.5), where the operands are known.
-use Rattle.std.specs.Prelude.{ℕ, Bool, true, false, not, ◌&&◌, ◌||◌, ◌==◌, if◌then◌else◌, List, [], ◌∷◌, ◌++◌, Option, Some, None, ℤ, pos, neg_ℤ, ◌-ℤ◌, bytes_eq, is_some, ◌+◌, codes}
+use Rattle.std.specs.Prelude.{ℕ, Bool, true, false, not, ◌&&◌, ◌||◌, if◌then◌else◌, List, [], ◌∷◌, ◌++◌, Option, Some, None, pos, neg_ℤ, bytes_eq, ◌+◌}
 use Rattle.run_theory.specs.declared.ends.Pos.{Pos}
 use Rattle.c_num.specs.declared.IntType.{IntType}
 use Rattle.c_num.specs.declared.IntType.TheVariants as I
@@ -16,11 +16,11 @@ use Rattle.c_syntax.specs.declared.operator.BinaryOperator.TheVariants as O
 use Rattle.c_syntax.specs.declared.operator.AssignOperator.{AssignOperator}
 use Rattle.c_syntax.specs.declared.operator.AssignOperator.TheVariants as A
 use Rattle.c_syntax.specs.Trees.{NameTree}
-use Rattle.c_types.specs.declared.rule.TypeRule.TheVariants as T
+use Rattle.c_rules.specs.declared.rule.TypeRule.TheVariants as T
 use Rattle.c_rules.specs.declared.violation.Violation.{Violation}
 use Rattle.c_typed.specs.Types
 use Rattle.c_typed.specs.Types.{CType, CTypes, Void, Integer, Pointer, Array, Struct, Function, NoTypes, MoreTypes}
-use Rattle.c_typed.specs.Layouts.{StructDef, MemberDef, is_complete, layout_of, members_by_tag}
+use Rattle.c_typed.specs.Layouts.{MemberDef, is_complete, layout_of, members_by_tag}
 use Rattle.c_rules.specs.Names.{Scope, Meaning, NoMeaning, Local, Outer, Library, meaning_of, contains}
 use Rattle.c_rules.specs.Known
 use Rattle.c_rules.specs.Known.{Checked, Known, TypedExpr, OfValue, OfObject, OfFunction, OfLibrary, value_in, value_of_typed, give, unknown, refuse, also, require, with_known, given, given_two, given_three, at, unless, as_value, value_of_type, object_at, integer_value, Address, NoAddress, NullAddress, FunctionAddress}
@@ -28,7 +28,6 @@ use Rattle.c_rules.specs.declared.constness.Constness.{Constness}
 use Rattle.c_rules.specs.declared.constness.Constness.TheVariants.{NotConstant, Constant}
 use Rattle.c_typed.specs.Values as values
 use Rattle.c_typed.specs.Typed as typed
-use Rattle.c_typed.specs.declared.typed.LibraryFunction.{LibraryFunction}
 use Rattle.c_typed.specs.declared.typed.LibraryFunction.TheVariants as L
 use Rattle.c_typed.specs.declared.typed.Stepping.{Stepping}
 use Rattle.c_typed.specs.declared.typed.Stepping.TheVariants as S

@@ -3,16 +3,16 @@ use Rattle.std.specs.Prelude.{ℕ, Bool, true, false, not, ◌&&◌, ◌||◌, i
 use Rattle.run_theory.specs.declared.ends.Pos.{Pos}
 use Rattle.c_syntax.specs.Trees
 use Rattle.c_syntax.specs.Trees.{NameTree, WordsTree, SimpleTree, ExprTree, ArgumentsTree, TypeTree, OptionalTree, DeclaratorTree, DirectTree, SuffixesTree, LengthTree, ParametersTree, InitTree, InitsTree, InitDeclaratorTree, MemberTree, BaseTree, ItemTree, BlockTree, ProgramTree}
-use Rattle.c_types.specs.declared.rule.TypeRule.TheVariants as T
+use Rattle.c_rules.specs.declared.rule.TypeRule.TheVariants as T
 use Rattle.c_rules.specs.declared.violation.Violation.{Violation}
 use Rattle.c_typed.specs.Types
 use Rattle.c_typed.specs.Types.{CType, Void, Integer, Struct, Function, NoTypes, same_type}
-use Rattle.c_typed.specs.Layouts.{StructDef, MemberDef, is_complete, members_by_tag}
+use Rattle.c_typed.specs.Layouts.{MemberDef, is_complete, members_by_tag}
 use Rattle.c_rules.specs.Names.{Scope, FileName, file_name, is_library, contains, with_local, in_function, with_file_name}
-use Rattle.c_rules.specs.Known.{Checked, Known, also, require, given, at, unless, give, refuse, unknown, least}
+use Rattle.c_rules.specs.Known.{Checked, also, require, given, at, unless, give, least}
 use Rattle.c_rules.specs.Expressions.{LengthRole, Required, Adjusted, Initialized, words_type, declared_type, optional_type, declared_name, optional_name, name_place, is_void_alone, adds, parameter_type}
-use Rattle.c_rules.specs.Initializers.{first_of, initial_length, found_within}
-use Rattle.c_rules.specs.Statements.{silent, block}
+use Rattle.c_rules.specs.Initializers.{first_of, initial_length}
+use Rattle.c_rules.specs.Statements.{block}
 
 -- ---- the tags that a program declares: those of each `struct NAME` outside function bodies and parameter lists
 
@@ -138,7 +138,7 @@ abbrev pub with_member : Option NameTree → Option CType → List MemberDef →
 with_member None c_type members = members
 with_member (Some name) c_type members = members ++ record { name = name.bytes; c_type = c_type } ∷ []
 
-abbrev pub declared_members : Scope → Pos → Checked CType → List DeclaratorTree → List MemberDef → Members
+abbrev pub declared_members : Scope → Pos → Option CType → List DeclaratorTree → List MemberDef → Members
 declared_members scope place base [] members = record { found = []; members = members }
 declared_members scope place base (declarator ∷ others) members =
     let name = declared_name declarator in
@@ -151,7 +151,7 @@ abbrev pub all_members : Scope → List MemberTree → List MemberDef → Member
 all_members scope [] members = record { found = []; members = members }
 all_members scope (first ∷ others) members =
     let base = words_type scope first.words in
-    let some = declared_members scope first.words.place (silent base) first.declarators members in
+    let some = declared_members scope first.words.place base.known first.declarators members in
     let rest = all_members scope others some.members in
     record rest { found = base.found ++ some.found ++ rest.found }
 
@@ -233,6 +233,10 @@ role_of (Some init) = Initialized (initial_length init)
 abbrev pub outside_type : Scope → Pos → Checked CType → Checked CType
 outside_type scope here part = given part (λ c_type. require (Types.is_function c_type || is_complete scope.structs c_type) T.T05 here (give c_type))
 
+-- the type of a name that has a body: a function
+abbrev pub body_type : Pos → Checked CType → Checked CType
+body_type here part = given part (λ c_type. require (Types.is_function c_type) T.T05 here (give c_type))
+
 abbrev pub has_first : Option InitTree → Bool
 has_first None = false
 has_first (Some init) = true
@@ -241,14 +245,14 @@ abbrev pub first_rules : Scope → Option CType → Option InitTree → List Vio
 first_rules scope c_type None = []
 first_rules scope c_type (Some init) = first_of scope c_type init
 
-abbrev pub file_declarator : Scope → Pos → Checked CType → InitDeclaratorTree → Option NameTree → Filed
+abbrev pub file_declarator : Scope → Pos → Option CType → InitDeclaratorTree → Option NameTree → Filed
 file_declarator scope place base tree None = record { found = []; scope = scope }
 file_declarator scope place base tree (Some name) =
     let own = outside_type scope name.place (declared_type scope name.place (role_of tree.init) base tree.declarator) in
     let filed = declare_outside name own.known (has_first tree.init) false scope in
     record filed { found = own.found ++ filed.found ++ first_rules filed.scope own.known tree.init }
 
-abbrev pub file_declarators : Scope → Pos → Checked CType → List InitDeclaratorTree → Filed
+abbrev pub file_declarators : Scope → Pos → Option CType → List InitDeclaratorTree → Filed
 file_declarators scope place base [] = record { found = []; scope = scope }
 file_declarators scope place base (first ∷ others) =
     let one = file_declarator scope place base first (declared_name first.declarator) in
@@ -300,10 +304,10 @@ body_rules scope c_type declarator body =
     let entered = entered_function scope (own_parameters declarator) in
     entered.found ++ block entered.scope (record { result = result_of c_type; may_break = false; may_continue = false }) body
 
-abbrev pub function_item : Scope → Pos → Checked CType → DeclaratorTree → BlockTree → Option NameTree → Filed
+abbrev pub function_item : Scope → Pos → Option CType → DeclaratorTree → BlockTree → Option NameTree → Filed
 function_item scope place base declarator body None = record { found = []; scope = scope }
 function_item scope place base declarator body (Some name) =
-    let own = given (declared_type scope name.place Required base declarator) (λ c_type. require (Types.is_function c_type) T.T05 name.place (give c_type)) in
+    let own = body_type name.place (declared_type scope name.place Required base declarator) in
     let filed = declare_outside name own.known false true scope in
     record filed { found = own.found ++ filed.found ++ body_rules filed.scope own.known declarator body }
 
@@ -312,11 +316,11 @@ function_item scope place base declarator body (Some name) =
 abbrev pub item : Scope → ItemTree → Filed
 item scope (Trees.Declaration base declarators) =
     let based = base_type scope base in
-    let all = file_declarators based.scope (base_place base) (silent based.type_of) declarators in
+    let all = file_declarators based.scope (base_place base) based.type_of.known declarators in
     record all { found = based.type_of.found ++ all.found }
 item scope (Trees.Function base declarator place body) =
     let based = base_type scope base in
-    let one = function_item based.scope (base_place base) (silent based.type_of) declarator body (declared_name declarator) in
+    let one = function_item based.scope (base_place base) based.type_of.known declarator body (declared_name declarator) in
     record one { found = based.type_of.found ++ one.found }
 
 abbrev pub items : Scope → List ItemTree → List Violation

@@ -1,5 +1,5 @@
 -- The rules of declarations in blocks and of statements (C17 6.7, 6.8).
-use Rattle.std.specs.Prelude.{ℕ, Bool, true, false, not, ◌||◌, if◌then◌else◌, List, [], ◌∷◌, ◌++◌, Option, Some, None, ℤ}
+use Rattle.std.specs.Prelude.{Bool, true, false, not, ◌||◌, if◌then◌else◌, List, [], ◌∷◌, ◌++◌, Option, Some, None, ℤ}
 use Rattle.std.specs.Ordering.{int_eq}
 use Rattle.run_theory.specs.declared.ends.Pos.{Pos}
 use Rattle.c_num.specs.declared.IntType.{IntType}
@@ -7,13 +7,13 @@ use Rattle.c_num.specs.Types.{promoted}
 use Rattle.c_num.specs.Conversion.{convert_to}
 use Rattle.c_syntax.specs.Trees
 use Rattle.c_syntax.specs.Trees.{NameTree, ExprTree, InitTree, DeclaratorTree, InitDeclaratorTree, DeclarationTree, ForTree, StmtTree, BlockTree, SwitchTree}
-use Rattle.c_types.specs.declared.rule.TypeRule.TheVariants as T
+use Rattle.c_rules.specs.declared.rule.TypeRule.TheVariants as T
 use Rattle.c_rules.specs.declared.violation.Violation.{Violation}
 use Rattle.c_typed.specs.Types
 use Rattle.c_typed.specs.Types.{CType, Void, Integer}
 use Rattle.c_typed.specs.Layouts.{is_complete}
 use Rattle.c_rules.specs.Names.{Scope, entered, with_local, is_local_here, is_library}
-use Rattle.c_rules.specs.Known.{Checked, Known, also, require, given, at, unless, as_value, give}
+use Rattle.c_rules.specs.Known.{Checked, Known, require, given, at, unless, as_value, give}
 use Rattle.c_rules.specs.Operators.{as_condition, as_integer, fits}
 use Rattle.c_rules.specs.Expressions.{expr, place_of, words_type, declared_type, declared_name, name_place, as_constant, Required}
 use Rattle.c_rules.specs.Initializers.{local_first}
@@ -22,10 +22,6 @@ use Rattle.c_rules.specs.Initializers.{local_first}
 pub record Passed : Type 0 where
   pub found : List Violation
   pub scope : Scope
-
--- the same type, with what it violates left out
-abbrev pub silent : {A : Type 0} → Checked A → Checked A
-silent part = record { found = []; known = part.known }
 
 -- an object's type
 abbrev pub object_type : Scope → Pos → Checked CType → Checked CType
@@ -44,7 +40,7 @@ optional_first scope c_type None = []
 optional_first scope c_type (Some init) = local_first scope c_type init
 
 -- one declarator of a block's declaration; its scope begins before its initializer (C17 6.2.1 paragraph 7)
-abbrev pub declare_local : Pos → Checked CType → InitDeclaratorTree → Scope → Passed
+abbrev pub declare_local : Pos → Option CType → InitDeclaratorTree → Scope → Passed
 declare_local place base init_declarator scope =
     let name = declared_name init_declarator.declarator in
     let here = name_place name place in
@@ -52,7 +48,7 @@ declare_local place base init_declarator scope =
     let behind = with_declared name own.known scope in
     record { found = own.found ++ local_clash scope name ++ optional_first behind own.known init_declarator.init; scope = behind }
 
-abbrev pub declare_locals : Pos → Checked CType → List InitDeclaratorTree → Scope → Passed
+abbrev pub declare_locals : Pos → Option CType → List InitDeclaratorTree → Scope → Passed
 declare_locals place base [] scope = record { found = []; scope = scope }
 declare_locals place base (first ∷ others) scope =
     let one = declare_local place base first scope in
@@ -62,7 +58,7 @@ declare_locals place base (first ∷ others) scope =
 abbrev pub declaration : Scope → DeclarationTree → Passed
 declaration scope tree =
     let base = words_type scope tree.words in
-    let all = declare_locals tree.words.place (silent base) tree.declarators scope in
+    let all = declare_locals tree.words.place base.known tree.declarators scope in
     record all { found = base.found ++ all.found }
 
 -- ---- statements

@@ -1,11 +1,10 @@
 -- The store of the reference, and evaluations on it.
-use Rattle.std.specs.Prelude.{ℕ, zero, suc, ◌+◌, ◌-◌, ◌*◌, ◌/◌, ◌%◌, Bool, true, false, not, ◌&&◌, ◌||◌, ◌==◌, nat_lt, if◌then◌else◌, List, [], ◌∷◌, ◌++◌, length, Option, Some, None, ℤ, pos, bytes_eq}
+use Rattle.std.specs.Prelude.{ℕ, zero, suc, ◌+◌, ◌*◌, Bool, true, false, not, ◌&&◌, ◌==◌, nat_lt, if◌then◌else◌, List, [], ◌∷◌, Option, Some, None, pos, bytes_eq}
 use Rattle.run_theory.specs.declared.ends.Pos.{Pos}
 use Rattle.run_theory.specs.declared.ends.UbKind.{UbKind}
-use Rattle.run_theory.specs.declared.ends.UbKind.TheVariants as Ub
-use Rattle.run_theory.specs.Runs.{Trace, Event, Answer, Going, Over, Final, Undefined}
-use Rattle.c_typed.specs.Types.{CType, Void, Integer, Pointer, Array, Struct, Function}
-use Rattle.c_typed.specs.Layouts.{StructDef, MemberDef, Layout, Table, layouts, layout_in, layout_of, members_by_tag, member_layout, behind, aligned, no_layout}
+use Rattle.run_theory.specs.Runs.{Trace, Answer, Going, Over, Final, Undefined}
+use Rattle.c_typed.specs.Types.{CType, Void, Integer, Array, Struct}
+use Rattle.c_typed.specs.Layouts.{StructDef, MemberDef, Layout, Table, layouts, layout_of, members_by_tag, member_layout, behind, aligned, no_layout}
 use Rattle.c_rules.specs.Known.{is_same_place}
 use Rattle.c_typed.specs.declared.part.Part.{Part}
 use Rattle.c_typed.specs.declared.part.Part.TheVariants as Parts

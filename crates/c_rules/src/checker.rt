@@ -1,10 +1,10 @@
 // What a checker holds at a place of the text.
 
-ghost use Rattle.std.specs.Prelude.{◌≡◌, ◌∷◌, ◌++◌, ◌≤◌, true, Some, None, List, IfOk, OnOk, OnErr, length};
+ghost use Rattle.std.specs.Prelude.{◌≡◌, ◌∷◌, ◌++◌, ◌≤◌, true, false, Some, None, List, IfOk, OnOk, OnErr, length, slice_get};
 ghost use Rattle.c_syntax.specs.Views.{name_tree};
 ghost use Rattle.c_typed.specs.Types as T;
 ghost use Rattle.c_typed.specs.Layouts.{is_complete, layout_of};
-ghost use Rattle.c_typed.specs.Table.{structs_in, Stands, type_in, ListStands, types_in, KnownStands, known_in, TagStands, tag_in, members_of, IsMember, HasShape, IsSplit};
+ghost use Rattle.c_typed.specs.Table.{structs_in, Stands, type_in, ListStands, types_in, KnownStands, known_in, TagStands, tag_in, members_of, IsMember, IsMemberType, HasShape, IsSplit, AreComplete, member_entries, completed};
 ghost use Rattle.c_rules.specs.Known.{give, unless};
 ghost use Rattle.c_rules.specs.Names.{Scope, LocalName, contains, declares_tag, is_local_here, meaning_of, with_local, with_file_name, file_name, entered, locals_in};
 ghost use Rattle.c_rules.specs.NameTables.{no_state, with_tag, with_once, meaning_in, MeaningStands, file_row, IsFileEntry, scope_of, Leads};
@@ -13,10 +13,10 @@ ghost use Rattle.c_rules.specs.Finding.{lesser, noted, Finds, IsType, IsTypes};
 use crate::file_name::FileEntry;
 use crate::locals::Locals;
 use crate::name_meaning::{NameMeaning, library_function};
+use crate::rule::TypeRule;
 use crate::violation::{Violation, is_before};
 use c_syntax::Name;
-use c_typed::{CType, MemberAt, Parameters, Shape, StructId, TypeTable};
-use c_types::TypeRule;
+use c_typed::{CType, Member, MemberAt, Parameters, Shape, StructId, TypeTable};
 use indexmap::{IndexMap, IndexSet};
 use run_theory::Pos;
 use std::alloc::{AllocError, Global};
@@ -78,7 +78,8 @@ impl Checker {
 
     /// A tag that the program declares, whose earlier places came before.
     pub fn add_tag(&mut self, tag: &Name) -> Result<(), AllocError>
-        ensures { OnOk result (self.new ≡ record self.old { tags = with_tag self.old.tags (name_tree tag.now) }) }
+        ensures done { OnOk result (self.new ≡ record self.old { tags = with_tag self.old.tags (name_tree tag.now) }) }
+        ensures undone { OnErr result (self.new ≡ self.old) }
     {
         let bytes = tag.bytes.as_slice();
         if self.tags.get(bytes).is_none() {
@@ -90,7 +91,8 @@ impl Checker {
 
     /// A structure that the program completes.
     pub fn add_completed(&mut self, tag: &[u8]) -> Result<(), AllocError>
-        ensures { OnOk result (self.new ≡ record self.old { completed = with_once self.old.completed tag.now }) }
+        ensures done { OnOk result (self.new ≡ record self.old { completed = with_once self.old.completed tag.now }) }
+        ensures undone { OnErr result (self.new ≡ self.old) }
     {
         if !self.completed.contains(tag) {
             self.completed.insert(Vec::from_slice(self.alloc, tag)?)?;
@@ -100,7 +102,8 @@ impl Checker {
 
     /// A function that the program defines.
     pub fn add_defined(&mut self, name: &[u8]) -> Result<(), AllocError>
-        ensures { OnOk result (self.new ≡ record self.old { defined = with_once self.old.defined name.now }) }
+        ensures done { OnOk result (self.new ≡ record self.old { defined = with_once self.old.defined name.now }) }
+        ensures undone { OnErr result (self.new ≡ self.old) }
     {
         if !self.defined.contains(name) {
             self.defined.insert(Vec::from_slice(self.alloc, name)?)?;
@@ -154,6 +157,13 @@ impl Checker {
         if !is_later {
             self.least = Some(violation);
         }
+    }
+
+    /// Forgets the violations that were noted since this one was the least.
+    pub fn restore(&mut self, least: Option<Violation>)
+        ensures { self.new ≡ record self.old { least = least } }
+    {
+        self.least = least;
     }
 
     /// Notes a violation, unless this holds.
@@ -221,7 +231,8 @@ impl Checker {
     /// The pointers to a type (C17 6.2.5 paragraph 20).
     pub fn pointer_to(&mut self, target: CType) -> Result<CType, AllocError>
         requires { Stands self.old.table target }
-        ensures { IfOk result (λ made. Finds IsType (give (T.Pointer (type_in self.old.table target))) self.old self.new (Some made)) }
+        ensures made { IfOk result (λ made. Finds IsType (give (T.Pointer (type_in self.old.table target))) self.old self.new (Some made)) }
+        ensures unmade { OnErr result (self.new ≡ self.old) }
     {
         Ok(self.types.pointer_to(target)?)
     }
@@ -230,14 +241,16 @@ impl Checker {
     pub fn array_of(&mut self, element: CType, length: u64) -> Result<CType, AllocError>
         requires stands { Stands self.old.table element }
         requires complete { is_complete (structs_in self.old.table) (type_in self.old.table element) ≡ true }
-        ensures { IfOk result (λ made. Finds IsType (give (T.Array (type_in self.old.table element) length)) self.old self.new (Some made)) }
+        ensures made { IfOk result (λ made. Finds IsType (give (T.Array (type_in self.old.table element) length)) self.old self.new (Some made)) }
+        ensures unmade { OnErr result (self.new ≡ self.old) }
     {
         Ok(self.types.array_of(element, length)?)
     }
 
     /// The structure with a tag, completed or not (C17 6.7.2.3).
     pub fn struct_type(&mut self, tag: &[u8]) -> Result<CType, AllocError>
-        ensures { IfOk result (λ made. Finds IsType (give (T.Struct tag.now)) self.old self.new (Some made)) }
+        ensures made { IfOk result (λ made. Finds IsType (give (T.Struct tag.now)) self.old self.new (Some made)) }
+        ensures unmade { OnErr result (self.new ≡ self.old) }
     {
         Ok(self.types.struct_type(tag)?)
     }
@@ -246,14 +259,16 @@ impl Checker {
     pub fn function(&mut self, returned: CType, parameters: Parameters) -> Result<CType, AllocError>
         requires returned { Stands self.old.table returned }
         requires parameters { ListStands self.old.table parameters }
-        ensures { IfOk result (λ made. Finds IsType (give (T.Function (type_in self.old.table returned) (types_in self.old.table parameters))) self.old self.new (Some made)) }
+        ensures made { IfOk result (λ made. Finds IsType (give (T.Function (type_in self.old.table returned) (types_in self.old.table parameters))) self.old self.new (Some made)) }
+        ensures unmade { OnErr result (self.new ≡ self.old) }
     {
         Ok(self.types.function(returned, parameters)?)
     }
 
     /// The list of no parameters.
     pub fn no_parameters(&mut self) -> Result<Parameters, AllocError>
-        ensures { IfOk result (λ made. Finds IsTypes (give T.NoTypes) self.old self.new (Some made)) }
+        ensures made { IfOk result (λ made. Finds IsTypes (give T.NoTypes) self.old self.new (Some made)) }
+        ensures unmade { OnErr result (self.new ≡ self.old) }
     {
         Ok(self.types.no_parameters()?)
     }
@@ -262,9 +277,44 @@ impl Checker {
     pub fn parameter(&mut self, first: CType, others: Parameters) -> Result<Parameters, AllocError>
         requires first { Stands self.old.table first }
         requires others { ListStands self.old.table others }
-        ensures { IfOk result (λ made. Finds IsTypes (give (T.MoreTypes (type_in self.old.table first) (types_in self.old.table others))) self.old self.new (Some made)) }
+        ensures made { IfOk result (λ made. Finds IsTypes (give (T.MoreTypes (type_in self.old.table first) (types_in self.old.table others))) self.old self.new (Some made)) }
+        ensures unmade { OnErr result (self.new ≡ self.old) }
     {
         Ok(self.types.parameter(first, others)?)
+    }
+
+    /// Whether a structure is completed (C17 6.7.2.1 paragraph 8).
+    pub fn is_completed(&self, id: StructId) -> bool
+        requires { TagStands self.now.table id }
+        ensures { result ≡ is_complete (structs_in self.now.table) (T.Struct (tag_in self.now.table id)) }
+    {
+        self.types.is_completed(id)
+    }
+
+    /// The type of a structure's member, by how many stand before it, where that has one.
+    pub fn member_at(&self, id: StructId, number: usize) -> Option<Option<CType>>
+        requires { TagStands self.now.table id }
+        ensures { IsMemberType self.now.table (slice_get (members_of (structs_in self.now.table) (T.Struct (tag_in self.now.table id))) number) result }
+    {
+        self.types.member_at(id, number)
+    }
+
+    /// Completes a structure by its members, in their order.
+    pub fn complete(&mut self, id: StructId, members: Vec<Member>) -> Result<(), AllocError>
+        requires tag { TagStands self.old.table id }
+        requires open_until_now { is_complete (structs_in self.old.table) (T.Struct (tag_in self.old.table id)) ≡ false }
+        requires members { AreComplete self.old.table (member_entries members.items) }
+        ensures done { OnOk result (self.new ≡ record self.old { table = completed self.old.table id.0 (member_entries members.items) }) }
+        ensures undone { OnErr result (self.new ≡ self.old) }
+    {
+        Ok(self.types.complete(id, members)?)
+    }
+
+    /// The types of the whole program.
+    pub fn into_types(self) -> TypeTable
+        ensures { result ≡ self.table }
+    {
+        self.types
     }
 
     // ---- names
@@ -301,7 +351,8 @@ impl Checker {
     /// Declares a local in the innermost block.
     pub fn declare_local(&mut self, name: &[u8], c_type: Option<CType>) -> Result<(), AllocError>
         requires { KnownStands self.old.table c_type }
-        ensures { OnOk result (Leads (with_local name.now (known_in self.old.table.tags self.old.table.entries c_type) (scope_of self.old)) self.old self.new) }
+        ensures done { OnOk result (Leads (with_local name.now (known_in self.old.table.tags self.old.table.entries c_type) (scope_of self.old)) self.old self.new) }
+        ensures undone { OnErr result (self.new ≡ self.old) }
     {
         self.locals.declare(name, c_type)
     }
@@ -332,7 +383,8 @@ impl Checker {
     /// Puts what is known of a name outside functions in the place of what was known of it.
     pub fn put_file_entry(&mut self, name: &[u8], entry: FileEntry) -> Result<(), AllocError>
         requires { KnownStands self.old.table entry.c_type }
-        ensures { OnOk result (Leads (record (scope_of self.old) { file = with_file_name (file_row self.old.table (record { name = name.now; entry = entry })) (scope_of self.old).file }) self.old self.new) }
+        ensures done { OnOk result (Leads (record (scope_of self.old) { file = with_file_name (file_row self.old.table (record { name = name.now; entry = entry })) (scope_of self.old).file }) self.old self.new) }
+        ensures undone { OnErr result (self.new ≡ self.old) }
     {
         self.file.insert(Vec::from_slice(self.alloc, name)?, entry)?;
         Ok(())

@@ -1,8 +1,7 @@
 // What is known of an expression.
 
 use crate::constness::Constness;
-use c_typed::{ByteString, CType, Designator, LibraryFunction, Object, Part, Value};
-use run_theory::Pos;
+use c_typed::{ByteString, CType, Designator, LibraryFunction, Object, Part, Static, Value};
 
 /// A typed tree: that of a value, an object or a function, or a library function's name in so many parentheses.
 #[derive(Drop)]
@@ -14,15 +13,6 @@ pub enum TypedExpr {
         function: LibraryFunction,
         groups: usize,
     },
-}
-
-/// An object that lives as long as the program (C17 6.2.4 paragraph 3).
-#[derive(Drop)]
-pub enum Static {
-    /// A variable outside functions.
-    Variable(ByteString),
-    /// A literal, by its place.
-    Literal(Pos),
 }
 
 /// An address that is known before the program runs (C17 6.6 paragraph 9).

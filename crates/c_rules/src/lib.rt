@@ -7,11 +7,13 @@ mod file_name;
 mod known;
 mod locals;
 mod name_meaning;
+mod rule;
 mod violation;
 
 pub use checker::Checker;
 pub use constness::Constness;
 pub use file_name::FileEntry;
-pub use known::{Address, Condition, Known, Static, TypedExpr};
+pub use known::{Address, Condition, Known, TypedExpr};
 pub use name_meaning::{NameMeaning, library_function};
+pub use rule::TypeRule;
 pub use violation::{Violation, is_before};

@@ -3,7 +3,7 @@
 ghost use Rattle.std.specs.Prelude.{◌≡◌};
 ghost use Rattle.c_rules.specs.Known.{is_before, is_same_place, rule_number};
 
-use c_types::TypeRule;
+use crate::rule::TypeRule;
 use run_theory::Pos;
 
 /// A type rule, and where it is violated.

@@ -7,8 +7,8 @@ use Rattle.c_rules.specs.Checkers.{tags_of, state_of}
 use Rattle.c_rules.proofs.Named.{has_from, tags_with, tag_there, tags_set}
 use Rattle.c_rules.proofs.checker.Checker.add_tag.Goals as goal
 
-pub returns-in_ok-insert : goal.returns-in_ok-insert
-returns-in_ok-insert c =
+pub returns-in_ok-insert-clause-done : goal.returns-in_ok-insert-clause-done
+returns-in_ok-insert-clause-done c =
     let had = c.self.inside in
     let state = state_of had.types had.tags.entries had.completed.keys had.defined.keys had.file.entries had.locals had.least in
     let tag = name_tree c.args.tag.now in
@@ -16,8 +16,8 @@ returns-in_ok-insert c =
     let added = ap tags_of c.in_ok-insert.ensures.entries ∙ tags_with had.tags c.in_ok-from_slice.field-0 tag (c.in_ok-from_slice.ensures.items ∙ c.as_slice-bytes.ensures) new in
     ap (λ (tags : List NameTree). tags_set state tags) added ∙ ap (λ (s : State). tags_set s (with_tag s.tags tag)) c.self.view_is
 
-pub returns-else-is_none : goal.returns-else-is_none
-returns-else-is_none c =
+pub returns-else-is_none-clause-done : goal.returns-else-is_none-clause-done
+returns-else-is_none-clause-done c =
     let now = c.args.self.now in
     let tag = name_tree c.args.tag.now in
     let there = has_from c.self.inside.tags.entries c.as_slice-bytes.result.now tag.bytes c.as_slice-bytes.ensures c.get.result c.get.ensures.value true c.if-is_none.ensures in

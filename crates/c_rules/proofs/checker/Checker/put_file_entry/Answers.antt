@@ -18,8 +18,8 @@ invariant_of-self-2 c =
       outer = c.self.invariant.outer;
     }
 
-pub returns : goal.returns
-returns c =
+pub returns-clause-done : goal.returns-clause-done
+returns-clause-done c =
     let had = c.self.inside in
     let state = state_of had.types had.tags.entries had.completed.keys had.defined.keys had.file.entries had.locals had.least in
     let name = c.args.name.now in

@@ -8,8 +8,8 @@ invariant_of-self-2 c =
     let had = c.self.inside in
     names_stay had.types c.struct_type.new.self c.in_ok-struct_type.ensures.ok.grows had.file.entries had.locals c.self.invariant
 
-pub returns : goal.returns
-returns c =
+pub returns-clause-made : goal.returns-clause-made
+returns-clause-made c =
     let had = c.self.inside in
     let state = state_of had.types had.tags.entries had.completed.keys had.defined.keys had.file.entries had.locals had.least in
     let stand : StateStands state = record { file = c.self.invariant.file; inner = c.self.invariant.inner; outer = c.self.invariant.outer } in
