@@ -7,7 +7,7 @@ use Rattle.run_theory.proofs.Following.{follows_trapped}
 use Rattle.pcc_outside.specs.Outside.{Rose}
 use Rattle.c_ast.specs.Syntax.{ProgramTree}
 use Rattle.c_ast.specs.Reference.{reference}
-use Rattle.c_types.specs.Typing.{typed_of}
+use Rattle.c_integer_types.specs.Typing.{typed_of}
 use Rattle.pool_isa.specs.Machine.{initial, mach}
 use Rattle.image_form.specs.declared.image.MachineLimits.{MachineLimits}
 use Rattle.image_form.specs.Form.{Form}

@@ -4,8 +4,8 @@ use Rattle.run_theory.specs.declared.ends.Pos.{Pos}
 use Rattle.c_syntax.specs.Trees
 use Rattle.c_ast.specs.Syntax.{ProgramTree}
 use Rattle.c_integer.specs.Narrowing.{Stop, Later, NoMain, program_of}
-use Rattle.c_types.specs.declared.rule.TypeRule.TheVariants as T
-use Rattle.c_types.specs.Typing.{Violation, violations}
+use Rattle.c_integer_types.specs.declared.rule.TypeRule.TheVariants as T
+use Rattle.c_integer_types.specs.Typing.{Violation, violations}
 use Rattle.pcc_status.specs.declared.status.LexKind.{LexKind}
 use Rattle.pcc_status.specs.declared.status.LexKind.TheVariants as K
 use Rattle.pcc_status.specs.declared.status.SyntaxKind.{SyntaxKind}

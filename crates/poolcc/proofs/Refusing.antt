@@ -7,9 +7,9 @@ use Rattle.c_lexer.specs.declared.lex_err.LexErr.TheVariants as X
 use Rattle.c_lexer.specs.Tokens.{Faults, UnlessMemory}
 use Rattle.c_lexer.proofs.Dividing.{one_fault, no_both}
 use Rattle.c_ast.specs.Syntax.{ProgramTree}
-use Rattle.c_types.specs.declared.rule.TypeRule.{TypeRule}
-use Rattle.c_types.specs.Checking.{first}
-use Rattle.c_types.specs.Typing.{Violation, violations}
+use Rattle.c_integer_types.specs.declared.rule.TypeRule.{TypeRule}
+use Rattle.c_integer_types.specs.Checking.{first}
+use Rattle.c_integer_types.specs.Typing.{Violation, violations}
 use Rattle.image_form.specs.declared.image.MachineLimits.{MachineLimits}
 use Rattle.image_form.specs.Form.{Form}
 use Rattle.pcc_status.specs.declared.status.LexKind.{LexKind}

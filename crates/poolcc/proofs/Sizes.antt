@@ -9,8 +9,8 @@ use Rattle.c_syntax.specs.Trees
 use Rattle.c_reader.specs.Readings.{IsProgram}
 use Rattle.c_reader.specs.Shapes
 use Rattle.c_integer.specs.Narrowing
-use Rattle.c_types.specs.Typing.{typed_of}
-use Rattle.c_types.proofs.Sizes.{same_program_size}
+use Rattle.c_integer_types.specs.Typing.{typed_of}
+use Rattle.c_integer_types.proofs.Sizes.{same_program_size}
 use Rattle.poolcc.specs.Compiled.{IsInteger}
 use Rattle.poolcc.proofs.NodeCounts.{program_nodes}
 use Rattle.poolcc.proofs.NarrowedSizes.{narrowed_size}

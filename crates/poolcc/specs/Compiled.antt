@@ -10,7 +10,7 @@ use Rattle.c_ast.specs.Syntax.{ProgramTree}
 use Rattle.c_ast.specs.Typed.{TypedProgram}
 use Rattle.c_ast.specs.Reference.{reference}
 use Rattle.c_integer.specs.Narrowing.{program_of}
-use Rattle.c_types.specs.Typing.{violations, typed_of}
+use Rattle.c_integer_types.specs.Typing.{violations, typed_of}
 use Rattle.pool_isa.specs.Machine.{Function, mach}
 use Rattle.image_form.specs.declared.image.MachineLimits.{MachineLimits}
 use Rattle.image_form.specs.Form.{Form, IsImage, ImageOf}

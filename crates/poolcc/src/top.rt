@@ -16,7 +16,7 @@ ghost use Rattle.c_lexer.specs.Tokens.{Faults};
 ghost use Rattle.poolcc.specs.Refused.{fault_of, IsRefused};
 ghost use Rattle.c_ast.specs.Syntax.{ProgramTree};
 ghost use Rattle.c_ast.specs.Reference.{reference};
-ghost use Rattle.c_types.specs.Typing.{typed_of};
+ghost use Rattle.c_integer_types.specs.Typing.{typed_of};
 ghost use Rattle.poolcc.specs.Compiled.{IsAccepted};
 ghost use Rattle.poolcc.specs.Complete.{RunsUnlessMemory};
 ghost use Rattle.poolcc.specs.Exec.{Answers, source_limit, default_limits};

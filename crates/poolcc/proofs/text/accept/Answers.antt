@@ -1,8 +1,8 @@
 use Rattle.std.proofs.Common.{inl, ap, subst, arith}
 use Rattle.c_ast.specs.Syntax.{program_tree}
 use Rattle.c_ast.specs.Typed.{program_size}
-use Rattle.c_types.specs.Checking.{NamesFirst}
-use Rattle.c_types.specs.Typing.{violations}
+use Rattle.c_integer_types.specs.Checking.{NamesFirst}
+use Rattle.c_integer_types.specs.Typing.{violations}
 use Rattle.poolcc.proofs.Refusing.{ill_typed}
 use Rattle.poolcc.proofs.Sizes.{typed_size}
 use Rattle.poolcc.proofs.text.accept.Goals as goal
