@@ -1,0 +1,231 @@
+// The literals of a program, in the order of its text (C17 6.4.5).
+
+ghost use Rattle.std.specs.Prelude.{◌≡◌, IfOk, OnOk, map};
+ghost use Rattle.c_syntax.specs.Views.{expr_tree, value_tree, init_tree, init_declarator_tree, declaration_tree, for_tree, stmt_tree, block_of, switch_of, program_tree};
+ghost use Rattle.c_typed.specs.DefinitionViews.{literal_of};
+ghost use Rattle.c_rules.specs.Elaborated as rules;
+ghost use Rattle.c_outline.specs.Lists.{AddsLiterals};
+
+use c_syntax::{
+    BlockItem, Declaration, Expr, ForFirst, Init, InitDeclarator, Item, Program, Stmt, SwitchItem,
+};
+use c_typed::{ByteString, LiteralDef};
+use std::alloc::{AllocError, Global};
+
+/// The literals of a program. Those in lengths and types of declarators are none.
+pub fn literals_of(alloc: Global, program: &Program) -> Result<Vec<LiteralDef>, AllocError>
+    ensures { IfOk result (λ made. map literal_of made.items ≡ rules.literals_in_items (program_tree program.now).items) }
+{
+    let mut literals = Literals {
+        alloc,
+        found: Vec::new(alloc),
+    };
+    for item in program.items.as_slice() {
+        match item {
+            Item::Declaration { declarators, .. } => {
+                literals.of_declarators(declarators.as_slice())?;
+            }
+            Item::Function { body, .. } => literals.of_block(body.items.as_slice())?,
+        }
+    }
+    Ok(literals.found)
+}
+
+#[derive(Drop)]
+struct Literals {
+    alloc: Global,
+    found: Vec<LiteralDef>,
+}
+
+impl Literals {
+    fn of_expr(&mut self, tree: &Expr) -> Result<(), AllocError>
+        ensures { OnOk result (AddsLiterals (rules.literals_in (expr_tree tree.now)) self.old.found.items self.new.found.items) }
+    {
+        match tree {
+            Expr::Literal { bytes, place } => {
+                self.found.push(LiteralDef {
+                    place: *place,
+                    bytes: ByteString::from_slice(self.alloc, bytes.as_slice())?,
+                })?;
+                Ok(())
+            }
+            Expr::Parenthesized { inner, .. } => self.of_expr(inner),
+            Expr::Index { array, index } => {
+                self.of_expr(array)?;
+                self.of_expr(index)
+            }
+            Expr::Call {
+                function,
+                arguments,
+                ..
+            } => {
+                self.of_expr(function)?;
+                for argument in arguments.as_slice() {
+                    self.of_expr(argument)?;
+                }
+                Ok(())
+            }
+            Expr::Member { object, .. } => self.of_expr(object),
+            Expr::PointerMember { pointer, .. } => self.of_expr(pointer),
+            Expr::PostIncrement { operand } => self.of_expr(operand),
+            Expr::PostDecrement { operand } => self.of_expr(operand),
+            Expr::Prefix { operand, .. } => self.of_expr(operand),
+            Expr::Cast { operand, .. } => self.of_expr(operand),
+            Expr::Binary { left, right, .. } => {
+                self.of_expr(left)?;
+                self.of_expr(right)
+            }
+            Expr::Conditional {
+                condition,
+                then,
+                otherwise,
+            } => {
+                self.of_expr(condition)?;
+                self.of_expr(then)?;
+                self.of_expr(otherwise)
+            }
+            Expr::Assign { object, value, .. } => {
+                self.of_expr(object)?;
+                self.of_expr(value)
+            }
+            _ => Ok(()),
+        }
+    }
+
+    fn of_value(&mut self, value: &Option<Expr>) -> Result<(), AllocError>
+        ensures { OnOk result (AddsLiterals (rules.literals_in_value (value_tree value.now)) self.old.found.items self.new.found.items) }
+    {
+        match value {
+            Some(value) => self.of_expr(value),
+            None => Ok(()),
+        }
+    }
+
+    fn of_init(&mut self, init: &Init) -> Result<(), AllocError>
+        ensures { OnOk result (AddsLiterals (rules.literals_in_init (init_tree init.now)) self.old.found.items self.new.found.items) }
+    {
+        match init {
+            Init::Value(value) => self.of_expr(value),
+            Init::List { inits, .. } => {
+                for init in inits.as_slice() {
+                    self.of_init(init)?;
+                }
+                Ok(())
+            }
+        }
+    }
+
+    fn of_declarators(&mut self, declarators: &[InitDeclarator]) -> Result<(), AllocError>
+        ensures { OnOk result (AddsLiterals (rules.literals_in_declarators (map init_declarator_tree declarators.now)) self.old.found.items self.new.found.items) }
+    {
+        for declarator in declarators {
+            if let Some(init) = &declarator.init {
+                self.of_init(init)?;
+            }
+        }
+        Ok(())
+    }
+
+    fn of_declaration(&mut self, declaration: &Declaration) -> Result<(), AllocError>
+        ensures { OnOk result (AddsLiterals (rules.literals_in_declarators (declaration_tree declaration.now).declarators) self.old.found.items self.new.found.items) }
+    {
+        self.of_declarators(declaration.declarators.as_slice())
+    }
+
+    fn of_start(&mut self, first: &ForFirst) -> Result<(), AllocError>
+        ensures { OnOk result (AddsLiterals (rules.literals_in_start (for_tree first.now)) self.old.found.items self.new.found.items) }
+    {
+        match first {
+            ForFirst::Nothing => Ok(()),
+            ForFirst::Expression(value) => self.of_expr(value),
+            ForFirst::Declaration(declaration) => self.of_declaration(declaration),
+        }
+    }
+
+    #[cycle(stmt)]
+    fn of_stmt(&mut self, stmt: &Stmt) -> Result<(), AllocError>
+        ensures { OnOk result (AddsLiterals (rules.literals_in_stmt (stmt_tree stmt.now)) self.old.found.items self.new.found.items) }
+    {
+        match stmt {
+            Stmt::Block(block) => self.of_block(block.items.as_slice()),
+            Stmt::Expression(value) => self.of_expr(value),
+            Stmt::If {
+                condition,
+                then,
+                ..
+            } => {
+                self.of_expr(condition)?;
+                self.of_stmt(then)
+            }
+            Stmt::IfElse {
+                condition,
+                then,
+                otherwise,
+                ..
+            } => {
+                self.of_expr(condition)?;
+                self.of_stmt(then)?;
+                self.of_stmt(otherwise)
+            }
+            Stmt::While {
+                condition,
+                body,
+                ..
+            } => {
+                self.of_expr(condition)?;
+                self.of_stmt(body)
+            }
+            Stmt::Do {
+                body,
+                condition,
+                ..
+            } => {
+                self.of_stmt(body)?;
+                self.of_expr(condition)
+            }
+            Stmt::For {
+                first,
+                condition,
+                step,
+                body,
+                ..
+            } => {
+                self.of_start(first)?;
+                self.of_value(condition)?;
+                self.of_value(step)?;
+                self.of_stmt(body)
+            }
+            Stmt::Switch { value, items, .. } => {
+                self.of_expr(value)?;
+                self.of_switch(items.as_slice())
+            }
+            Stmt::Return { value, .. } => self.of_value(value),
+            _ => Ok(()),
+        }
+    }
+
+    #[cycle(stmt)]
+    fn of_block(&mut self, items: &[BlockItem]) -> Result<(), AllocError>
+        ensures { OnOk result (AddsLiterals (rules.literals_in_block (block_of items.now)) self.old.found.items self.new.found.items) }
+    {
+        for item in items {
+            match item {
+                BlockItem::Declaration(declaration) => self.of_declaration(declaration)?,
+                BlockItem::Statement(stmt) => self.of_stmt(stmt)?,
+            }
+        }
+        Ok(())
+    }
+
+    #[cycle(stmt)]
+    fn of_switch(&mut self, items: &[SwitchItem]) -> Result<(), AllocError>
+        ensures { OnOk result (AddsLiterals (rules.literals_in_switch (switch_of items.now)) self.old.found.items self.new.found.items) }
+    {
+        for item in items {
+            if let SwitchItem::Statement(stmt) = item {
+                self.of_stmt(stmt)?;
+            }
+        }
+        Ok(())
+    }
+}
