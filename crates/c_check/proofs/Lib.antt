@@ -1,0 +1,11 @@
+pub mod Naming
+pub mod Giving
+pub mod Passing
+pub mod Standing
+pub mod Nodes
+pub mod Calls
+pub mod Choices
+pub mod Suffixed
+pub mod Parameters
+pub mod Deriving
+pub mod ParameterNames
