@@ -1,0 +1,7 @@
+mod Totals
+mod Weights
+mod SmallSizes
+mod StatementItems
+mod FirstAbove
+mod LimitOrder
+mod NoLocals
