@@ -1,0 +1,13 @@
+use Rattle.std.proofs.Common.{drop}
+use Rattle.c_syntax.specs.Views.{inits_of}
+use Rattle.c_rules.specs.Initializers as rules
+use Rattle.c_rules.specs.NameTables.{scope_of}
+use Rattle.c_types.specs.NamedItems.{named_in_inits}
+use Rattle.c_types.proofs.Firsts.{Passed}
+use Rattle.c_types.proofs.initializers.+within.Given as goal
+
+-- What was passed so far, and then what is left, is what all have.
+abbrev pub invariant-found_within_all-loop-init : goal.invariant-found_within_all-loop-init
+invariant-found_within_all-loop-init l =
+    Passed (rules.found_within_all (scope_of l.fn.pass.checker) (inits_of l.inits)) (rules.found_within_all (scope_of l.fn.pass.checker) (inits_of (drop l.init-index l.inits)))
+    (named_in_inits (scope_of l.fn.pass.checker) (inits_of l.inits)) (named_in_inits (scope_of l.fn.pass.checker) (inits_of (drop l.init-index l.inits))) l.fn.pass l.pass

@@ -1,0 +1,38 @@
+use Rattle.std.proofs.Common.{[], Option, Some, option_map, sym, subst}
+use Rattle.c_syntax.specs.declared.declaration.Init as memory_init
+use Rattle.c_syntax.specs.Views.{init_tree}
+use Rattle.c_typed.specs.Table.{type_in}
+use Rattle.c_rules.specs.Elaborated.{first_held}
+use Rattle.c_rules.specs.Finding.{each_in}
+use Rattle.c_rules.specs.NameTables.{scope_of}
+use Rattle.c_rules.specs.Programs.{first_rules}
+use Rattle.c_check.specs.declared.pass.Pass.{Pass}
+use Rattle.c_types.specs.declared.initializers.Target.{Target}
+use Rattle.c_types.specs.Made.{Makes, IsFirst}
+use Rattle.c_types.specs.NamedItems.{named_in_first}
+use Rattle.c_types.proofs.VariableNumbers.{option-none}
+use Rattle.c_types.proofs.OutsideMade.{first-none, first-some}
+use Rattle.c_types.proofs.items.first_values.Goals.{in-Some+in_ok-first_of, in_default}
+use Rattle.c_types.proofs.items.first_values.Goals as goal
+
+pub first_of-requires : goal.first_of-requires
+first_of-requires c = c.requires
+
+pub returns : goal.returns
+returns c =
+    let s = c.args.pass.now in
+    let scope = scope_of s.checker in
+    let known = each_in type_in s.checker.table c.args.c_type in
+    let target : Target = record { parts = c.new.result; first = c.new-2.result } in
+    elim c.match-init.branch [
+      | in-Some+in_ok-first_of w ↦
+          subst (λ (o : Option memory_init.Init). Makes IsFirst (first_rules scope known (option_map init_tree o)) (first_held scope known (option_map init_tree o)) (named_in_first scope (option_map init_tree o)) scope s c.match-init.pass c.match-init.target.first) (sym w.in-Some.is)
+          (subst (λ (p : Pass). Makes IsFirst (first_rules scope known (Some (init_tree w.in-Some.init))) (first_held scope known (Some (init_tree w.in-Some.init))) (named_in_first scope (Some (init_tree w.in-Some.init))) scope s p c.match-init.target.first) (sym w.pass-is)
+          (subst (λ (t : Target). Makes IsFirst (first_rules scope known (Some (init_tree w.in-Some.init))) (first_held scope known (Some (init_tree w.in-Some.init))) (named_in_first scope (Some (init_tree w.in-Some.init))) scope s w.first_of.new.pass t.first) (sym w.target-is)
+          (first-some known (init_tree w.in-Some.init) target w.first_of.new.target c.new.ensures.items c.new-2.ensures.items w.in_ok-first_of.ensures.found w.in_ok-first_of.ensures.held)))
+      | in_default w ↦
+          subst (λ (o : Option memory_init.Init). Makes IsFirst (first_rules scope known (option_map init_tree o)) (first_held scope known (option_map init_tree o)) (named_in_first scope (option_map init_tree o)) scope s c.match-init.pass c.match-init.target.first) (sym (option-none c.args.init.now w.in_default.not-Some))
+          (subst (λ (p : Pass). Makes IsFirst [] [] [] scope s p c.match-init.target.first) (sym w.pass-is)
+          (subst (λ (t : Target). Makes IsFirst [] [] [] scope s s t.first) (sym w.target-is)
+          (first-none c.new-2.result c.new-2.ensures.items)))
+    ]

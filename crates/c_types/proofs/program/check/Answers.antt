@@ -1,0 +1,97 @@
+use Rattle.std.proofs.Common.{◌+◌, List, map, drop, refl, sym, ap, subst, ◌∙◌}
+use Rattle.c_syntax.specs.declared.declaration.Item.{Item}
+use Rattle.c_syntax.specs.Views.{program_tree, item_tree}
+use Rattle.c_typed.specs.declared.definition.Program as memory_program
+use Rattle.c_rules.specs.NameTables.{State}
+use Rattle.c_rules.specs.Programs.{violations}
+use Rattle.c_check.specs.declared.pass.Pass.{Pass}
+use Rattle.c_outline.specs.Lists.{with_outline}
+use Rattle.c_types.proofs.DeclaredMembers.{trees-next, trees-end}
+use Rattle.c_types.proofs.VariableNumbers.{option-none}
+use Rattle.c_types.proofs.ProgramRead.{Reading, reading-start, reading-step, reading-end, refusal-noted, least-none, typed-whole, whole-stands, named-whole, not-refused, refused-same}
+use Rattle.c_types.proofs.program.check.Goals as goal
+
+pub returns-in_err-outermost-clause-refused : goal.returns-in_err-outermost-clause-refused
+returns-in_err-outermost-clause-refused c = λ violation h. not-refused c.from_residual.result violation c.from_residual.ensures.1 h
+
+pub loop-tree-init : goal.loop-tree-init
+loop-tree-init c =
+    let program = program_tree c.args.program.now in
+    let pass : Pass = record c.new-pass.result { checker = c.outermost.new.checker } in
+    subst (λ (items : List Item). Reading program (map item_tree items) pass c.new-defined.result) (sym c.as_slice-tree-items.ensures.value)
+    (reading-start program pass c.new-defined.result (c.in_ok-outermost.ensures ∙ ap (with_outline program.items) c.new-pass.ensures.checker) c.new-pass.ensures.named c.new-defined.ensures.globals c.new-defined.ensures.functions)
+
+pub item-requires : goal.item-requires
+item-requires c = c.loop-tree.invariant.outside
+
+pub returns-in_err-item-clause-refused : goal.returns-in_err-item-clause-refused
+returns-in_err-item-clause-refused c = λ violation h. not-refused c.from_residual-in_err-item.result violation c.from_residual-in_err-item.ensures.1 h
+
+pub loop-tree-preserved : goal.loop-tree-preserved
+loop-tree-preserved c =
+    let slice = c.as_slice-tree-items.result.now in
+    let index = c.loop-tree.tree-index in
+    reading-step (program_tree c.args.program.now) (map item_tree (drop index slice)) (map item_tree (drop (index + 1) slice)) (item_tree c.tree-item.result) c.loop-tree.pass c.item.new.pass c.loop-tree.defined c.item.new.defined
+    (trees-next item_tree slice slice refl index c.tree-item.result c.loop-tree-test.true c.tree-item.is) c.in_ok-item.ensures.reaches c.in_ok-item.ensures.defined c.loop-tree.invariant
+
+pub returns-in-Some-clause-refused : goal.returns-in-Some-clause-refused
+returns-in-Some-clause-refused c = λ violation h.
+    let program = program_tree c.args.program.now in
+    let slice = c.as_slice-tree-items.result.now in
+    let index = c.loop-tree.tree-index in
+    let pass = c.loop-tree.pass in
+    let defined = c.loop-tree.defined in
+    let read = reading-end program (map item_tree (drop index slice)) pass defined (trees-end item_tree slice slice refl index c.loop-tree-test.false) c.loop-tree.invariant in
+    refused-same program c.least.result c.in-Some.violation violation (c.least.ensures ∙ refusal-noted program pass defined c.require.new.self c.defines-has_main.result read c.defines-has_main.ensures c.require.ensures.noted) c.in-Some.is h
+
+pub returns-in_err-completed_by-clause-refused : goal.returns-in_err-completed_by-clause-refused
+returns-in_err-completed_by-clause-refused c = λ violation h. not-refused c.from_residual-in_err-completed_by.result violation c.from_residual-in_err-completed_by.ensures.1 h
+
+pub returns-in_err-literals_of-clause-refused : goal.returns-in_err-literals_of-clause-refused
+returns-in_err-literals_of-clause-refused c = λ violation h. not-refused c.from_residual-in_err-literals_of.result violation c.from_residual-in_err-literals_of.ensures.1 h
+
+pub returns-clause-accepted : goal.returns-clause-accepted
+returns-clause-accepted c =
+    let program = program_tree c.args.program.now in
+    let slice = c.as_slice-tree-items.result.now in
+    let index = c.loop-tree.tree-index in
+    let pass = c.loop-tree.pass in
+    let defined = c.loop-tree.defined in
+    let read = reading-end program (map item_tree (drop index slice)) pass defined (trees-end item_tree slice slice refl index c.loop-tree-test.false) c.loop-tree.invariant in
+    let refusal-is = refusal-noted program pass defined c.require.new.self c.defines-has_main.result read c.defines-has_main.ensures c.require.ensures.noted in
+    least-none (violations program) (sym refusal-is ∙ sym c.least.ensures ∙ option-none c.least.result c.in_default.not-Some)
+
+pub returns-clause-typed : goal.returns-clause-typed
+returns-clause-typed c =
+    let program = program_tree c.args.program.now in
+    let slice = c.as_slice-tree-items.result.now in
+    let index = c.loop-tree.tree-index in
+    let pass = c.loop-tree.pass in
+    let defined = c.loop-tree.defined in
+    let read = reading-end program (map item_tree (drop index slice)) pass defined (trees-end item_tree slice slice refl index c.loop-tree-test.false) c.loop-tree.invariant in
+    let types = c.into_types.ensures ∙ ap (λ (state : State). state.table) c.require.ensures.noted in
+    let p : memory_program.Program = record { types = c.into_types.result; completed = c.in_ok-completed_by.field-0; globals = c.into_vec.result; literals = c.in_ok-literals_of.field-0; functions = defined.functions } in
+    typed-whole program pass defined p read types c.in_ok-completed_by.ensures c.into_vec.ensures c.in_ok-literals_of.ensures refl
+
+pub returns-clause-named : goal.returns-clause-named
+returns-clause-named c =
+    let program = program_tree c.args.program.now in
+    let slice = c.as_slice-tree-items.result.now in
+    let index = c.loop-tree.tree-index in
+    let pass = c.loop-tree.pass in
+    let defined = c.loop-tree.defined in
+    let read = reading-end program (map item_tree (drop index slice)) pass defined (trees-end item_tree slice slice refl index c.loop-tree-test.false) c.loop-tree.invariant in
+    let types = c.into_types.ensures ∙ ap (λ (state : State). state.table) c.require.ensures.noted in
+    (named-whole program pass defined c.into_types.result read types).1
+
+pub returns-clause-stands : goal.returns-clause-stands
+returns-clause-stands c =
+    let program = program_tree c.args.program.now in
+    let slice = c.as_slice-tree-items.result.now in
+    let index = c.loop-tree.tree-index in
+    let pass = c.loop-tree.pass in
+    let defined = c.loop-tree.defined in
+    let read = reading-end program (map item_tree (drop index slice)) pass defined (trees-end item_tree slice slice refl index c.loop-tree-test.false) c.loop-tree.invariant in
+    let types = c.into_types.ensures ∙ ap (λ (state : State). state.table) c.require.ensures.noted in
+    let p : memory_program.Program = record { types = c.into_types.result; completed = c.in_ok-completed_by.field-0; globals = c.into_vec.result; literals = c.in_ok-literals_of.field-0; functions = defined.functions } in
+    (whole-stands program pass defined p read types c.into_vec.ensures refl, (named-whole program pass defined c.into_types.result read types).0)

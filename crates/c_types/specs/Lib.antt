@@ -1,0 +1,6 @@
+pub mod Made
+pub mod NamedItems
+pub mod Parts
+pub mod FirstValues
+pub mod Globals
+pub mod Outside

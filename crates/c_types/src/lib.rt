@@ -1,0 +1,17 @@
+//! The checker of the whole language: which type rules a program violates, and its typed tree (C17
+//! 6.7 to 6.9).
+#![tactic(auto)]
+
+mod declarations;
+mod defined;
+mod initializers;
+mod items;
+mod labels;
+mod parameters;
+mod program;
+mod scalars;
+mod statements;
+mod structures;
+mod values;
+
+pub use program::{TypeErr, Typed, check};

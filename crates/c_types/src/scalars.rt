@@ -1,0 +1,211 @@
+// First values of scalars outside functions, which are constant (C17 6.7.9 paragraph 4).
+
+ghost use Rattle.std.specs.Prelude.{◌≡◌, ◌++◌, nat_le, [], Some, OnOk, length as count};
+ghost use Rattle.c_syntax.specs.Trees as Trees;
+ghost use Rattle.c_syntax.specs.Views.{expr_tree};
+ghost use Rattle.c_typed.specs.Types as T;
+ghost use Rattle.c_typed.specs.Table.{Stands, type_in};
+ghost use Rattle.c_typed.specs.DefinitionViews.{scalar_of};
+ghost use Rattle.c_rules.specs.declared.rule.TypeRule.TheVariants as R;
+ghost use Rattle.c_rules.specs.Known.{unless, at};
+ghost use Rattle.c_rules.specs.Initializers as rules;
+ghost use Rattle.c_rules.specs.Elaborated as elaborated;
+ghost use Rattle.c_rules.specs.Finding.{noted};
+ghost use Rattle.c_rules.specs.NameTables.{scope_of};
+ghost use Rattle.c_operators.specs.Operands.{OperandStands, operand_in};
+ghost use Rattle.c_check.specs.Named.{named_in};
+ghost use Rattle.c_types.specs.Made.{Covers};
+ghost use Rattle.c_types.specs.FirstValues.{Holds, scalar_found};
+
+use crate::initializers::Target;
+use crate::values::value;
+use c_check::{Pass, is_character, place_of};
+use c_num::{IntType, convert};
+use c_operators::{Operand, fits, retyped};
+use c_rules::{Address, Checker, Constness, TypeRule};
+use c_syntax::{ByteString, Expr};
+use c_typed::{CType, First, Held, Part, Scalar, Shape};
+use run_theory::Pos;
+use std::alloc::AllocError;
+
+/// An expression as the first value of a global, an element or a member of a type.
+pub(crate) fn value_first(
+    pass: &mut Pass,
+    target: &mut Target,
+    index: u64,
+    c_type: CType,
+    tree: &Expr,
+) -> Result<(), AllocError>
+    requires { Stands pass.old.checker.table c_type }
+    ensures found { OnOk result (Covers (rules.value_first (scope_of pass.old.checker) (type_in pass.old.checker.table c_type) (expr_tree tree.now)) (named_in (scope_of pass.old.checker) (expr_tree tree.now)) (scope_of pass.old.checker) pass.old pass.new) }
+    ensures held { OnOk result (Holds (elaborated.value_held (scope_of pass.old.checker) target.old.parts.items index (type_in pass.old.checker.table c_type) (expr_tree tree.now)) target.old target.new) }
+{
+    match pass.checker.shape(c_type) {
+        Shape::Array { element, length } => array_first(pass, target, index, element, length, tree),
+        Shape::Struct(_) => refused_first(pass, TypeRule::T18, tree),
+        Shape::Function { .. } => refused_first(pass, TypeRule::T10, tree),
+        _ => {
+            let place = place_of(tree);
+            match value(pass, tree)? {
+                Some(operand) => scalar_first(pass, target, index, place, c_type, operand),
+                None => Ok(()),
+            }
+        }
+    }
+}
+
+/// An expression as the first value of an array: only a literal is one, of an array of characters.
+fn array_first(
+    pass: &mut Pass,
+    target: &mut Target,
+    index: u64,
+    element: CType,
+    length: u64,
+    tree: &Expr,
+) -> Result<(), AllocError>
+    requires { Stands pass.old.checker.table element }
+    ensures found { OnOk result (Covers (rules.value_first (scope_of pass.old.checker) (T.Array (type_in pass.old.checker.table element) length) (expr_tree tree.now)) (named_in (scope_of pass.old.checker) (expr_tree tree.now)) (scope_of pass.old.checker) pass.old pass.new) }
+    ensures held { OnOk result (Holds (elaborated.value_held (scope_of pass.old.checker) target.old.parts.items index (T.Array (type_in pass.old.checker.table element) length) (expr_tree tree.now)) target.old target.new) }
+{
+    match tree {
+        Expr::Literal { bytes, place } => {
+            if is_character(&pass.checker, element) {
+                text_first(pass, target, index, element, length, bytes, *place)
+            } else {
+                refused_first(pass, TypeRule::T18, tree)
+            }
+        }
+        _ => refused_first(pass, TypeRule::T18, tree),
+    }
+}
+
+/// An expression as the first value of what no expression initializes.
+fn refused_first(pass: &mut Pass, kind: TypeRule, tree: &Expr) -> Result<(), AllocError>
+    ensures { OnOk result (Covers (rules.value_found (scope_of pass.old.checker) (expr_tree tree.now) ++ at kind (rules.init_place (Trees.InitValue (expr_tree tree.now)))) (named_in (scope_of pass.old.checker) (expr_tree tree.now)) (scope_of pass.old.checker) pass.old pass.new) }
+{
+    let place = place_of(tree);
+    value(pass, tree)?;
+    pass.checker.note(kind, place);
+    Ok(())
+}
+
+/// A literal as the first bytes of an array of characters; the final zero may be cut off.
+pub(crate) fn text_first(
+    pass: &mut Pass,
+    target: &mut Target,
+    index: u64,
+    element: CType,
+    length: u64,
+    bytes: &ByteString,
+    place: Pos,
+) -> Result<(), AllocError>
+    requires { Stands pass.old.checker.table element }
+    ensures found { OnOk result (Covers (unless (nat_le (count bytes.now) length) R.T18 place) [] (scope_of pass.old.checker) pass.old pass.new) }
+    ensures held { OnOk result (Holds (elaborated.text_held target.old.parts.items index (type_in pass.old.checker.table element) length bytes.now) target.old target.new) }
+{
+    let bytes = bytes.as_slice();
+    let has_room = bytes.len() as u64 <= length;
+    if !pass.checker.require(has_room, TypeRule::T18, place) {
+        return Ok(());
+    }
+    let mut parts = target.parts_here(pass.alloc())?;
+    parts.push(Part::Elements { index })?;
+    target.first.push(First::Text {
+        parts,
+        int_type: character_type(&pass.checker, element),
+        bytes: ByteString::from_slice(pass.alloc(), bytes)?,
+    })?;
+    Ok(())
+}
+
+fn character_type(checker: &Checker, element: CType) -> IntType
+    requires { Stands checker.now.table element }
+    ensures { result ≡ elaborated.character_type (type_in checker.now.table element) }
+{
+    match checker.shape(element) {
+        Shape::Integer(int_type) => int_type,
+        _ => IntType::Char,
+    }
+}
+
+/// A value as the first of a scalar.
+fn scalar_first(
+    pass: &mut Pass,
+    target: &mut Target,
+    index: u64,
+    place: Pos,
+    c_type: CType,
+    operand: Operand,
+) -> Result<(), AllocError>
+    requires c_type { Stands pass.old.checker.table c_type }
+    requires operand { OperandStands pass.old.checker.table operand }
+    ensures found { OnOk result (Covers (scalar_found (scope_of pass.old.checker) place (type_in pass.old.checker.table c_type) (operand_in pass.old.checker.table operand)) [] (scope_of pass.old.checker) pass.old pass.new) }
+    ensures held { OnOk result (Holds (elaborated.scalar_held (scope_of pass.old.checker) target.old.parts.items index (type_in pass.old.checker.table c_type) (Some (operand_in pass.old.checker.table operand))) target.old target.new) }
+{
+    let fits = fits(&pass.checker, c_type, &operand);
+    if !pass.checker.require(fits, TypeRule::T10, place) {
+        return Ok(());
+    }
+    let value = match pass.checker.shape(c_type) {
+        Shape::Integer(int_type) => {
+            integer_first(&mut pass.checker, place, int_type, operand.constness)
+        }
+        Shape::Pointer(pointed) => pointer_first(&mut pass.checker, place, pointed, operand),
+        _ => return Ok(()),
+    };
+    let parts = target.parts_here(pass.alloc())?;
+    target.first.push(First::Scalar(Held {
+        parts,
+        index,
+        value,
+    }))?;
+    Ok(())
+}
+
+/// An integer constant expression (C17 6.6 paragraph 6).
+fn integer_first(
+    checker: &mut Checker,
+    place: Pos,
+    int_type: IntType,
+    constness: Constness,
+) -> Scalar
+    ensures found { checker.new ≡ record checker.old { least = noted checker.old.least (rules.constant_first place constness) } }
+    ensures value { scalar_of result ≡ elaborated.integer_first int_type constness }
+{
+    match constness {
+        Constness::Constant(number) => return Scalar::Integer(convert(number, int_type)),
+        Constness::NotConstant => checker.note(TypeRule::T17, place),
+        Constness::Undefined => checker.note(TypeRule::T24, place),
+    }
+    Scalar::Integer(0)
+}
+
+/// An address constant (C17 6.6 paragraph 9).
+fn pointer_first(checker: &mut Checker, place: Pos, pointed: CType, operand: Operand) -> Scalar
+    requires pointed { Stands checker.old.table pointed }
+    requires operand { OperandStands checker.old.table operand }
+    ensures found { checker.new ≡ record checker.old { least = noted checker.old.least (rules.known_first (scope_of checker.old) place (T.Pointer (type_in checker.old.table pointed)) (operand_in checker.old.table operand)) } }
+    ensures value { scalar_of result ≡ elaborated.scalar_of (scope_of checker.old) (T.Pointer (type_in checker.old.table pointed)) (operand_in checker.old.table operand) }
+{
+    if operand.is_null {
+        return Scalar::Null;
+    }
+    match retyped(checker, pointed, operand.address) {
+        Address::Null => Scalar::Null,
+        Address::Function(name) => Scalar::Function(name),
+        Address::Element {
+            root,
+            parts,
+            index,
+            ..
+        } => Scalar::Pointer { root, parts, index },
+        Address::Unknown => {
+            checker.note(TypeRule::T17, place);
+            Scalar::Null
+        }
+        Address::Outside => {
+            checker.note(TypeRule::T24, place);
+            Scalar::Null
+        }
+    }
+}

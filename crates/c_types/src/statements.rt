@@ -1,0 +1,287 @@
+// Statements and blocks (C17 6.8).
+
+ghost use Rattle.std.specs.Prelude.{◌≡◌, [], false, true, IfOk, OnOk};
+ghost use Rattle.run_theory.specs.declared.ends.Pos.{Pos};
+ghost use Rattle.c_syntax.specs.Trees as Trees;
+ghost use Rattle.c_syntax.specs.Views.{stmt_tree, value_tree, for_tree, block_of, switch_of};
+ghost use Rattle.c_typed.specs.Table.{Stands, type_in};
+ghost use Rattle.c_rules.specs.Statements as rules;
+ghost use Rattle.c_rules.specs.Elaborated as elaborated;
+ghost use Rattle.c_rules.specs.Finding.{AllStand, each_in};
+ghost use Rattle.c_rules.specs.NameTables.{scope_of};
+ghost use Rattle.c_types.specs.NamedItems.{named_in_stmt, named_in_start, named_in_block, named_in_switch};
+ghost use Rattle.c_types.specs.Made.{Covers, Makes, IsStmt, IsStart, IsBlock, IsSwitchItems, AddsItems};
+ghost use Rattle.c_types.specs.Parts.{around_in, behind_block, item_found, item_named, item_adds, item_scope, part_found, part_named, part_labels, part_default, part_adds, IsPart, SameLabels};
+
+use crate::declarations::{block_declaration, declaration_locals};
+use crate::labels::{Labels, converted_label};
+use crate::values::{
+    condition, constant_of, optional_condition, optional_unused, returned, switched, unused,
+};
+use c_check::Pass;
+use c_num::IntType;
+use c_rules::TypeRule;
+use c_syntax::{BlockItem, Expr, ForFirst, Stmt, SwitchItem};
+use c_typed as typed;
+use c_typed::CType;
+use std::alloc::AllocError;
+
+/// What surrounds a statement: the result of its function, where that has a type, and whether `break` and `continue` may
+/// stand there (C17 6.8.6).
+#[derive(Clone, Copy, Debug, PartialEq, Eq)]
+pub(crate) struct Around {
+    pub(crate) returned: Option<CType>,
+    pub(crate) may_break: bool,
+    pub(crate) may_continue: bool,
+}
+
+impl Around {
+    fn within_loop(self) -> Around
+        ensures { result ≡ record self { may_break = true; may_continue = true } }
+    {
+        Around {
+            may_break: true,
+            may_continue: true,
+            ..self
+        }
+    }
+
+    fn within_switch(self) -> Around
+        ensures { result ≡ record self { may_break = true } }
+    {
+        Around {
+            may_break: true,
+            ..self
+        }
+    }
+}
+
+/// A statement: what it violates, and its typed tree.
+#[cycle(stmt)]
+fn statement(pass: &mut Pass, around: Around, stmt: &Stmt) -> Result<typed::Stmt, AllocError>
+    requires { AllStand Stands pass.old.checker.table around.returned }
+    ensures { IfOk result (Makes IsStmt (rules.stmt (scope_of pass.old.checker) (around_in pass.old.checker.table around) (stmt_tree stmt.now)) (elaborated.stmt_of (scope_of pass.old.checker) (each_in type_in pass.old.checker.table around.returned) (stmt_tree stmt.now)) (named_in_stmt (scope_of pass.old.checker) (stmt_tree stmt.now)) (scope_of pass.old.checker) pass.old pass.new) }
+{
+    let alloc = pass.alloc();
+    match stmt {
+        Stmt::Block(block) => block_stmt(pass, around, block.items.as_slice()),
+        Stmt::Empty { .. } => Ok(typed::Stmt::Empty),
+        Stmt::Expression(value) => Ok(typed::Stmt::Expression(unused(pass, value)?)),
+        Stmt::If {
+            condition: tested,
+            then,
+            ..
+        } => {
+            let condition = condition(pass, tested)?;
+            let then = Box::new(alloc, statement(pass, around, then)?)?;
+            Ok(typed::Stmt::If { condition, then })
+        }
+        Stmt::IfElse {
+            condition: tested,
+            then,
+            otherwise,
+            ..
+        } => {
+            let condition = condition(pass, tested)?;
+            let then = Box::new(alloc, statement(pass, around, then)?)?;
+            let otherwise = Box::new(alloc, statement(pass, around, otherwise)?)?;
+            Ok(typed::Stmt::IfElse {
+                condition,
+                then,
+                otherwise,
+            })
+        }
+        Stmt::While {
+            condition: tested,
+            body,
+            ..
+        } => {
+            let condition = condition(pass, tested)?;
+            let body = Box::new(alloc, statement(pass, around.within_loop(), body)?)?;
+            Ok(typed::Stmt::While { condition, body })
+        }
+        Stmt::Do {
+            body,
+            condition: tested,
+            ..
+        } => {
+            let body = Box::new(alloc, statement(pass, around.within_loop(), body)?)?;
+            let condition = condition(pass, tested)?;
+            Ok(typed::Stmt::DoWhile { body, condition })
+        }
+        Stmt::For {
+            first,
+            condition,
+            step,
+            body,
+            ..
+        } => for_stmt(pass, around, first, condition, step, body),
+        Stmt::Switch { value, items, .. } => {
+            let (value, int_type) = switched(pass, value)?;
+            let items = switch_items(pass, around.within_switch(), int_type, items.as_slice())?;
+            Ok(typed::Stmt::Switch { value, items })
+        }
+        Stmt::Break { place } => {
+            pass.checker
+                .require(around.may_break, TypeRule::T20, *place);
+            Ok(typed::Stmt::Break)
+        }
+        Stmt::Continue { place } => {
+            pass.checker
+                .require(around.may_continue, TypeRule::T20, *place);
+            Ok(typed::Stmt::Continue)
+        }
+        Stmt::Return { place, value } => {
+            let value = returned(pass, around.returned, *place, value)?;
+            Ok(typed::Stmt::Return(value))
+        }
+    }
+}
+
+/// A block, whose names are in scope in it alone (C17 6.8.2).
+#[cycle(stmt)]
+fn block_stmt(
+    pass: &mut Pass,
+    around: Around,
+    items: &[BlockItem],
+) -> Result<typed::Stmt, AllocError>
+    requires { AllStand Stands pass.old.checker.table around.returned }
+    ensures { IfOk result (λ made. (place : Pos) → Makes IsStmt (rules.stmt (scope_of pass.old.checker) (around_in pass.old.checker.table around) (Trees.BlockStmt place (block_of items.now))) (elaborated.stmt_of (scope_of pass.old.checker) (each_in type_in pass.old.checker.table around.returned) (Trees.BlockStmt place (block_of items.now))) (named_in_stmt (scope_of pass.old.checker) (Trees.BlockStmt place (block_of items.now))) (scope_of pass.old.checker) pass.old pass.new made) }
+{
+    let outer = pass.checker.enter();
+    let items = block_items(pass, around, items)?;
+    pass.checker.leave(outer);
+    Ok(typed::Stmt::Block(items))
+}
+
+/// `for`, whose names are in scope in it alone (C17 6.8.5.3).
+#[cycle(stmt)]
+fn for_stmt(
+    pass: &mut Pass,
+    around: Around,
+    first: &ForFirst,
+    condition: &Option<Expr>,
+    step: &Option<Expr>,
+    body: &Stmt,
+) -> Result<typed::Stmt, AllocError>
+    requires { AllStand Stands pass.old.checker.table around.returned }
+    ensures { IfOk result (λ made. (place : Pos) → Makes IsStmt (rules.stmt (scope_of pass.old.checker) (around_in pass.old.checker.table around) (Trees.For place (for_tree first.now) (value_tree condition.now) (value_tree step.now) (stmt_tree body.now))) (elaborated.stmt_of (scope_of pass.old.checker) (each_in type_in pass.old.checker.table around.returned) (Trees.For place (for_tree first.now) (value_tree condition.now) (value_tree step.now) (stmt_tree body.now))) (named_in_stmt (scope_of pass.old.checker) (Trees.For place (for_tree first.now) (value_tree condition.now) (value_tree step.now) (stmt_tree body.now))) (scope_of pass.old.checker) pass.old pass.new made) }
+{
+    let outer = pass.checker.enter();
+    let start = for_start(pass, first)?;
+    let condition = optional_condition(pass, condition)?;
+    let step = optional_unused(pass, step)?;
+    let body = statement(pass, around.within_loop(), body)?;
+    let body = Box::new(pass.alloc(), body)?;
+    pass.checker.leave(outer);
+    Ok(typed::Stmt::For {
+        start,
+        condition,
+        step,
+        body,
+    })
+}
+
+/// What a `for` begins with (C17 6.8.5.3).
+fn for_start(pass: &mut Pass, first: &ForFirst) -> Result<typed::ForStart, AllocError>
+    ensures { IfOk result (Makes IsStart (rules.for_start (scope_of pass.old.checker) (for_tree first.now)).found (elaborated.start_of (scope_of pass.old.checker) (for_tree first.now)) (named_in_start (scope_of pass.old.checker) (for_tree first.now)) (rules.for_start (scope_of pass.old.checker) (for_tree first.now)).scope pass.old pass.new) }
+{
+    match first {
+        ForFirst::Nothing => Ok(typed::ForStart::Nothing),
+        ForFirst::Expression(value) => Ok(typed::ForStart::Value(unused(pass, value)?)),
+        ForFirst::Declaration(declaration) => {
+            Ok(typed::ForStart::Locals(declaration_locals(pass, declaration)?))
+        }
+    }
+}
+
+/// What stands in a block, whose names are in scope behind their declarations.
+#[cycle(stmt)]
+pub(crate) fn block_items(
+    pass: &mut Pass,
+    around: Around,
+    items: &[BlockItem],
+) -> Result<Vec<typed::BlockItem>, AllocError>
+    requires { AllStand Stands pass.old.checker.table around.returned }
+    ensures { IfOk result (Makes IsBlock (rules.block (scope_of pass.old.checker) (around_in pass.old.checker.table around) (block_of items.now)) (elaborated.block_of (scope_of pass.old.checker) (each_in type_in pass.old.checker.table around.returned) (block_of items.now)) (named_in_block (scope_of pass.old.checker) (block_of items.now)) (behind_block (scope_of pass.old.checker) (block_of items.now)) pass.old pass.new) }
+{
+    let mut made = Vec::new(pass.alloc());
+    for item in items {
+        block_item(pass, around, item, &mut made)?;
+    }
+    Ok(made)
+}
+
+/// Adds what an item of a block is to those before it.
+#[cycle(stmt)]
+fn block_item(
+    pass: &mut Pass,
+    around: Around,
+    item: &BlockItem,
+    made: &mut Vec<typed::BlockItem>,
+) -> Result<(), AllocError>
+    requires { AllStand Stands pass.old.checker.table around.returned }
+    ensures covers { OnOk result (Covers (item_found (scope_of pass.old.checker) (around_in pass.old.checker.table around) item.now) (item_named (scope_of pass.old.checker) item.now) (item_scope (scope_of pass.old.checker) item.now) pass.old pass.new) }
+    ensures made { OnOk result (AddsItems (item_adds (scope_of pass.old.checker) (each_in type_in pass.old.checker.table around.returned) item.now) pass.new.checker.table made.old.items made.new.items) }
+{
+    match item {
+        BlockItem::Declaration(declaration) => block_declaration(pass, declaration, made),
+        BlockItem::Statement(stmt) => {
+            let stmt = statement(pass, around, stmt)?;
+            Ok(made.push(typed::BlockItem::Statement(stmt))?)
+        }
+    }
+}
+
+/// What stands in a `switch`. Labels are converted to this type (C17 6.8.4.2 paragraph 5).
+#[cycle(stmt)]
+fn switch_items(
+    pass: &mut Pass,
+    around: Around,
+    int_type: Option<IntType>,
+    items: &[SwitchItem],
+) -> Result<Vec<typed::SwitchItem>, AllocError>
+    requires { AllStand Stands pass.old.checker.table around.returned }
+    ensures { IfOk result (Makes IsSwitchItems (rules.switch_items (scope_of pass.old.checker) (around_in pass.old.checker.table around) int_type [] false (switch_of items.now)) (elaborated.switch_of (scope_of pass.old.checker) (each_in type_in pass.old.checker.table around.returned) int_type (switch_of items.now)) (named_in_switch (scope_of pass.old.checker) (switch_of items.now)) (scope_of pass.old.checker) pass.old pass.new) }
+{
+    let mut labels = Labels::new(pass.alloc());
+    let mut made = Vec::new(pass.alloc());
+    for item in items {
+        let item = switch_item(pass, around, int_type, &mut labels, item)?;
+        made.push(item)?;
+    }
+    Ok(made)
+}
+
+/// One of these, behind these labels.
+#[cycle(stmt)]
+fn switch_item(
+    pass: &mut Pass,
+    around: Around,
+    int_type: Option<IntType>,
+    labels: &mut Labels,
+    item: &SwitchItem,
+) -> Result<typed::SwitchItem, AllocError>
+    requires { AllStand Stands pass.old.checker.table around.returned }
+    ensures made { IfOk result (Makes IsPart (part_found (scope_of pass.old.checker) (around_in pass.old.checker.table around) int_type labels.old.values.keys labels.old.has_default item.now) (part_adds (scope_of pass.old.checker) (each_in type_in pass.old.checker.table around.returned) int_type item.now) (part_named (scope_of pass.old.checker) item.now) (scope_of pass.old.checker) pass.old pass.new) }
+    ensures labels { OnOk result (SameLabels labels.new.values.keys (part_labels (scope_of pass.old.checker) int_type item.now labels.old.values.keys)) }
+    ensures has_default { OnOk result (labels.new.has_default ≡ part_default item.now labels.old.has_default) }
+{
+    match item {
+        SwitchItem::Case { place, value } => {
+            let stated = constant_of(pass, value)?;
+            let label = converted_label(int_type, stated);
+            let is_new = labels.add(label)?;
+            pass.checker.require(is_new, TypeRule::T21, *place);
+            Ok(typed::SwitchItem::Case(label.unwrap_or(0)))
+        }
+        SwitchItem::Default { place } => {
+            let is_first = labels.add_default();
+            pass.checker.require(is_first, TypeRule::T21, *place);
+            Ok(typed::SwitchItem::Default)
+        }
+        SwitchItem::Statement(stmt) => {
+            Ok(typed::SwitchItem::Statement(statement(pass, around, stmt)?))
+        }
+    }
+}
