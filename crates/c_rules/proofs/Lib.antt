@@ -1,7 +1,6 @@
 mod Refusals
-mod Answers
 mod Growing
-mod Named
+pub mod Named
 mod LocalTables
 pub mod Noted
 pub mod Findings

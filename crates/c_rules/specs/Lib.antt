@@ -8,8 +8,6 @@ pub mod Initializers
 pub mod Statements
 pub mod Programs
 pub mod Elaborated
-pub mod Store
-pub mod Meaning
 pub mod Finding
 pub mod NameTables
 pub mod LocalTables

@@ -1,4 +1,4 @@
-//! The type rules of the language and what its programs mean, as definitions (C17 6.2 to 6.9).
+//! The type rules of the language and its typed trees, as definitions (C17 6.2 to 6.9).
 #![tactic(auto)]
 
 mod checker;

@@ -1,8 +1,6 @@
 -- The structures that the items of a program complete, each once.
-use Rattle.std.proofs.Common.{◌≡◌, ℕ, ◌+◌, ◌<◌, ◌≤◌, Bool, true, false, not, ◌||◌, List, [], ◌∷◌, ◌++◌, if◌then◌else◌, map, length, drop, get_or, Vec, refl, sym, ap, ◌∙◌}
-use Rattle.std.proofs.lemmas.Bool.{false≢true}
-use Rattle.std.proofs.lemmas.List.{drop_more, drop_all, map-append}
-use Rattle.std.proofs.lemmas.Slice.Eq.{bytes_eq-Decides}
+use Rattle.std.proofs.Common.{◌≡◌, ℕ, ◌+◌, ◌<◌, ◌≤◌, Bool, true, false, not, List, [], ◌∷◌, ◌++◌, if◌then◌else◌, map, length, drop, get_or, Vec, refl, sym, ap, ◌∙◌}
+use Rattle.std.proofs.lemmas.List.{drop_more, drop_all}
 use Rattle.std.specs.Prelude.{bytes_eq}
 use Rattle.std.specs.List.{list_any}
 use Rattle.indexmap.specs.IndexSet.{insert_key}
@@ -13,38 +11,9 @@ use Rattle.c_syntax.specs.declared.declaration.Item.TheVariants as P
 use Rattle.c_syntax.specs.Views.{base_tree, item_tree}
 use Rattle.c_rules.specs.Names.{contains}
 use Rattle.c_rules.specs.NameTables.{with_once}
+use Rattle.c_rules.specs.Checkers.{names_of}
 use Rattle.c_rules.specs.Programs.{each_once, completed_by, completed_in}
-
--- ---- a set of names
-
--- it doesn't matter which of the two stands first
-bytes_eq-swap : (a b : List ℕ) → bytes_eq a b ≡ bytes_eq b a
-bytes_eq-swap a b = by (bytes_eq a b) (bytes_eq b a) refl refl
-  where
-    by : (l r : Bool) → bytes_eq a b ≡ l → bytes_eq b a ≡ r → l ≡ r
-    by true true e f = refl
-    by false false e f = refl
-    by true false e f = absurd (false≢true (sym f ∙ (bytes_eq-Decides b a).1 (sym ((bytes_eq-Decides a b).0 e))))
-    by false true e f = absurd (false≢true (sym e ∙ (bytes_eq-Decides a b).1 (sym ((bytes_eq-Decides b a).0 f))))
-
-abbrev names_of : {Z : Type 0} → List (Vec ℕ Z) → List (List ℕ)
-names_of keys = map (λ key. key.items) keys
-
-module _ {Z : Type 0} where
-  contains_names : (name : List ℕ) (keys : List (Vec ℕ Z)) → list_any (λ (k : Vec ℕ Z). bytes_eq name k.items) keys ≡ contains (names_of keys) name
-  contains_names name [] = refl
-  contains_names name (key ∷ keys) = λ i. bytes_eq-swap name key.items i || contains_names name keys i
-
-  names_pushed : (b : Bool) (keys : List (Vec ℕ Z)) (key : Vec ℕ Z) → names_of (if b then keys else keys ++ key ∷ []) ≡ (if b then names_of keys else names_of keys ++ key.items ∷ [])
-  names_pushed true keys key = refl
-  names_pushed false keys key = map-append (λ (k : Vec ℕ Z). k.items) keys (key ∷ [])
-
-  -- a name that is added
-  names_with : (keys : List (Vec ℕ Z)) (key : Vec ℕ Z) (name : List ℕ) → key.items ≡ name → names_of (insert_key (λ (a b : Vec ℕ Z). bytes_eq a.items b.items) keys key) ≡ with_once (names_of keys) name
-  names_with keys key name is =
-      names_pushed (list_any (λ (k : Vec ℕ Z). bytes_eq key.items k.items) keys) keys key
-      ∙ ap (λ b. if b then names_of keys else names_of keys ++ key.items ∷ []) (contains_names key.items keys)
-      ∙ ap (with_once (names_of keys)) is
+use Rattle.c_rules.proofs.Named.{contains_names, names_with}
 
 -- ---- items
 

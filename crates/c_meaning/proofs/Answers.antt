@@ -12,7 +12,7 @@ use Rattle.run_theory.specs.declared.ends.UbKind.TheVariants as Ub
 use Rattle.run_theory.specs.Runs.{Over, Ended, Undefined}
 use Rattle.c_rules.specs.Programs.{refusal}
 use Rattle.c_rules.specs.Elaborated.{typed_of}
-use Rattle.c_rules.specs.Meaning.{reference, spent, calls_within, greatest_depth}
+use Rattle.c_meaning.specs.Meaning.{reference, spent, calls_within, greatest_depth}
 
 abbrev at_place : ℕ → ℕ → Pos
 at_place line column = record { line = line; column = column }

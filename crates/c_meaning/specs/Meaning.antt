@@ -33,8 +33,8 @@ use Rattle.c_typed.specs.declared.typed.Stepping.{Stepping}
 use Rattle.c_typed.specs.declared.typed.Stepping.TheVariants as Steppings
 use Rattle.c_typed.specs.declared.part.Part.{Part}
 use Rattle.c_typed.specs.declared.part.Part.TheVariants as Parts
-use Rattle.c_rules.specs.Store
-use Rattle.c_rules.specs.Store.{◌>>=◌}
+use Rattle.c_meaning.specs.Store
+use Rattle.c_meaning.specs.Store.{◌>>=◌}
 
 -- ---- integers
 
