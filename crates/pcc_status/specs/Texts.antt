@@ -11,7 +11,7 @@ use Rattle.pcc_status.specs.declared.status.LexKind.{LexKind}
 use Rattle.pcc_status.specs.declared.status.LexKind.TheVariants.{BadByte, BadLiteral, Unclosed, BadDirective, NameTooLong}
 use Rattle.pcc_status.specs.declared.status.SyntaxKind.{SyntaxKind}
 use Rattle.pcc_status.specs.declared.status.SyntaxKind.TheVariants.{At, TooDeep}
-use Rattle.c_integer_types.specs.Names.{rule_name}
+use Rattle.c_rules.specs.Rules.{rule_name}
 use Rattle.pcc_status.specs.declared.status.LimitKind.{LimitKind}
 use Rattle.pcc_status.specs.declared.status.LimitKind.TheVariants.{L1, L2, L3, L4, L5, L6}
 

@@ -4,6 +4,6 @@
 mod lines;
 mod status;
 
-pub use c_integer_types::TypeRule;
+pub use c_rules::TypeRule;
 pub use lines::say;
 pub use status::{FuncId, LexKind, LimitKind, Refusal, Status, SyntaxKind, UsageKind};

@@ -126,7 +126,7 @@ fn put_line<E: Sink>(err: &mut E, pieces: &[&str]) -> Result<(), Failed>
 mod tests {
     use super::*;
     use crate::status::{FuncId, LexKind, LimitKind, SyntaxKind, UsageKind};
-    use c_integer_types::TypeRule;
+    use c_rules::TypeRule;
     use pcc_outside::MemSink;
     use run_theory::{TrapKind, UbKind};
     use std::test::Fail;

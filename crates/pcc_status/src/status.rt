@@ -3,7 +3,7 @@
 ghost use Rattle.std.specs.Prelude.{◌≡◌};
 ghost use Rattle.pcc_status.specs.Status.{exit_status_of};
 
-use c_integer_types::TypeRule;
+use c_rules::TypeRule;
 use run_theory::{Pos, TrapKind, UbKind};
 
 /// What a command comes to.

@@ -16,7 +16,7 @@ use Rattle.machine.proofs.Mach.{mach_over, mach_going}
 use Rattle.pcc_status.specs.declared.status.Status.{Status}
 use Rattle.pcc_status.specs.declared.status.Status.TheVariants as S
 use Rattle.pcc_status.specs.Said.{Said, after_failed_line}
-use Rattle.poolcc.specs.Compiled.{IsAccepted, Compiles}
+use Rattle.poolcc.specs.Compiled.{IsInteger, Compiles}
 use Rattle.poolcc.specs.Command.{Exec}
 use Rattle.poolcc.specs.Complete.{told, RunsAs, RunsUnlessMemory}
 use Rattle.poolcc.specs.Exec.{source_limit, ExecGives}
@@ -71,7 +71,7 @@ module _ (text : List ℕ) (limits : MachineLimits) (steps : ℕ) (left base : L
         output = there.2 ∙ ap (λ answer. Some (base ++ output_of (trace_of answer))) (sym there.1);
       }
 
-  module _ (program : ProgramTree) (accepted : IsAccepted text program) (short : length text ≤ source_limit) where
+  module _ (program : ProgramTree) (accepted : IsInteger text program) (short : length text ≤ source_limit) where
     -- an answer of exec that is no fault is the machine's, or memory ran out
     pub completed : (answer : Status) → ExecGives text limits steps left base answer left' written' → (answer ≡ S.ReadFault → ⊥) → (answer ≡ S.WriteFault → ⊥) → RunsUnlessMemory text limits steps left base answer written'
     completed (S.Program status) gives read write = inr (over gives.form (Ended status) gives.compiles gives.ran (S.Program status) (λ trace. refl))
@@ -92,12 +92,12 @@ module _ (text : List ℕ) (limits : MachineLimits) (steps : ℕ) (left base : L
     completed (S.Usage kind) gives read write = absurd gives
 
   -- a run that trapped shows that the program goes wrong
-  pub trapped : (kind : TrapKind) → ExecGives text limits steps left base (S.Trapped kind) left' written' → (program : ProgramTree) × IsAccepted text program × (n : ℕ) × IsUndefined (reference (typed_of program) left n)
+  pub trapped : (kind : TrapKind) → ExecGives text limits steps left base (S.Trapped kind) left' written' → (program : ProgramTree) × IsInteger text program × (n : ℕ) × IsUndefined (reference (typed_of program) left n)
   trapped kind gives =
       let there = mach_over gives.form.functions left base steps left' written' (Trapped kind) gives.ran in
       let compiles = gives.compiles in
       let wrong = follows_trapped (reference (typed_of compiles.program) left) (mach gives.form.functions left) (compiles.image.follows left limits) steps kind there.0 there.1 in
-      (compiles.program, compiles.accepted, wrong.0, wrong.1)
+      (compiles.program, compiles.integer, wrong.0, wrong.1)
 
 -- a line has one file
 pub same_file : (file other : List ℕ) (steps others : ℕ) → Exec file steps ≡ Exec other others → file ≡ other

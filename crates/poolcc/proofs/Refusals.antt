@@ -1,33 +1,63 @@
 -- A text has at most one refusal, and none where it is accepted.
-use Rattle.std.proofs.Common.{◌≡◌, ℕ, inl, inr, List, [], ◌∷◌, Option, Some, None, Result, Ok, Err, sym, ap, ◌∙◌, refl}
+use Rattle.std.proofs.Common.{◌≡◌, ℕ, List, Option, Some, None, sym, ap, ◌∙◌, refl}
 use Rattle.run_theory.specs.declared.ends.Pos.{Pos}
 use Rattle.c_syntax.specs.Trees
 use Rattle.c_ast.specs.Syntax.{ProgramTree}
-use Rattle.c_integer.specs.Narrowing.{Stop, Later, NoMain, program_of}
-use Rattle.c_integer_types.specs.declared.rule.TypeRule.TheVariants as T
-use Rattle.c_integer_types.specs.Typing.{Violation, violations}
+use Rattle.c_rules.specs.declared.violation.Violation.{Violation}
+use Rattle.c_rules.specs.Known.{least}
+use Rattle.c_rules.specs.Programs as rules
+use Rattle.c_rules.specs.Elaborated as elaborated
+use Rattle.c_types.specs.NamedItems.{named_types}
+use Rattle.c_limits.specs.declared.limits.LimitErr.{LimitErr}
+use Rattle.c_limits.specs.declared.limits.Limit.{Limit}
+use Rattle.c_limits.specs.declared.limits.Limit.TheVariants as L
+use Rattle.c_limits.specs.Limits.{exceeded}
 use Rattle.pcc_status.specs.declared.status.LexKind.{LexKind}
 use Rattle.pcc_status.specs.declared.status.LexKind.TheVariants as K
 use Rattle.pcc_status.specs.declared.status.SyntaxKind.{SyntaxKind}
+use Rattle.pcc_status.specs.declared.status.LimitKind.{LimitKind}
+use Rattle.pcc_status.specs.declared.status.LimitKind.TheVariants as M
 use Rattle.pcc_status.specs.declared.status.Refusal.{Refusal}
 use Rattle.pcc_status.specs.declared.status.Refusal.TheVariants as R
 use Rattle.poolcc.specs.declared.text.Stop.TheVariants as stops
-use Rattle.poolcc.specs.Compiled.{ReadsAs, IsAccepted}
-use Rattle.poolcc.specs.Refused.{fault_of, IsLexical, IsSyntactic, IsRefused, stop_of}
+use Rattle.poolcc.specs.Compiled.{ReadsAs, IsInteger}
+use Rattle.poolcc.specs.Refused.{fault_of, IsLexical, IsSyntactic, IsRefused, limit_named, later, stopped_at, first_violated, stop_of}
 use Rattle.poolcc.proofs.Misplacing.{one_syntactic}
 
 -- the refusal of a program that was read, if it has one
-abbrev first_violation : List Violation → Option Refusal
-first_violation [] = None
-first_violation (violation ∷ others) = Some (R.TypeRule violation.kind violation.place)
+abbrev of_later : Option Pos → Option Refusal
+of_later None = None
+of_later (Some place) = Some (R.Later place)
 
-abbrev narrowed : Result ProgramTree Stop → Option Refusal
-narrowed (Ok program) = first_violation (violations program)
-narrowed (Err (Later place)) = Some (R.Later place)
-narrowed (Err (NoMain place)) = Some (R.TypeRule T.T01 place)
+abbrev told_limit : Limit → LimitKind
+told_limit L.L1 = M.L1
+told_limit L.L2 = M.L2
+told_limit L.L3 = M.L3
+told_limit L.L4 = M.L4
+told_limit L.L5 = M.L5
+told_limit L.L6 = M.L6
+
+told_named : (limit : LimitKind) → told_limit (limit_named limit) ≡ limit
+told_named M.L1 = refl
+told_named M.L2 = refl
+told_named M.L3 = refl
+told_named M.L4 = refl
+told_named M.L5 = refl
+told_named M.L6 = refl
+
+abbrev of_limits : Option LimitErr → Option Pos → Option Refusal
+of_limits None place = of_later place
+of_limits (Some limit) place = Some (R.Limit (told_limit limit.which) limit.count)
+
+abbrev of_rules : Option Violation → Option LimitErr → Option Pos → Option Refusal
+of_rules None limit place = of_limits limit place
+of_rules (Some violation) limit place = Some (R.TypeRule violation.kind violation.place)
+
+abbrev limit_of : Trees.ProgramTree → Option LimitErr
+limit_of program = exceeded (elaborated.typed_of program) (named_types program)
 
 abbrev refusal_of : Trees.ProgramTree → Option Refusal
-refusal_of program = narrowed (program_of program)
+refusal_of program = of_rules (rules.refusal program) (limit_of program) (later program)
 
 -- Where a text is refused: among its bytes, among its tokens, or as the program that it reads as.
 data Reason (text : List ℕ) : Refusal → Type 0 where
@@ -38,14 +68,16 @@ data Reason (text : List ℕ) : Refusal → Type 0 where
 reason : (text : List ℕ) (refusal : Refusal) → IsRefused text refusal → Reason text refusal
 reason text (R.Lex kind place) refused = lexical refused
 reason text (R.Syntax kind place) refused = syntactic refused
-reason text (R.TypeRule rule place) (inl refused) =
-    let one : first_violation (violations refused.program) ≡ Some (R.TypeRule rule place) = ap first_violation refused.violated in
-    of_program refused.reads.whole refused.reads.reads (ap narrowed refused.reads.narrows ∙ one)
-reason text (R.TypeRule rule place) (inr refused) = of_program refused.1.program refused.1.reads (ap narrowed refused.1.stops ∙ ap (λ kind. Some (R.TypeRule kind place)) (sym refused.0))
-reason text (R.Limit limit count) refused = absurd refused
+reason text (R.TypeRule rule place) refused = of_program refused.program refused.reads (ap (λ least. of_rules least (limit_of refused.program) (later refused.program)) refused.least)
+reason text (R.Limit limit count) refused =
+    let program = refused.program in
+    of_program program refused.reads (ap (λ all. of_rules (least all) (limit_of program) (later program)) refused.typed ∙ ap (λ first. of_limits first (later program)) refused.first ∙ ap (λ kind. Some (R.Limit kind count)) (told_named limit))
 reason text (R.Graph count) refused = absurd refused
 reason text (R.Pools function count) refused = absurd refused
-reason text (R.Later place) refused = of_program refused.program refused.reads (ap narrowed refused.stops)
+reason text (R.Later place) refused =
+    let program = refused.program in
+    let accepted = refused.accepted in
+    of_program program accepted.reads (ap (λ all. of_rules (least all) (limit_of program) (later program)) accepted.typed ∙ ap (λ first. of_limits first (later program)) accepted.within ∙ ap of_later refused.stops)
 
 -- ---- no two
 
@@ -83,13 +115,18 @@ one_refusal text refusal other a b = same_reason text refusal other (reason text
 
 -- ---- none of a text that is accepted
 
-no_reason : (text : List ℕ) (program : ProgramTree) (refusal : Refusal) → IsAccepted text program → Reason text refusal → ⊥
-no_reason text program _ accepted (lexical a) = not_read a accepted.reads.reads
-no_reason text program _ accepted (syntactic a) = a.unread accepted.reads.whole accepted.reads.reads.reads
-no_reason text program refusal accepted (of_program whole reads is) =
-    let none : first_violation (violations program) ≡ None = ap first_violation accepted.typed in
-    let both : None ≡ Some refusal = sym (ap refusal_of (accepted.reads.reads.only whole reads.reads) ∙ ap narrowed accepted.reads.narrows ∙ none) ∙ is in
+none_of : (text : List ℕ) (program : ProgramTree) (integer : IsInteger text program) → refusal_of integer.narrowed.whole ≡ None
+none_of text program integer =
+    let whole = integer.narrowed.whole in
+    let accepted = integer.narrowed.accepted in
+    ap (λ all. of_rules (least all) (limit_of whole) (later whole)) accepted.typed ∙ ap (λ first. of_limits first (later whole)) accepted.within ∙ ap (λ narrowed. of_later (stopped_at narrowed)) integer.narrowed.narrows ∙ ap (λ all. of_later (first_violated all)) integer.typed
+
+no_reason : (text : List ℕ) (program : ProgramTree) (refusal : Refusal) → IsInteger text program → Reason text refusal → ⊥
+no_reason text program _ integer (lexical a) = not_read a integer.narrowed.accepted.reads
+no_reason text program _ integer (syntactic a) = a.unread integer.narrowed.whole integer.narrowed.accepted.reads.reads
+no_reason text program refusal integer (of_program whole reads is) =
+    let both : None ≡ Some refusal = sym (ap refusal_of (integer.narrowed.accepted.reads.only whole reads.reads) ∙ none_of text program integer) ∙ is in
     cc both
 
-pub not_refused : (text : List ℕ) (program : ProgramTree) (refusal : Refusal) → IsAccepted text program → IsRefused text refusal → ⊥
-not_refused text program refusal accepted refused = no_reason text program refusal accepted (reason text refusal refused)
+pub not_refused : (text : List ℕ) (program : ProgramTree) (refusal : Refusal) → IsInteger text program → IsRefused text refusal → ⊥
+not_refused text program refusal integer refused = no_reason text program refusal integer (reason text refusal refused)

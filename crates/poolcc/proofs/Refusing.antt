@@ -6,10 +6,8 @@ use Rattle.c_lexer.specs.declared.lex_err.LexErr.{LexErr}
 use Rattle.c_lexer.specs.declared.lex_err.LexErr.TheVariants as X
 use Rattle.c_lexer.specs.Tokens.{Faults, UnlessMemory}
 use Rattle.c_lexer.proofs.Dividing.{one_fault, no_both}
-use Rattle.c_ast.specs.Syntax.{ProgramTree}
-use Rattle.c_integer_types.specs.declared.rule.TypeRule.{TypeRule}
 use Rattle.c_integer_types.specs.Checking.{first}
-use Rattle.c_integer_types.specs.Typing.{Violation, violations}
+use Rattle.c_integer_types.specs.Typing.{Violation}
 use Rattle.image_form.specs.declared.image.MachineLimits.{MachineLimits}
 use Rattle.image_form.specs.Form.{Form}
 use Rattle.pcc_status.specs.declared.status.LexKind.{LexKind}
@@ -18,9 +16,9 @@ use Rattle.pcc_status.specs.declared.status.Refusal.{Refusal}
 use Rattle.pcc_status.specs.declared.status.Refusal.TheVariants as R
 use Rattle.pcc_status.specs.declared.status.Status.{Status}
 use Rattle.pcc_status.specs.declared.status.Status.TheVariants as S
-use Rattle.poolcc.specs.Compiled.{IsInteger, Compiles}
+use Rattle.poolcc.specs.Compiled.{Compiles}
 use Rattle.poolcc.specs.Exec.{source_limit, ExecGives}
-use Rattle.poolcc.specs.Refused.{fault_of, IsLexical, IsIllTyped, IsRefused, IsStop, stop_of}
+use Rattle.poolcc.specs.Refused.{fault_of, IsLexical, IsRefused, IsStop, first_violated, stop_of}
 use Rattle.poolcc.proofs.Refusals.{one_refusal, not_refused}
 
 pub is_lexical : (text : List ℕ) (kind : LexKind) (place : Pos) → Faults first_place text (fault_of kind place) → IsLexical text kind place
@@ -39,20 +37,15 @@ stops_so text (X.BadDirective place) refused = is_lexical text K.BadDirective pl
 stops_so text (X.NameTooLong place) refused = is_lexical text K.NameTooLong place refused
 stops_so text X.OutOfMemory refused = tt
 
-front : (violations : List Violation) (violation : Violation) → first violations ≡ Some violation → (others : List Violation) × (violations ≡ violation ∷ others)
-front [] violation e = cc
-front (one ∷ others) violation e = let same : one ≡ violation = cc in (others, ap (λ v. v ∷ others) same)
-
--- the first violation that the check names is the text's
-pub ill_typed : (text : List ℕ) (program : ProgramTree) (rule : TypeRule) (place : Pos) → IsInteger text program → first (violations program) ≡ Some (record { kind = rule; place = place }) → IsIllTyped text rule place
-ill_typed text program rule place reads e =
-    let found = front (violations program) _ e in
-    record { program = program; reads = reads; others = found.0; violated = found.1 }
+-- the first violation that the integer language's check names
+pub first_place_violated : (violations : List Violation) (violation : Violation) → first violations ≡ Some violation → first_violated violations ≡ Some violation.place
+first_place_violated [] violation e = cc
+first_place_violated (one ∷ others) violation e = let same : one ≡ violation = cc in ap (λ v. Some v.place) same
 
 module _ (text : List ℕ) (limits : MachineLimits) (steps : ℕ) (left base : List ℕ) (left' written' : Option (List ℕ)) where
   module _ (refusal : Refusal) (refused : IsRefused text refusal) (short : length text ≤ source_limit) where
     not_run : {form : Form} → Compiles text limits form → ⊥
-    not_run compiles = not_refused text compiles.program refusal compiles.accepted refused
+    not_run compiles = not_refused text compiles.program refusal compiles.integer refused
 
     -- a text that is refused gets that answer, or memory ran out
     pub refuses : (answer : Status) → ExecGives text limits steps left base answer left' written' → (answer ≡ S.ReadFault → ⊥) → (answer ≡ S.WriteFault → ⊥) → (answer ≡ S.OutOfMemory) ⊎ (answer ≡ S.Refused refusal)

@@ -1,5 +1,5 @@
 -- When an image is a program's.
-use Rattle.std.specs.Prelude.{◌≡◌, ℕ, List, [], Ok}
+use Rattle.std.specs.Prelude.{◌≡◌, ℕ, List, [], None, Ok}
 use Rattle.run_theory.specs.Places.{first_place}
 use Rattle.run_theory.specs.Runs.{Run, Follows}
 use Rattle.c_token.specs.Leaves.{Leaf}
@@ -9,6 +9,10 @@ use Rattle.c_reader.specs.Readings.{IsProgram}
 use Rattle.c_ast.specs.Syntax.{ProgramTree}
 use Rattle.c_ast.specs.Typed.{TypedProgram}
 use Rattle.c_ast.specs.Reference.{reference}
+use Rattle.c_rules.specs.Programs as rules
+use Rattle.c_rules.specs.Elaborated as elaborated
+use Rattle.c_types.specs.NamedItems.{named_types}
+use Rattle.c_limits.specs.Limits.{exceeded}
 use Rattle.c_integer.specs.Narrowing.{program_of}
 use Rattle.c_integer_types.specs.Typing.{violations, typed_of}
 use Rattle.pool_isa.specs.Machine.{Function, mach}
@@ -26,15 +30,21 @@ pub record ReadsAs (text : List ℕ) (program : Trees.ProgramTree) : Type 0 wher
   pub reads : Reads text program
   pub only : (other : Trees.ProgramTree) → Reads text other → other ≡ program
 
--- The text reads as a program of the integer language, which is what is compiled so far.
-pub record IsInteger (text : List ℕ) (program : ProgramTree) : Type 0 where
+-- The text is accepted: it reads as the program, in which no type rule is violated, and which exceeds no limit.
+pub record IsAccepted (text : List ℕ) (program : Trees.ProgramTree) : Type 0 where
+  pub reads : ReadsAs text program
+  pub typed : rules.violations program ≡ []
+  pub within : exceeded (elaborated.typed_of program) (named_types program) ≡ None
+
+-- The text is accepted, and its program is this of the integer language.
+pub record IsNarrowed (text : List ℕ) (program : ProgramTree) : Type 0 where
   pub whole : Trees.ProgramTree
-  pub reads : ReadsAs text whole
+  pub accepted : IsAccepted text whole
   pub narrows : program_of whole ≡ Ok program
 
--- The text is accepted: it reads as the program, in which no type rule is violated.
-pub record IsAccepted (text : List ℕ) (program : ProgramTree) : Type 0 where
-  pub reads : IsInteger text program
+-- and the integer language's own rules hold of it: this is what is compiled so far.
+pub record IsInteger (text : List ℕ) (program : ProgramTree) : Type 0 where
+  pub narrowed : IsNarrowed text program
   pub typed : violations program ≡ []
 
 -- The run of an image on an input, within limits: no instruction that is there takes memory of the heap, so that no
@@ -53,10 +63,10 @@ pub record IsImageFor (program : TypedProgram) (limits : MachineLimits) (form : 
 abbrev pub image_with : List Function → MachineLimits → Form
 image_with functions limits = record { version = 1; limits = limits; globals = 0; contents = []; kinds = []; functions = functions }
 
--- The text is accepted, and the image, which has been encoded and decoded, is its program's.
+-- The text is compiled: the image, which has been encoded and decoded, is its program's.
 pub record Compiles (text : List ℕ) (limits : MachineLimits) (form : Form) : Type 0 where
   pub program : ProgramTree
-  pub accepted : IsAccepted text program
+  pub integer : IsInteger text program
   pub encoded : List ℕ
   pub decoded : ImageOf encoded form
   pub image : IsImageFor (typed_of program) limits form

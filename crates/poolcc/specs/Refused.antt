@@ -1,5 +1,5 @@
 -- When a text is refused, and of which kind and place.
-use Rattle.std.specs.Prelude.{◌≡◌, ℕ, ◌⊎◌, List, ◌∷◌, Err}
+use Rattle.std.specs.Prelude.{◌≡◌, ℕ, List, [], ◌∷◌, Option, Some, None, Result, Ok, Err}
 use Rattle.run_theory.specs.declared.ends.Pos.{Pos}
 use Rattle.run_theory.specs.Places.{first_place}
 use Rattle.c_token.specs.Leaves.{Leaf}
@@ -10,16 +10,23 @@ use Rattle.c_syntax.specs.Trees
 use Rattle.c_reader.specs.Readings.{MisfitAt, TooDeepAt}
 use Rattle.c_ast.specs.Syntax.{ProgramTree}
 use Rattle.c_integer.specs.Narrowing.{Stop, Later, NoMain, program_of}
-use Rattle.c_integer_types.specs.declared.rule.TypeRule.{TypeRule}
-use Rattle.c_integer_types.specs.declared.rule.TypeRule.TheVariants as T
+use Rattle.c_rules.specs.declared.rule.TypeRule.{TypeRule}
+use Rattle.c_rules.specs.Programs as rules
+use Rattle.c_rules.specs.Elaborated as elaborated
+use Rattle.c_types.specs.NamedItems.{named_types}
+use Rattle.c_limits.specs.declared.limits.Limit.{Limit}
+use Rattle.c_limits.specs.declared.limits.Limit.TheVariants as L
+use Rattle.c_limits.specs.Limits.{exceeded}
 use Rattle.c_integer_types.specs.Typing.{Violation, violations}
 use Rattle.pcc_status.specs.declared.status.LexKind.{LexKind}
 use Rattle.pcc_status.specs.declared.status.LexKind.TheVariants as K
 use Rattle.pcc_status.specs.declared.status.SyntaxKind.{SyntaxKind}
 use Rattle.pcc_status.specs.declared.status.SyntaxKind.TheVariants as Y
+use Rattle.pcc_status.specs.declared.status.LimitKind.{LimitKind}
+use Rattle.pcc_status.specs.declared.status.LimitKind.TheVariants as M
 use Rattle.pcc_status.specs.declared.status.Refusal.{Refusal}
 use Rattle.pcc_status.specs.declared.status.Refusal.TheVariants as R
-use Rattle.poolcc.specs.Compiled.{Reads, ReadsAs, IsInteger}
+use Rattle.poolcc.specs.Compiled.{Reads, ReadsAs, IsAccepted}
 use Rattle.poolcc.specs.declared.text.Stop as code
 use Rattle.poolcc.specs.declared.text.Stop.TheVariants as stops
 
@@ -53,31 +60,60 @@ pub record IsSyntactic (text : List ℕ) (kind : SyntaxKind) (place : Pos) : Typ
   pub misplaced : Misplaced kind leaves place
   pub unread : (program : Trees.ProgramTree) → Reads text program → ⊥
 
--- The text reads as a program that is none of the integer language: this stops it.
-pub record IsStopped (text : List ℕ) (stop : Stop) : Type 0 where
+-- The text's program violates type rules: this one at this place is the least of them, by place and then by rule.
+pub record IsIllTyped (text : List ℕ) (rule : TypeRule) (place : Pos) : Type 0 where
   pub program : Trees.ProgramTree
   pub reads : ReadsAs text program
-  pub stops : program_of program ≡ Err stop
+  pub least : rules.refusal program ≡ Some (record { kind = rule; place = place })
 
--- The text's program violates a type rule, this one at this place first.
-pub record IsIllTyped (text : List ℕ) (rule : TypeRule) (place : Pos) : Type 0 where
-  pub program : ProgramTree
-  pub reads : IsInteger text program
-  pub others : List Violation
-  pub violated : violations program ≡ record { kind = rule; place = place } ∷ others
+-- the limit that a refusal names
+abbrev pub limit_named : LimitKind → Limit
+limit_named M.L1 = L.L1
+limit_named M.L2 = L.L2
+limit_named M.L3 = L.L3
+limit_named M.L4 = L.L4
+limit_named M.L5 = L.L5
+limit_named M.L6 = L.L6
 
--- The refusal is the text's: it is lexical where the text doesn't divide into tokens, with the kind and place of its
--- first fault; syntactic where these are no program, with the kind and place of the first with which none goes on; of
--- a type rule where its program violates one, or has no main; and for later at the place of what is not compiled yet. No
--- other refusal comes yet.
+-- The text's program violates no type rule, and exceeds limits: this is the first of them, with its count.
+pub record IsTooLarge (text : List ℕ) (limit : LimitKind) (count : ℕ) : Type 0 where
+  pub program : Trees.ProgramTree
+  pub reads : ReadsAs text program
+  pub typed : rules.violations program ≡ []
+  pub first : exceeded (elaborated.typed_of program) (named_types program) ≡ Some (record { which = limit_named limit; count = count })
+
+-- The place of what is not compiled yet: a form that is none of the integer language. (That this language finds no main, or
+-- a violation of its own rules, does not come of a program that violates no rule of the whole language; it is answered so too.)
+abbrev pub first_violated : List Violation → Option Pos
+first_violated [] = None
+first_violated (violation ∷ others) = Some violation.place
+
+abbrev pub stopped_at : Result ProgramTree Stop → Option Pos
+stopped_at (Ok program) = first_violated (violations program)
+stopped_at (Err (Later place)) = Some place
+stopped_at (Err (NoMain place)) = Some place
+
+abbrev pub later : Trees.ProgramTree → Option Pos
+later program = stopped_at (program_of program)
+
+-- The text is accepted, and is not compiled yet from this place on.
+pub record IsLater (text : List ℕ) (place : Pos) : Type 0 where
+  pub program : Trees.ProgramTree
+  pub accepted : IsAccepted text program
+  pub stops : later program ≡ Some place
+
+-- The refusal is the text's. It is lexical where the text doesn't divide into tokens, with the kind and place of its
+-- first fault; else syntactic where these are no program, with the kind and place of the first with which none goes on;
+-- else of the least type rule that is violated; else of the first limit that is exceeded, with its count; else for later,
+-- at the place of what is not compiled yet. No other refusal comes yet.
 abbrev pub IsRefused : List ℕ → Refusal → Type 0
 IsRefused text (R.Lex kind place) = IsLexical text kind place
 IsRefused text (R.Syntax kind place) = IsSyntactic text kind place
-IsRefused text (R.TypeRule rule place) = IsIllTyped text rule place ⊎ ((rule ≡ T.T01) × IsStopped text (NoMain place))
-IsRefused text (R.Limit limit count) = ⊥
+IsRefused text (R.TypeRule rule place) = IsIllTyped text rule place
+IsRefused text (R.Limit limit count) = IsTooLarge text limit count
 IsRefused text (R.Graph count) = ⊥
 IsRefused text (R.Pools function count) = ⊥
-IsRefused text (R.Later place) = IsStopped text (Later place)
+IsRefused text (R.Later place) = IsLater text place
 
 -- why a text has no image: it is refused, or memory ran out
 abbrev pub IsStop : List ℕ → code.Stop → Type 0

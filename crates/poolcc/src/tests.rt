@@ -292,8 +292,8 @@ fn refusals_name_their_place(rt: HostRuntime) -> Result<(), Fail> {
         ),
         (
             "int main(void) { return --5; }",
-            later(1, 25),
-            "poolcc: refused later at 1:25\n",
+            rule(TypeRule::T09, 1, 25),
+            "poolcc: refused T09 at 1:25\n",
         ),
         (
             "int main(void) { return 'a; }",
@@ -302,13 +302,13 @@ fn refusals_name_their_place(rt: HostRuntime) -> Result<(), Fail> {
         ),
         (
             "int main(void) { return ; }",
-            later(1, 18),
-            "poolcc: refused later at 1:18\n",
+            rule(TypeRule::T22, 1, 18),
+            "poolcc: refused T22 at 1:18\n",
         ),
         (
             "int main(void) { putchar(); }",
-            later(1, 18),
-            "poolcc: refused later at 1:18\n",
+            rule(TypeRule::T13, 1, 18),
+            "poolcc: refused T13 at 1:18\n",
         ),
         (
             "int main(void) { return 0; } int",
@@ -337,8 +337,8 @@ fn refusals_name_their_place(rt: HostRuntime) -> Result<(), Fail> {
         ),
         (
             "int main(void) { x; return ; }",
-            later(1, 21),
-            "poolcc: refused later at 1:21\n",
+            rule(TypeRule::T03, 1, 18),
+            "poolcc: refused T03 at 1:18\n",
         ),
         (
             "int main(void) { if (1) int x; }",
@@ -347,13 +347,13 @@ fn refusals_name_their_place(rt: HostRuntime) -> Result<(), Fail> {
         ),
         (
             "int main(void) { 5 = 1; }",
-            later(1, 18),
-            "poolcc: refused later at 1:18\n",
+            rule(TypeRule::T09, 1, 18),
+            "poolcc: refused T09 at 1:18\n",
         ),
         (
             "int main(void) { int getchar; }",
-            later(1, 22),
-            "poolcc: refused later at 1:22\n",
+            rule(TypeRule::T04, 1, 22),
+            "poolcc: refused T04 at 1:22\n",
         ),
         (
             "int main(void) { return 1 + ; }",
@@ -406,6 +406,474 @@ fn refusals_name_their_place(rt: HostRuntime) -> Result<(), Fail> {
         assert_eq!(rt; did.status, Status::Refused(refusal), "{text}");
         assert_eq!(rt; did.err.as_slice(), line.as_bytes(), "{text}");
         assert_eq!(rt; did.out.len(), 0, "{text}");
+    }
+    Ok(())
+}
+
+// Each type rule, at its place: expected lines are those of an independent model.
+#[test]
+fn type_rules_are_told(rt: HostRuntime) -> Result<(), Fail> {
+    let alloc = rt.alloc();
+    let rows = [
+        ("int main(void) { break; }", "poolcc: refused T20 at 1:18\n"),
+        ("int main;", "poolcc: refused T02 at 1:5\n"),
+        ("void main(void) {}", "poolcc: refused T02 at 1:6\n"),
+        (
+            "int main(void) { return x; }",
+            "poolcc: refused T03 at 1:25\n",
+        ),
+        (
+            "int f(struct s *p); int main(void){return 0;}",
+            "poolcc: refused T03 at 1:14\n",
+        ),
+        (
+            "int f(int a) { int a; return 0; } int main(void){return 0;}",
+            "poolcc: refused T04 at 1:20\n",
+        ),
+        (
+            "int f(int a, int a); int main(void){return 0;}",
+            "poolcc: refused T04 at 1:18\n",
+        ),
+        (
+            "int x = 1; int x = 1; int main(void){return 0;}",
+            "poolcc: refused T04 at 1:16\n",
+        ),
+        (
+            "int f(); int f(void); int f(int); int main(void){return 0;}",
+            "poolcc: refused T04 at 1:27\n",
+        ),
+        (
+            "struct s {int x;}; struct s {int x;}; int main(void){return 0;}",
+            "poolcc: refused T04 at 1:27\n",
+        ),
+        (
+            "int malloc; int main(void){return 0;}",
+            "poolcc: refused T04 at 1:5\n",
+        ),
+        (
+            "void free(void *p) {} int main(void){return 0;}",
+            "poolcc: refused T04 at 1:6\n",
+        ),
+        (
+            "void x; int main(void){return 0;}",
+            "poolcc: refused T05 at 1:6\n",
+        ),
+        (
+            "void a[3]; int main(void){return 0;}",
+            "poolcc: refused T05 at 1:6\n",
+        ),
+        (
+            "struct s a[3]; int main(void){return 0;}",
+            "poolcc: refused T05 at 1:10\n",
+        ),
+        (
+            "struct s {int f(void);}; int main(void){return 0;}",
+            "poolcc: refused T05 at 1:15\n",
+        ),
+        (
+            "struct s x; struct s {int y;}; int main(void){return 0;}",
+            "poolcc: refused T05 at 1:10\n",
+        ),
+        (
+            "int main(void) { return sizeof(void); }",
+            "poolcc: refused T05 at 1:32\n",
+        ),
+        (
+            "int x { } int main(void){return 0;}",
+            "poolcc: refused T05 at 1:5\n",
+        ),
+        (
+            "int f(int, void); int main(void){return 0;}",
+            "poolcc: refused T05 at 1:12\n",
+        ),
+        (
+            "int f(void)[3]; int main(void){return 0;}",
+            "poolcc: refused T05 at 1:5\n",
+        ),
+        (
+            "int main(void) { int f(void); }",
+            "poolcc: refused T05 at 1:22\n",
+        ),
+        (
+            "int a[]; int main(void){return 0;}",
+            "poolcc: refused T06 at 1:5\n",
+        ),
+        (
+            "int a[-1]; int main(void){return 0;}",
+            "poolcc: refused T06 at 1:5\n",
+        ),
+        (
+            "int a[2][] = {{1}}; int main(void){return 0;}",
+            "poolcc: refused T06 at 1:5\n",
+        ),
+        (
+            "int f(int a[0]); int main(void){return 0;}",
+            "poolcc: refused T06 at 1:11\n",
+        ),
+        (
+            "int main(void) { int a[3]; return -a; }",
+            "poolcc: refused T07 at 1:36\n",
+        ),
+        (
+            "int main(void) { int *p; switch (p) {} }",
+            "poolcc: refused T07 at 1:34\n",
+        ),
+        (
+            "int main(void) { int *p; p += p; }",
+            "poolcc: refused T07 at 1:31\n",
+        ),
+        (
+            "struct s {int a;} x; int main(void) { if (x) ; return 0; }",
+            "poolcc: refused T08 at 1:43\n",
+        ),
+        (
+            "struct s {int a;} x; int main(void) { return !x; }",
+            "poolcc: refused T08 at 1:47\n",
+        ),
+        ("int main(void) { 5 = 1; }", "poolcc: refused T09 at 1:18\n"),
+        (
+            "int main(void) { int a[2]; int b[2]; a = b; }",
+            "poolcc: refused T09 at 1:38\n",
+        ),
+        ("int main(void) { &5; }", "poolcc: refused T09 at 1:18\n"),
+        (
+            "int main(void) { main = 0; }",
+            "poolcc: refused T09 at 1:18\n",
+        ),
+        (
+            "int main(void) { int x; int *p = x; }",
+            "poolcc: refused T10 at 1:34\n",
+        ),
+        (
+            "int main(void) { int x; long *p = &x; }",
+            "poolcc: refused T10 at 1:35\n",
+        ),
+        (
+            "int f(int *p) {return 0;} int main(void) { return f(1); }",
+            "poolcc: refused T10 at 1:53\n",
+        ),
+        (
+            "struct s {int a;} x; struct s y; int main(void) { x = y; return 0; }",
+            "poolcc: refused T10 at 1:55\n",
+        ),
+        (
+            "int main(void) { int *p; long *q; return p == q; }",
+            "poolcc: refused T11 at 1:42\n",
+        ),
+        (
+            "int main(void) { int *p = NULL; void *q = NULL; return p < q; }",
+            "poolcc: refused T11 at 1:56\n",
+        ),
+        (
+            "int main(void) { return main < main; }",
+            "poolcc: refused T11 at 1:25\n",
+        ),
+        (
+            "int main(void) { int *p = NULL; return 1 - p; }",
+            "poolcc: refused T11 at 1:40\n",
+        ),
+        (
+            "int main(void) { int x; x(); }",
+            "poolcc: refused T12 at 1:25\n",
+        ),
+        (
+            "int main(void) { return main(1); }",
+            "poolcc: refused T13 at 1:25\n",
+        ),
+        (
+            "int main(void) { exit(); }",
+            "poolcc: refused T13 at 1:18\n",
+        ),
+        (
+            "int main(void) { void *p; *p; }",
+            "poolcc: refused T14 at 1:27\n",
+        ),
+        (
+            "int main(void) { int x; x[1]; }",
+            "poolcc: refused T14 at 1:25\n",
+        ),
+        (
+            "struct s; struct s *p; int main(void) { p++; return p->x; } struct s {int x;};",
+            "poolcc: refused T14 at 1:41\n",
+        ),
+        (
+            "int main(void) { int x; *x = y; }",
+            "poolcc: refused T14 at 1:25\n",
+        ),
+        (
+            "int main(void) { int x; x.y; }",
+            "poolcc: refused T15 at 1:25\n",
+        ),
+        (
+            "struct s {int a;} x; int main(void) { return x.b; }",
+            "poolcc: refused T15 at 1:46\n",
+        ),
+        (
+            "int main(void) { int *p; return (int)p; }",
+            "poolcc: refused T16 at 1:33\n",
+        ),
+        (
+            "int main(void) { (void *)main; }",
+            "poolcc: refused T16 at 1:18\n",
+        ),
+        (
+            "struct s {int a;} x; int main(void) { (struct s)x; return 0; }",
+            "poolcc: refused T16 at 1:39\n",
+        ),
+        (
+            "int x; int y = x; int main(void){return 0;}",
+            "poolcc: refused T17 at 1:16\n",
+        ),
+        (
+            "int main(void) { int n = 3; int a[n]; }",
+            "poolcc: refused T17 at 1:35\n",
+        ),
+        (
+            "int main(void) { int n; switch (1) { case n: ; } }",
+            "poolcc: refused T17 at 1:43\n",
+        ),
+        (
+            "int x; int y = &x != NULL; int main(void){return 0;}",
+            "poolcc: refused T17 at 1:16\n",
+        ),
+        (
+            "int x = {1}; int main(void){return 0;}",
+            "poolcc: refused T18 at 1:9\n",
+        ),
+        (
+            "struct s {int a;}; struct s x = 1; int main(void){return 0;}",
+            "poolcc: refused T18 at 1:33\n",
+        ),
+        (
+            "int a[2] = 1; int main(void){return 0;}",
+            "poolcc: refused T18 at 1:12\n",
+        ),
+        (
+            "char a[2] = \"ab\"; char b[2] = \"abc\"; int main(void){return 0;}",
+            "poolcc: refused T18 at 1:31\n",
+        ),
+        (
+            "int main(void) { int a[2] = {1,2}; }",
+            "poolcc: refused T18 at 1:29\n",
+        ),
+        (
+            "int main(void) { int x = {1}; }",
+            "poolcc: refused T18 at 1:26\n",
+        ),
+        (
+            "struct s {int a;} x; int main(void) { x; return 0; }",
+            "poolcc: refused T19 at 1:39\n",
+        ),
+        (
+            "struct s {int a;}; int f(struct s x); int main(void){return 0;}",
+            "poolcc: refused T19 at 1:35\n",
+        ),
+        (
+            "struct s {int a;}; struct s (*g)(void); int main(void){return 0;}",
+            "poolcc: refused T19 at 1:31\n",
+        ),
+        (
+            "int main(void) { switch (1) { continue; } }",
+            "poolcc: refused T20 at 1:31\n",
+        ),
+        (
+            "int main(void) { switch (1) { case 1: break; case 0+1: ; } }",
+            "poolcc: refused T21 at 1:46\n",
+        ),
+        (
+            "int main(void) { switch (1u) { case -1: case 4294967295: ; } }",
+            "poolcc: refused T21 at 1:41\n",
+        ),
+        (
+            "int main(void) { return; }",
+            "poolcc: refused T22 at 1:18\n",
+        ),
+        (
+            "int f(void); int main(void) { return f(); }",
+            "poolcc: refused T23 at 1:38\n",
+        ),
+        (
+            "int main(void) { return malloc == NULL; }",
+            "poolcc: refused T23 at 1:25\n",
+        ),
+        (
+            "int main(void) { (*putchar)('x'); }",
+            "poolcc: refused T23 at 1:20\n",
+        ),
+        (
+            "int a[1/0]; int main(void){return 0;}",
+            "poolcc: refused T24 at 1:7\n",
+        ),
+        (
+            "int a = 1 << 31; int main(void){return 0;}",
+            "poolcc: refused T24 at 1:9\n",
+        ),
+        (
+            "int a = 1 + 1/0; int main(void){return 0;}",
+            "poolcc: refused T24 at 1:9\n",
+        ),
+        (
+            "int a[3]; int *p = &a[4]; int main(void){return 0;}",
+            "poolcc: refused T24 at 1:20\n",
+        ),
+        (
+            "int x; int *p = &x + 2; int main(void){return 0;}",
+            "poolcc: refused T24 at 1:17\n",
+        ),
+        (
+            "int main(void) { switch (1) { case 1 << 40: ; } }",
+            "poolcc: refused T24 at 1:36\n",
+        ),
+    ];
+    for (text, line) in rows {
+        let did = exec(alloc, text, b"", NONE)?;
+        assert_eq!(rt; did.err.as_slice(), line.as_bytes(), "{text}");
+        assert!(rt;
+            matches!(did.status, Status::Refused(Refusal::TypeRule(_, _))),
+            "{text}"
+        );
+    }
+    Ok(())
+}
+
+// Near each type rule a program that doesn't violate it.
+#[test]
+fn what_violates_no_rule_is_accepted(rt: HostRuntime) -> Result<(), Fail> {
+    let alloc = rt.alloc();
+    let texts = [
+        "int main(void) { return 0; } int f(void) { return 1; }",
+        "int main(void); int main(void) { return 0; }",
+        "int f(void); int main(void) { return f(); } int f(void) { return 2; }",
+        "int x; int x; int main(void) { int x; { int x; } return 0; }",
+        "struct s { struct s *next; int i; }; struct s g; int main(void) { return sizeof(struct s) == 16; }",
+        "int f(int a[]) { return a[0]; } int main(void) { int a[1]; a[0] = 3; return f(a); }",
+        "int main(void) { return ~5 % 3 + (6 & 2) + (1 << 3); }",
+        "int main(void) { int *p; p = NULL; if (p) return 1; return p || !p ? 2 : 3; }",
+        "int main(void) { int a[2]; int *p; p = &a[1]; *p = 1; (*p)++; return *p; }",
+        "void *g; int main(void) { int *p; g = p = NULL; p = g; p = 0; return p == NULL; }",
+        "int main(void) { int a[2]; int *p; p = a + 1; return p - a + (p > a) + (p == NULL); }",
+        "int f(void) { return 1; } int (*g)(void); int main(void) { g = f; return g() + (*g)(); }",
+        "int f(int a, int b) { return a - b; } int main(void) { return f(3, 1) + getchar(); }",
+        "struct s { int a; struct s *b; }; int main(void) { struct s s; struct s *p; p = &s; p->a = 1; return p->a; }",
+        "struct s { int a; int b; }; int main(void) { struct s s; s.b = 2; return s.b; }",
+        "int main(void) { int *p; p = (int *)0; return (char *)p == (char *)(void *)p; }",
+        "int a[2 * 3 - 1]; int main(void) { switch (1) { case 1 + 1: return 2; } return 0; }",
+        "int a[2] = { 1, 2 }; char s[3] = \"abc\"; int main(void) { int i = 3; return i; }",
+        "struct s { int a; }; struct s *f(struct s *p) { return p; } int main(void) { struct s s; return f(&s)->a; }",
+        "int main(void) { while (1) { break; } for (;;) { if (1) break; continue; } return 0; }",
+        "int main(void) { switch (3) { case 1: case 2: return 1; default: switch (1) { case 1: default: return 2; } } }",
+        "void f(void) { return; } int main(void) { f(); return 0; }",
+        "int f(void); int main(void) { return 0; }",
+        "int a[1 + 2147483646 - 2147483645]; int main(void) { return 7 / 2; }",
+    ];
+    for text in texts {
+        let did = exec(alloc, text, b"", NONE)?;
+        assert!(rt; is_accepted(did.status), "{text}");
+    }
+    Ok(())
+}
+
+// Whether a text was compiled, or only isn't compiled yet.
+fn is_accepted(status: Status) -> bool {
+    matches!(
+        status,
+        Status::Program(_) | Status::Refused(Refusal::Later(_))
+    )
+}
+
+const LETTERS: [&str; 16] = [
+    "a", "b", "c", "d", "e", "f", "g", "h", "i", "j", "k", "l", "m", "n", "o", "p",
+];
+
+// One declaration for each name of three letters that begins with one of these.
+fn declarations(
+    alloc: Global,
+    firsts: &[&str],
+    before: &str,
+    behind: &str,
+) -> Result<String, AllocError> {
+    let mut text = String::new(alloc);
+    for first in firsts {
+        for second in LETTERS {
+            for third in LETTERS {
+                text.push_str(before)?;
+                text.push_str(first)?;
+                text.push_str(second)?;
+                text.push_str(third)?;
+                text.push_str(behind)?;
+            }
+        }
+    }
+    Ok(text)
+}
+
+// A text of these pieces.
+fn joined(alloc: Global, pieces: &[&str]) -> Result<String, AllocError> {
+    let mut text = String::new(alloc);
+    for piece in pieces {
+        text.push_str(piece)?;
+    }
+    Ok(text)
+}
+
+#[test]
+fn limits_are_told(rt: HostRuntime) -> Result<(), Fail> {
+    let alloc = rt.alloc();
+    let main = "int main(void) { return 0; }";
+    let functions = declarations(alloc, &LETTERS, "void f", "(void){}")?;
+    let quarter = &["a", "b", "c", "d"];
+    let members = declarations(alloc, quarter, "int m", ";")?;
+    let globals = declarations(alloc, quarter, "char g", "[1048576];")?;
+    let mut parameters = String::from_str(alloc, "int")?;
+    for _ in 1..64u32 {
+        parameters.push_str(",int")?;
+    }
+    let rows: [(&[&str], &str); 6] = [
+        (
+            &[main, functions.as_str()],
+            "poolcc: refused L1 count 4097\n",
+        ),
+        (
+            &["void f(", parameters.as_str(), ",int);", main],
+            "poolcc: refused L2 count 65\n",
+        ),
+        (
+            &["struct s {", members.as_str(), "int n;};", main],
+            "poolcc: refused L3 count 1025\n",
+        ),
+        (
+            &["char a[1048577];", main],
+            "poolcc: refused L4 count 1048577\n",
+        ),
+        (
+            &["int main(void) { char a[1048576]; int i; return 0; }"],
+            "poolcc: refused L5 count 1048584\n",
+        ),
+        (
+            &[globals.as_str(), "char c;", main],
+            "poolcc: refused L6 count 1073741832\n",
+        ),
+    ];
+    for (pieces, line) in rows {
+        let text = joined(alloc, pieces)?;
+        let did = exec(alloc, text.as_str(), b"", NONE)?;
+        assert!(rt;
+            matches!(did.status, Status::Refused(Refusal::Limit(_, _))),
+            "{line}"
+        );
+        assert_eq!(rt; did.err.as_slice(), line.as_bytes(), "{line}");
+    }
+    let accepted: [&[&str]; 5] = [
+        &["void f(", parameters.as_str(), ");", main],
+        &["struct s {", members.as_str(), "};", main],
+        &["char a[1048576];", main],
+        &["int main(void) { char a[1048576]; return 0; }"],
+        &[globals.as_str(), main],
+    ];
+    for pieces in accepted {
+        let text = joined(alloc, pieces)?;
+        let did = exec(alloc, text.as_str(), b"", NONE)?;
+        assert!(rt; is_accepted(did.status));
     }
     Ok(())
 }

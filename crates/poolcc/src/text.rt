@@ -10,20 +10,21 @@ ghost use Rattle.c_syntax.specs.Views.{program_tree};
 ghost use Rattle.c_integer_types.specs.Typing.{typed_of};
 ghost use Rattle.pool_isa.specs.Ranges.{IsWithin};
 ghost use Rattle.image_form.specs.Form.{form_of, IsImage, ImageOf};
-ghost use Rattle.poolcc.specs.Compiled.{ReadsAs, IsInteger, IsAccepted, Compiles};
+ghost use Rattle.poolcc.specs.Compiled.{ReadsAs, IsAccepted, IsNarrowed, IsInteger, Compiles};
 ghost use Rattle.poolcc.specs.Exec.{source_limit};
-ghost use Rattle.poolcc.specs.Refused.{IsStop, stop_of};
+ghost use Rattle.poolcc.specs.Refused.{IsStop, limit_named, stop_of};
 
 use crate::compile::compile;
 use c_ast::TypedProgram;
 use c_integer::{NarrowErr, narrow};
-use c_integer_types::{TypeErr, TypeRule, check};
 use c_lexer::{LexErr, tokens};
+use c_limits::{Limit, LimitErr, check_limits};
 use c_reader::{SyntaxErr, read};
+use c_rules::Violation;
 use c_syntax::Program;
 use c_token::Token;
 use image_form::{Image, ImageErr, MachineLimits, from_bytes, to_bytes};
-use pcc_status::{LexKind, Refusal, SyntaxKind};
+use pcc_status::{LexKind, LimitKind, Refusal, SyntaxKind};
 use std::alloc::Global;
 
 /// Why a text has no image.
@@ -80,41 +81,80 @@ pub fn parse(alloc: Global, text: &[u8]) -> Result<Program, Stop>
     }
 }
 
-/// The program of the integer language that a text within the source limit reads as.
-pub fn integer_program(alloc: Global, text: &[u8]) -> Result<c_ast::Program, Stop>
+/// The program of an accepted text within the source limit: one that violates no type rule and exceeds no limit.
+pub fn accept(alloc: Global, text: &[u8]) -> Result<Program, Stop>
     requires { length text.now ≤ source_limit }
-    ensures found { IfOk result (λ program. IsInteger text.now (integer.program_tree program)) }
+    ensures found { IfOk result (λ program. IsAccepted text.now (program_tree program)) }
     ensures stop { IfErr result (IsStop text.now) }
 {
     let program = match parse(alloc, text) {
         Ok(program) => program,
         Err(stop) => return Err(stop),
     };
+    let typed = match c_types::check(alloc, &program) {
+        Ok(typed) => typed,
+        Err(c_types::TypeErr::Rule(Violation { kind, place })) => {
+            return Err(Stop::Refused(Refusal::TypeRule(kind, place)));
+        }
+        Err(c_types::TypeErr::OutOfMemory) => return Err(Stop::OutOfMemory),
+    };
+    match check_limits(&typed.program, typed.named.as_slice()) {
+        Some(LimitErr { which, count }) => {
+            Err(Stop::Refused(Refusal::Limit(limit_kind(which), count)))
+        }
+        None => Ok(program),
+    }
+}
+
+// A limit as a refusal names it.
+fn limit_kind(limit: Limit) -> LimitKind
+    ensures { limit_named result ≡ limit }
+{
+    match limit {
+        Limit::L1 => LimitKind::L1,
+        Limit::L2 => LimitKind::L2,
+        Limit::L3 => LimitKind::L3,
+        Limit::L4 => LimitKind::L4,
+        Limit::L5 => LimitKind::L5,
+        Limit::L6 => LimitKind::L6,
+    }
+}
+
+// The program of the integer language that an accepted text's is.
+fn narrowed(alloc: Global, text: &[u8]) -> Result<c_ast::Program, Stop>
+    requires { length text.now ≤ source_limit }
+    ensures found { IfOk result (λ program. IsNarrowed text.now (integer.program_tree program)) }
+    ensures stop { IfErr result (IsStop text.now) }
+{
+    let program = match accept(alloc, text) {
+        Ok(program) => program,
+        Err(stop) => return Err(stop),
+    };
     match narrow(alloc, program) {
         Ok(program) => Ok(program),
         Err(NarrowErr::Later(place)) => Err(Stop::Refused(Refusal::Later(place))),
-        Err(NarrowErr::NoMain(place)) => {
-            Err(Stop::Refused(Refusal::TypeRule(TypeRule::T01, place)))
-        }
+        Err(NarrowErr::NoMain(place)) => Err(Stop::Refused(Refusal::Later(place))),
         Err(NarrowErr::OutOfMemory) => Err(Stop::OutOfMemory),
     }
 }
 
-/// The typed tree of an accepted text's program.
-pub fn accept(alloc: Global, text: &[u8]) -> Result<TypedProgram, Stop>
+/// The typed tree of the integer language that an accepted text's program has.
+pub fn integer_program(alloc: Global, text: &[u8]) -> Result<TypedProgram, Stop>
     requires { length text.now ≤ source_limit }
-    ensures found { IfOk result (λ typed. (program : integer.ProgramTree) × IsAccepted text.now program × (typed_program typed ≡ typed_of program)) }
+    ensures found { IfOk result (λ typed. (program : integer.ProgramTree) × IsInteger text.now program × (typed_program typed ≡ typed_of program)) }
     ensures size { IfOk result (λ typed. program_size (typed_program typed) ≤ 2 ^ 22) }
     ensures stop { IfErr result (IsStop text.now) }
 {
-    let program = match integer_program(alloc, text) {
+    let program = match narrowed(alloc, text) {
         Ok(program) => program,
         Err(stop) => return Err(stop),
     };
-    match check(alloc, program) {
+    match c_integer_types::check(alloc, program) {
         Ok(typed) => Ok(typed),
-        Err(TypeErr::Rule { kind, place }) => Err(Stop::Refused(Refusal::TypeRule(kind, place))),
-        Err(TypeErr::OutOfMemory) => Err(Stop::OutOfMemory),
+        Err(c_integer_types::TypeErr::Rule { place, .. }) => {
+            Err(Stop::Refused(Refusal::Later(place)))
+        }
+        Err(c_integer_types::TypeErr::OutOfMemory) => Err(Stop::OutOfMemory),
     }
 }
 
@@ -142,7 +182,7 @@ pub fn image_of(alloc: Global, text: &[u8], limits: MachineLimits) -> Result<Ima
     ensures compiled { IfOk result (λ image. Compiles text.now limits (form_of image)) }
     ensures stop { IfErr result (IsStop text.now) }
 {
-    let program = match accept(alloc, text) {
+    let program = match integer_program(alloc, text) {
         Ok(program) => program,
         Err(stop) => return Err(stop),
     };

@@ -17,7 +17,7 @@ ghost use Rattle.poolcc.specs.Refused.{fault_of, IsRefused};
 ghost use Rattle.c_ast.specs.Syntax.{ProgramTree};
 ghost use Rattle.c_ast.specs.Reference.{reference};
 ghost use Rattle.c_integer_types.specs.Typing.{typed_of};
-ghost use Rattle.poolcc.specs.Compiled.{IsAccepted};
+ghost use Rattle.poolcc.specs.Compiled.{IsInteger};
 ghost use Rattle.poolcc.specs.Complete.{RunsUnlessMemory};
 ghost use Rattle.poolcc.specs.Exec.{Answers, source_limit, default_limits};
 
@@ -49,13 +49,13 @@ pub fn poolcc<F: Files, I: Source, O: Sink, E: Sink>(
     ensures long_cause { result ≡ Status.SourceTooLong → (file : List ℕ) × (steps : ℕ) × (line_of (map string_bytes words.now) ≡ Exec file steps) × (source_limit < F.reach files.new file) }
     ensures trapped_cause { (kind : TrapKind) (file : List ℕ) (steps : ℕ) (text left base : List ℕ) → result ≡ Status.Trapped kind → line_of (map string_bytes words.now) ≡ Exec file steps
         → F.contents files.old file ≡ Holds text → I.left input.old ≡ Some left → O.written out.old ≡ Some base
-        → (program : ProgramTree) × IsAccepted text program × (n : ℕ) × IsUndefined (reference (typed_of program) left n) }
+        → (program : ProgramTree) × IsInteger text program × (n : ℕ) × IsUndefined (reference (typed_of program) left n) }
 
     // Where the text is accepted and nothing outside fails, the answer is what the machine gives, or memory ran out.
     ensures complete { (file : List ℕ) (steps : ℕ) (text left base : List ℕ) (program : ProgramTree) → line_of (map string_bytes words.now) ≡ Exec file steps
         → F.contents files.old file ≡ Holds text → length text ≤ source_limit → I.left input.old ≡ Some left → O.written out.old ≡ Some base
         → (Rose (F.faults files.old file) (F.faults files.new file) → ⊥) → (Rose (I.faults input.old) (I.faults input.new) → ⊥) → (Rose (O.faults out.old) (O.faults out.new) → ⊥) → (Rose (E.faults err.old) (E.faults err.new) → ⊥)
-        → IsAccepted text program → RunsUnlessMemory text default_limits steps left base result (O.written out.new) }
+        → IsInteger text program → RunsUnlessMemory text default_limits steps left base result (O.written out.new) }
 
     // Where the text has a fault and nothing outside fails, the answer is the fault's kind and place, or memory ran out.
     ensures lexical { (file : List ℕ) (steps : ℕ) (text left base : List ℕ) (kind : LexKind) (place : Pos) → line_of (map string_bytes words.now) ≡ Exec file steps

@@ -1,11 +1,12 @@
-use Rattle.std.proofs.Common.{inl, ap, subst, arith}
+use Rattle.std.proofs.Common.{ap, ◌∙◌, subst, arith}
 use Rattle.c_ast.specs.Syntax.{program_tree}
 use Rattle.c_ast.specs.Typed.{program_size}
 use Rattle.c_integer_types.specs.Checking.{NamesFirst}
 use Rattle.c_integer_types.specs.Typing.{violations}
-use Rattle.poolcc.proofs.Refusing.{ill_typed}
+use Rattle.poolcc.specs.Refused.{stopped_at}
+use Rattle.poolcc.proofs.Refusing.{first_place_violated}
 use Rattle.poolcc.proofs.Sizes.{typed_size}
-use Rattle.poolcc.proofs.text.accept.Goals as goal
+use Rattle.poolcc.proofs.text.integer_program.Goals as goal
 
 pub returns-in-Ok-check-clause-size : goal.returns-in-Ok-check-clause-size
 returns-in-Ok-check-clause-size c =
@@ -15,4 +16,10 @@ returns-in-Ok-check-clause-size c =
     omega arith
 
 pub returns-in-Err-Rule-clause-stop : goal.returns-in-Err-Rule-clause-stop
-returns-in-Err-Rule-clause-stop c = inl (ill_typed c.args.text.now (program_tree c.in-Ok.program) c.in-Err-Rule.kind c.in-Err-Rule.place c.in-Ok.ensures.found (subst (NamesFirst (violations (program_tree c.in-Ok.program))) c.in-Err-Rule.field-0-is c.in-Err-Rule.ensures.checked))
+returns-in-Err-Rule-clause-stop c =
+    let narrowed = c.in-Ok.ensures.found in
+    record {
+      program = narrowed.whole;
+      accepted = narrowed.accepted;
+      stops = ap stopped_at narrowed.narrows ∙ first_place_violated (violations (program_tree c.in-Ok.program)) _ (subst (NamesFirst (violations (program_tree c.in-Ok.program))) c.in-Err-Rule.field-0-is c.in-Err-Rule.ensures.checked);
+    }
