@@ -807,74 +807,118 @@ fn declarations(
     Ok(text)
 }
 
-// A text of these pieces.
-fn joined(alloc: Global, pieces: &[&str]) -> Result<String, AllocError> {
-    let mut text = String::new(alloc);
-    for piece in pieces {
-        text.push_str(piece)?;
-    }
+// A text in three pieces.
+fn joined(alloc: Global, first: &str, second: &str, third: &str) -> Result<String, AllocError> {
+    let mut text = String::from_str(alloc, first)?;
+    text.push_str(second)?;
+    text.push_str(third)?;
     Ok(text)
 }
 
-#[test]
-fn limits_are_told(rt: HostRuntime) -> Result<(), Fail> {
-    let alloc = rt.alloc();
-    let main = "int main(void) { return 0; }";
-    let functions = declarations(alloc, &LETTERS, "void f", "(void){}")?;
-    let quarter = &["a", "b", "c", "d"];
-    let members = declarations(alloc, quarter, "int m", ";")?;
-    let globals = declarations(alloc, quarter, "char g", "[1048576];")?;
+// A list of 64 parameters.
+fn many_parameters(alloc: Global) -> Result<String, AllocError> {
     let mut parameters = String::from_str(alloc, "int")?;
     for _ in 1..64u32 {
         parameters.push_str(",int")?;
     }
-    let rows: [(&[&str], &str); 6] = [
-        (
-            &[main, functions.as_str()],
-            "poolcc: refused L1 count 4097\n",
-        ),
-        (
-            &["void f(", parameters.as_str(), ",int);", main],
-            "poolcc: refused L2 count 65\n",
-        ),
-        (
-            &["struct s {", members.as_str(), "int n;};", main],
-            "poolcc: refused L3 count 1025\n",
-        ),
-        (
-            &["char a[1048577];", main],
-            "poolcc: refused L4 count 1048577\n",
-        ),
-        (
-            &["int main(void) { char a[1048576]; int i; return 0; }"],
-            "poolcc: refused L5 count 1048584\n",
-        ),
-        (
-            &[globals.as_str(), "char c;", main],
-            "poolcc: refused L6 count 1073741832\n",
-        ),
-    ];
-    for (pieces, line) in rows {
-        let text = joined(alloc, pieces)?;
-        let did = exec(alloc, text.as_str(), b"", NONE)?;
-        assert!(rt;
-            matches!(did.status, Status::Refused(Refusal::Limit(_, _))),
-            "{line}"
-        );
-        assert_eq!(rt; did.err.as_slice(), line.as_bytes(), "{line}");
-    }
-    let accepted: [&[&str]; 5] = [
-        &["void f(", parameters.as_str(), ");", main],
-        &["struct s {", members.as_str(), "};", main],
-        &["char a[1048576];", main],
-        &["int main(void) { char a[1048576]; return 0; }"],
-        &[globals.as_str(), main],
-    ];
-    for pieces in accepted {
-        let text = joined(alloc, pieces)?;
-        let did = exec(alloc, text.as_str(), b"", NONE)?;
-        assert!(rt; is_accepted(did.status));
-    }
+    Ok(parameters)
+}
+
+const MAIN: &str = "int main(void) { return 0; }";
+
+#[test]
+fn limits_are_told(rt: HostRuntime) -> Result<(), Fail> {
+    let alloc = rt.alloc();
+    let quarter = &["a", "b", "c", "d"];
+    let functions = declarations(alloc, &LETTERS, "void f", "(void){}")?;
+    let text = joined(alloc, MAIN, functions.as_str(), "")?;
+    let did = exec(alloc, text.as_str(), b"", NONE)?;
+    assert_eq!(rt;
+        did.err.as_slice(),
+        b"poolcc: refused L1 count 4097\n".as_slice()
+    );
+    let parameters = many_parameters(alloc)?;
+    let text = joined(
+        alloc,
+        "void f(",
+        parameters.as_str(),
+        ",int); int main(void) { return 0; }",
+    )?;
+    let did = exec(alloc, text.as_str(), b"", NONE)?;
+    assert_eq!(rt;
+        did.err.as_slice(),
+        b"poolcc: refused L2 count 65\n".as_slice()
+    );
+    let members = declarations(alloc, quarter, "int m", ";")?;
+    let text = joined(
+        alloc,
+        "struct s {",
+        members.as_str(),
+        "int n;}; int main(void) { return 0; }",
+    )?;
+    let did = exec(alloc, text.as_str(), b"", NONE)?;
+    assert_eq!(rt;
+        did.err.as_slice(),
+        b"poolcc: refused L3 count 1025\n".as_slice()
+    );
+    let text = joined(alloc, "char a[1048577];", MAIN, "")?;
+    let did = exec(alloc, text.as_str(), b"", NONE)?;
+    assert_eq!(rt;
+        did.err.as_slice(),
+        b"poolcc: refused L4 count 1048577\n".as_slice()
+    );
+    let text = "int main(void) { char a[1048576]; int i; return 0; }";
+    let did = exec(alloc, text, b"", NONE)?;
+    assert_eq!(rt;
+        did.err.as_slice(),
+        b"poolcc: refused L5 count 1048584\n".as_slice()
+    );
+    let globals = declarations(alloc, quarter, "char g", "[1048576];")?;
+    let text = joined(alloc, globals.as_str(), "char c;", MAIN)?;
+    let did = exec(alloc, text.as_str(), b"", NONE)?;
+    assert_eq!(rt;
+        did.err.as_slice(),
+        b"poolcc: refused L6 count 1073741832\n".as_slice()
+    );
+    Ok(())
+}
+
+#[test]
+fn programs_at_their_limits_are_accepted(rt: HostRuntime) -> Result<(), Fail> {
+    let alloc = rt.alloc();
+    let quarter = &["a", "b", "c", "d"];
+    let parameters = many_parameters(alloc)?;
+    let text = joined(
+        alloc,
+        "void f(",
+        parameters.as_str(),
+        "); int main(void) { return 0; }",
+    )?;
+    let did = exec(alloc, text.as_str(), b"", NONE)?;
+    assert!(rt; is_accepted(did.status));
+    let members = declarations(alloc, quarter, "int m", ";")?;
+    let text = joined(
+        alloc,
+        "struct s {",
+        members.as_str(),
+        "}; int main(void) { return 0; }",
+    )?;
+    let did = exec(alloc, text.as_str(), b"", NONE)?;
+    assert!(rt; is_accepted(did.status));
+    let text = joined(alloc, "char a[1048576];", MAIN, "")?;
+    let did = exec(alloc, text.as_str(), b"", NONE)?;
+    assert!(rt; is_accepted(did.status));
+    let did = exec(
+        alloc,
+        "int main(void) { char a[1048576]; return 0; }",
+        b"",
+        NONE,
+    )?;
+    assert!(rt; is_accepted(did.status));
+    let globals = declarations(alloc, quarter, "char g", "[1048576];")?;
+    let text = joined(alloc, globals.as_str(), MAIN, "")?;
+    let did = exec(alloc, text.as_str(), b"", NONE)?;
+    assert!(rt; is_accepted(did.status));
     Ok(())
 }
 
