@@ -71,18 +71,18 @@ null-known {s = s} {t = t} void made e found =
     }
 
 -- a literal
-pub literal-known : {s t : State} (char made : number.CType) (n length : ℕ) (place : Pos) (bytes copied : List ℕ) (parts : Vec Part Global) → char.0 ≡ integer_number I.Char → copied ≡ bytes → parts.items ≡ []
-    → n ≡ length → Finds IsType (give (Array (type_in s.table char) n)) s t (Some made)
-    → Finds IsExpr (give (object_at (Array (Integer I.Char) length) (typed.Literal place bytes) (Element (Text place) [] (Array (Integer I.Char) length) 1 0))) s t
-    (Some (record { c_type = made; typed = E.Object (O.Literal place copied); constness = NotConstant; is_null = false; address = A.Element (R.Literal place) parts made 1 0 }))
-literal-known {s = s} {t = t} char made n length place bytes copied parts e same none long found =
-    let its : type_in t.table made ≡ Array (Integer I.Char) length = found.known.1 ∙ (λ i. Array ((integer_stands s.table char I.Char e).1 i) (long i)) in
+pub literal-known : {s t : State} (char made : number.CType) (n count : ℕ) (place : Pos) (bytes copied : List ℕ) (parts : Vec Part Global) → char.0 ≡ integer_number I.Char → copied ≡ bytes → parts.items ≡ []
+    → n ≡ count → count ≡ suc (length copied) → Finds IsType (give (Array (type_in s.table char) n)) s t (Some made)
+    → Finds IsExpr (give (object_at (Array (Integer I.Char) count) (typed.Literal place bytes) (Element (Text place) [] (Array (Integer I.Char) count) 1 0))) s t
+    (Some (record { c_type = made; typed = E.Object (O.Literal place copied made); constness = NotConstant; is_null = false; address = A.Element (R.Literal place) parts made 1 0 }))
+literal-known {s = s} {t = t} char made n count place bytes copied parts e same none long all found =
+    let its : type_in t.table made ≡ Array (Integer I.Char) count = found.known.1 ∙ (λ i. Array ((integer_stands s.table char I.Char e).1 i) (long i)) in
     record {
       grows = found.grows;
       scope = found.scope;
       least = found.least;
       known = (
-        (found.known.0, tt, found.known.0),
+        (found.known.0, (found.known.0, its ∙ ap (Array (Integer I.Char)) all), found.known.0),
         λ i. record { c_type = its i; typed = OfObject (typed.Literal place (same i)); constness = NotConstant; is_null = false; address = Element (Text place) (none i) (its i) 1 0 },
       );
     }

@@ -43,6 +43,7 @@ pub(crate) fn literal(checker: &mut Checker, bytes: &[u8], place: Pos) -> Result
         typed: TypedExpr::Object(Object::Literal {
             place,
             bytes: ByteString::from_slice(alloc, bytes)?,
+            c_type,
         }),
         constness: Constness::NotConstant,
         is_null: false,

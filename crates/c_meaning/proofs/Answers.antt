@@ -9,10 +9,20 @@ use Rattle.c_syntax.specs.declared.operator.BinaryOperator.TheVariants as B
 use Rattle.c_syntax.specs.declared.operator.AssignOperator.TheVariants as A
 use Rattle.c_syntax.specs.Trees
 use Rattle.run_theory.specs.declared.ends.UbKind.TheVariants as Ub
-use Rattle.run_theory.specs.Runs.{Over, Ended, Undefined}
+use Rattle.run_theory.specs.Runs.{Trace, Output, output_of, Answer, Going, Over, Ended, Undefined}
 use Rattle.c_rules.specs.Programs.{refusal}
 use Rattle.c_rules.specs.Elaborated.{typed_of}
-use Rattle.c_meaning.specs.Meaning.{reference, spent, calls_within, greatest_depth}
+use Rattle.c_meaning.specs.Meaning.{bodies_within, greatest_depth}
+use Rattle.c_meaning.specs.First.{reference, spent}
+
+-- an answer with what was written alone
+abbrev outputs : List ℕ → Trace
+outputs [] = []
+outputs (byte ∷ bytes) = Output byte ∷ outputs bytes
+
+abbrev shown : Answer → Answer
+shown (Going trace) = Going (outputs (output_of trace))
+shown (Over final trace) = Over final (outputs (output_of trace))
 
 abbrev at_place : ℕ → ℕ → Pos
 at_place line column = record { line = line; column = column }
@@ -43,12 +53,12 @@ s012-accepted : refusal s012 ≡ None
 unfolding convert_to outcome_of negated_of complement_of
 s012-accepted = refl
 
-s012-answer : reference (typed_of s012) [] 53 ≡ Over (Ended 0) ([])
-unfolding convert_to outcome_of negated_of complement_of calls_within greatest_depth
+s012-answer : shown (reference (typed_of s012) [] 53) ≡ Over (Ended 0) ([])
+unfolding convert_to outcome_of negated_of complement_of bodies_within greatest_depth
 s012-answer = refl
 
 s012-units : spent (typed_of s012) [] 53 ≡ 3
-unfolding convert_to outcome_of negated_of complement_of calls_within greatest_depth
+unfolding convert_to outcome_of negated_of complement_of bodies_within greatest_depth
 s012-units = refl
 
 -- int a = 0xF+1; int main(void){return 0;}
@@ -59,12 +69,12 @@ s016-accepted : refusal s016 ≡ None
 unfolding convert_to outcome_of negated_of complement_of
 s016-accepted = refl
 
-s016-answer : reference (typed_of s016) [] 53 ≡ Over (Ended 0) ([])
-unfolding convert_to outcome_of negated_of complement_of calls_within greatest_depth
+s016-answer : shown (reference (typed_of s016) [] 53) ≡ Over (Ended 0) ([])
+unfolding convert_to outcome_of negated_of complement_of bodies_within greatest_depth
 s016-answer = refl
 
 s016-units : spent (typed_of s016) [] 53 ≡ 3
-unfolding convert_to outcome_of negated_of complement_of calls_within greatest_depth
+unfolding convert_to outcome_of negated_of complement_of bodies_within greatest_depth
 s016-units = refl
 
 -- long a = 18446744073709551615u; int main(void){return 0;}
@@ -75,12 +85,12 @@ s022-accepted : refusal s022 ≡ None
 unfolding convert_to outcome_of negated_of complement_of
 s022-accepted = refl
 
-s022-answer : reference (typed_of s022) [] 53 ≡ Over (Ended 0) ([])
-unfolding convert_to outcome_of negated_of complement_of calls_within greatest_depth
+s022-answer : shown (reference (typed_of s022) [] 53) ≡ Over (Ended 0) ([])
+unfolding convert_to outcome_of negated_of complement_of bodies_within greatest_depth
 s022-answer = refl
 
 s022-units : spent (typed_of s022) [] 53 ≡ 3
-unfolding convert_to outcome_of negated_of complement_of calls_within greatest_depth
+unfolding convert_to outcome_of negated_of complement_of bodies_within greatest_depth
 s022-units = refl
 
 -- long a = 1lu + 1UL + 1Lu; int main(void){return 0;}
@@ -91,12 +101,12 @@ s027-accepted : refusal s027 ≡ None
 unfolding convert_to outcome_of negated_of complement_of
 s027-accepted = refl
 
-s027-answer : reference (typed_of s027) [] 53 ≡ Over (Ended 0) ([])
-unfolding convert_to outcome_of negated_of complement_of calls_within greatest_depth
+s027-answer : shown (reference (typed_of s027) [] 53) ≡ Over (Ended 0) ([])
+unfolding convert_to outcome_of negated_of complement_of bodies_within greatest_depth
 s027-answer = refl
 
 s027-units : spent (typed_of s027) [] 53 ≡ 3
-unfolding convert_to outcome_of negated_of complement_of calls_within greatest_depth
+unfolding convert_to outcome_of negated_of complement_of bodies_within greatest_depth
 s027-units = refl
 
 -- #include <stdio.h> # include <stdlib.h> #include<stddef.h> int main(void){return 0;}
@@ -107,12 +117,12 @@ s028-accepted : refusal s028 ≡ None
 unfolding convert_to outcome_of negated_of complement_of
 s028-accepted = refl
 
-s028-answer : reference (typed_of s028) [] 53 ≡ Over (Ended 0) ([])
-unfolding convert_to outcome_of negated_of complement_of calls_within greatest_depth
+s028-answer : shown (reference (typed_of s028) [] 53) ≡ Over (Ended 0) ([])
+unfolding convert_to outcome_of negated_of complement_of bodies_within greatest_depth
 s028-answer = refl
 
 s028-units : spent (typed_of s028) [] 53 ≡ 3
-unfolding convert_to outcome_of negated_of complement_of calls_within greatest_depth
+unfolding convert_to outcome_of negated_of complement_of bodies_within greatest_depth
 s028-units = refl
 
 -- /* x #define y */ int main(void){return 0;}
@@ -123,12 +133,12 @@ s034-accepted : refusal s034 ≡ None
 unfolding convert_to outcome_of negated_of complement_of
 s034-accepted = refl
 
-s034-answer : reference (typed_of s034) [] 53 ≡ Over (Ended 0) ([])
-unfolding convert_to outcome_of negated_of complement_of calls_within greatest_depth
+s034-answer : shown (reference (typed_of s034) [] 53) ≡ Over (Ended 0) ([])
+unfolding convert_to outcome_of negated_of complement_of bodies_within greatest_depth
 s034-answer = refl
 
 s034-units : spent (typed_of s034) [] 53 ≡ 3
-unfolding convert_to outcome_of negated_of complement_of calls_within greatest_depth
+unfolding convert_to outcome_of negated_of complement_of bodies_within greatest_depth
 s034-units = refl
 
 -- long unsigned const int x; int short signed y; char unsigned const z; int main(void){return 0;}
@@ -139,12 +149,12 @@ s048-accepted : refusal s048 ≡ None
 unfolding convert_to outcome_of negated_of complement_of
 s048-accepted = refl
 
-s048-answer : reference (typed_of s048) [] 53 ≡ Over (Ended 0) ([])
-unfolding convert_to outcome_of negated_of complement_of calls_within greatest_depth
+s048-answer : shown (reference (typed_of s048) [] 53) ≡ Over (Ended 0) ([])
+unfolding convert_to outcome_of negated_of complement_of bodies_within greatest_depth
 s048-answer = refl
 
 s048-units : spent (typed_of s048) [] 53 ≡ 3
-unfolding convert_to outcome_of negated_of complement_of calls_within greatest_depth
+unfolding convert_to outcome_of negated_of complement_of bodies_within greatest_depth
 s048-units = refl
 
 -- int f(int (x), int (*)(int), int (int), int [3], int *const *p); int main(void){return 0;}
@@ -155,12 +165,12 @@ s063-accepted : refusal s063 ≡ None
 unfolding convert_to outcome_of negated_of complement_of
 s063-accepted = refl
 
-s063-answer : reference (typed_of s063) [] 53 ≡ Over (Ended 0) ([])
-unfolding convert_to outcome_of negated_of complement_of calls_within greatest_depth
+s063-answer : shown (reference (typed_of s063) [] 53) ≡ Over (Ended 0) ([])
+unfolding convert_to outcome_of negated_of complement_of bodies_within greatest_depth
 s063-answer = refl
 
 s063-units : spent (typed_of s063) [] 53 ≡ 3
-unfolding convert_to outcome_of negated_of complement_of calls_within greatest_depth
+unfolding convert_to outcome_of negated_of complement_of bodies_within greatest_depth
 s063-units = refl
 
 -- int main(void) { int a; a = a ? a = 1 : 2; }
@@ -171,12 +181,12 @@ s076-accepted : refusal s076 ≡ None
 unfolding convert_to outcome_of negated_of complement_of
 s076-accepted = refl
 
-s076-answer : reference (typed_of s076) [] 56 ≡ Over (Undefined Ub.U04 (at_place 1 29)) ([])
-unfolding convert_to outcome_of negated_of complement_of calls_within greatest_depth
+s076-answer : shown (reference (typed_of s076) [] 56) ≡ Over (Undefined Ub.U04 (at_place 1 29)) ([])
+unfolding convert_to outcome_of negated_of complement_of bodies_within greatest_depth
 s076-answer = refl
 
 s076-units : spent (typed_of s076) [] 56 ≡ 6
-unfolding convert_to outcome_of negated_of complement_of calls_within greatest_depth
+unfolding convert_to outcome_of negated_of complement_of bodies_within greatest_depth
 s076-units = refl
 
 -- int main() { }
@@ -187,12 +197,12 @@ s087-accepted : refusal s087 ≡ None
 unfolding convert_to outcome_of negated_of complement_of
 s087-accepted = refl
 
-s087-answer : reference (typed_of s087) [] 51 ≡ Over (Ended 0) ([])
-unfolding convert_to outcome_of negated_of complement_of calls_within greatest_depth
+s087-answer : shown (reference (typed_of s087) [] 51) ≡ Over (Ended 0) ([])
+unfolding convert_to outcome_of negated_of complement_of bodies_within greatest_depth
 s087-answer = refl
 
 s087-units : spent (typed_of s087) [] 51 ≡ 1
-unfolding convert_to outcome_of negated_of complement_of calls_within greatest_depth
+unfolding convert_to outcome_of negated_of complement_of bodies_within greatest_depth
 s087-units = refl
 
 -- struct s *g(void); int f(struct s *p); int main(void){return 0;}
@@ -203,12 +213,12 @@ s091-accepted : refusal s091 ≡ None
 unfolding convert_to outcome_of negated_of complement_of
 s091-accepted = refl
 
-s091-answer : reference (typed_of s091) [] 53 ≡ Over (Ended 0) ([])
-unfolding convert_to outcome_of negated_of complement_of calls_within greatest_depth
+s091-answer : shown (reference (typed_of s091) [] 53) ≡ Over (Ended 0) ([])
+unfolding convert_to outcome_of negated_of complement_of bodies_within greatest_depth
 s091-answer = refl
 
 s091-units : spent (typed_of s091) [] 53 ≡ 3
-unfolding convert_to outcome_of negated_of complement_of calls_within greatest_depth
+unfolding convert_to outcome_of negated_of complement_of bodies_within greatest_depth
 s091-units = refl
 
 -- int x; int x; extern int x; int main(void){return 0;}
@@ -219,12 +229,12 @@ s096-accepted : refusal s096 ≡ None
 unfolding convert_to outcome_of negated_of complement_of
 s096-accepted = refl
 
-s096-answer : reference (typed_of s096) [] 53 ≡ Over (Ended 0) ([])
-unfolding convert_to outcome_of negated_of complement_of calls_within greatest_depth
+s096-answer : shown (reference (typed_of s096) [] 53) ≡ Over (Ended 0) ([])
+unfolding convert_to outcome_of negated_of complement_of bodies_within greatest_depth
 s096-answer = refl
 
 s096-units : spent (typed_of s096) [] 53 ≡ 3
-unfolding convert_to outcome_of negated_of complement_of calls_within greatest_depth
+unfolding convert_to outcome_of negated_of complement_of bodies_within greatest_depth
 s096-units = refl
 
 -- struct exit { int free; }; int main(void){return 0;}
@@ -235,12 +245,12 @@ s105-accepted : refusal s105 ≡ None
 unfolding convert_to outcome_of negated_of complement_of
 s105-accepted = refl
 
-s105-answer : reference (typed_of s105) [] 53 ≡ Over (Ended 0) ([])
-unfolding convert_to outcome_of negated_of complement_of calls_within greatest_depth
+s105-answer : shown (reference (typed_of s105) [] 53) ≡ Over (Ended 0) ([])
+unfolding convert_to outcome_of negated_of complement_of bodies_within greatest_depth
 s105-answer = refl
 
 s105-units : spent (typed_of s105) [] 53 ≡ 3
-unfolding convert_to outcome_of negated_of complement_of calls_within greatest_depth
+unfolding convert_to outcome_of negated_of complement_of bodies_within greatest_depth
 s105-units = refl
 
 -- int a[] = {1,2,3}; int b[sizeof a == 12]; char s[] = "abc"; int c[sizeof s - 3]; int main(void){return 0;}
@@ -251,12 +261,12 @@ s124-accepted : refusal s124 ≡ None
 unfolding convert_to outcome_of negated_of complement_of
 s124-accepted = refl
 
-s124-answer : reference (typed_of s124) [] 53 ≡ Over (Ended 0) ([])
-unfolding convert_to outcome_of negated_of complement_of calls_within greatest_depth
+s124-answer : shown (reference (typed_of s124) [] 53) ≡ Over (Ended 0) ([])
+unfolding convert_to outcome_of negated_of complement_of bodies_within greatest_depth
 s124-answer = refl
 
 s124-units : spent (typed_of s124) [] 53 ≡ 3
-unfolding convert_to outcome_of negated_of complement_of calls_within greatest_depth
+unfolding convert_to outcome_of negated_of complement_of bodies_within greatest_depth
 s124-units = refl
 
 -- int f(int a[]); int main(void){return 0;}
@@ -267,12 +277,12 @@ s127-accepted : refusal s127 ≡ None
 unfolding convert_to outcome_of negated_of complement_of
 s127-accepted = refl
 
-s127-answer : reference (typed_of s127) [] 53 ≡ Over (Ended 0) ([])
-unfolding convert_to outcome_of negated_of complement_of calls_within greatest_depth
+s127-answer : shown (reference (typed_of s127) [] 53) ≡ Over (Ended 0) ([])
+unfolding convert_to outcome_of negated_of complement_of bodies_within greatest_depth
 s127-answer = refl
 
 s127-units : spent (typed_of s127) [] 53 ≡ 3
-unfolding convert_to outcome_of negated_of complement_of calls_within greatest_depth
+unfolding convert_to outcome_of negated_of complement_of bodies_within greatest_depth
 s127-units = refl
 
 -- int main(void) { int (*p)(void) = (void *)0; int (*q)(void) = NULL; return p == q; }
@@ -283,12 +293,12 @@ s150-accepted : refusal s150 ≡ None
 unfolding convert_to outcome_of negated_of complement_of
 s150-accepted = refl
 
-s150-answer : reference (typed_of s150) [] 58 ≡ Over (Ended 1) ([])
-unfolding convert_to outcome_of negated_of complement_of calls_within greatest_depth
+s150-answer : shown (reference (typed_of s150) [] 58) ≡ Over (Ended 1) ([])
+unfolding convert_to outcome_of negated_of complement_of bodies_within greatest_depth
 s150-answer = refl
 
 s150-units : spent (typed_of s150) [] 58 ≡ 8
-unfolding convert_to outcome_of negated_of complement_of calls_within greatest_depth
+unfolding convert_to outcome_of negated_of complement_of bodies_within greatest_depth
 s150-units = refl
 
 -- int main(void) { int *p = NULL; void *q = NULL; return p == q; }
@@ -299,12 +309,12 @@ s153-accepted : refusal s153 ≡ None
 unfolding convert_to outcome_of negated_of complement_of
 s153-accepted = refl
 
-s153-answer : reference (typed_of s153) [] 57 ≡ Over (Ended 1) ([])
-unfolding convert_to outcome_of negated_of complement_of calls_within greatest_depth
+s153-answer : shown (reference (typed_of s153) [] 57) ≡ Over (Ended 1) ([])
+unfolding convert_to outcome_of negated_of complement_of bodies_within greatest_depth
 s153-answer = refl
 
 s153-units : spent (typed_of s153) [] 57 ≡ 7
-unfolding convert_to outcome_of negated_of complement_of calls_within greatest_depth
+unfolding convert_to outcome_of negated_of complement_of bodies_within greatest_depth
 s153-units = refl
 
 -- int main(void) { (int *)0; (int *)(void *)0; (long)'a'; }
@@ -315,12 +325,12 @@ s174-accepted : refusal s174 ≡ None
 unfolding convert_to outcome_of negated_of complement_of
 s174-accepted = refl
 
-s174-answer : reference (typed_of s174) [] 61 ≡ Over (Ended 0) ([])
-unfolding convert_to outcome_of negated_of complement_of calls_within greatest_depth
+s174-answer : shown (reference (typed_of s174) [] 61) ≡ Over (Ended 0) ([])
+unfolding convert_to outcome_of negated_of complement_of bodies_within greatest_depth
 s174-answer = refl
 
 s174-units : spent (typed_of s174) [] 61 ≡ 11
-unfolding convert_to outcome_of negated_of complement_of calls_within greatest_depth
+unfolding convert_to outcome_of negated_of complement_of bodies_within greatest_depth
 s174-units = refl
 
 -- struct s {int a; int b[2];} x; int *p = &x.b[1]; int *q = (&x)->b; void *v = &x; int main(void){return 0;}
@@ -331,12 +341,12 @@ s183-accepted : refusal s183 ≡ None
 unfolding convert_to outcome_of negated_of complement_of
 s183-accepted = refl
 
-s183-answer : reference (typed_of s183) [] 53 ≡ Over (Ended 0) ([])
-unfolding convert_to outcome_of negated_of complement_of calls_within greatest_depth
+s183-answer : shown (reference (typed_of s183) [] 53) ≡ Over (Ended 0) ([])
+unfolding convert_to outcome_of negated_of complement_of bodies_within greatest_depth
 s183-answer = refl
 
 s183-units : spent (typed_of s183) [] 53 ≡ 3
-unfolding convert_to outcome_of negated_of complement_of calls_within greatest_depth
+unfolding convert_to outcome_of negated_of complement_of bodies_within greatest_depth
 s183-units = refl
 
 -- int main(void) { switch ((char)1) { case 0: case 256: ; } }
@@ -347,12 +357,12 @@ s201-accepted : refusal s201 ≡ None
 unfolding convert_to outcome_of negated_of complement_of
 s201-accepted = refl
 
-s201-answer : reference (typed_of s201) [] 56 ≡ Over (Ended 0) ([])
-unfolding convert_to outcome_of negated_of complement_of calls_within greatest_depth
+s201-answer : shown (reference (typed_of s201) [] 56) ≡ Over (Ended 0) ([])
+unfolding convert_to outcome_of negated_of complement_of bodies_within greatest_depth
 s201-answer = refl
 
 s201-units : spent (typed_of s201) [] 56 ≡ 6
-unfolding convert_to outcome_of negated_of complement_of calls_within greatest_depth
+unfolding convert_to outcome_of negated_of complement_of bodies_within greatest_depth
 s201-units = refl
 
 -- int f(void); int f(void); int main(void){return 0;}
@@ -363,12 +373,12 @@ s207-accepted : refusal s207 ≡ None
 unfolding convert_to outcome_of negated_of complement_of
 s207-accepted = refl
 
-s207-answer : reference (typed_of s207) [] 53 ≡ Over (Ended 0) ([])
-unfolding convert_to outcome_of negated_of complement_of calls_within greatest_depth
+s207-answer : shown (reference (typed_of s207) [] 53) ≡ Over (Ended 0) ([])
+unfolding convert_to outcome_of negated_of complement_of bodies_within greatest_depth
 s207-answer = refl
 
 s207-units : spent (typed_of s207) [] 53 ≡ 3
-unfolding convert_to outcome_of negated_of complement_of calls_within greatest_depth
+unfolding convert_to outcome_of negated_of complement_of bodies_within greatest_depth
 s207-units = refl
 
 -- int a = 0 && 1/0; int main(void){return 0;}
@@ -379,12 +389,12 @@ s214-accepted : refusal s214 ≡ None
 unfolding convert_to outcome_of negated_of complement_of
 s214-accepted = refl
 
-s214-answer : reference (typed_of s214) [] 53 ≡ Over (Ended 0) ([])
-unfolding convert_to outcome_of negated_of complement_of calls_within greatest_depth
+s214-answer : shown (reference (typed_of s214) [] 53) ≡ Over (Ended 0) ([])
+unfolding convert_to outcome_of negated_of complement_of bodies_within greatest_depth
 s214-answer = refl
 
 s214-units : spent (typed_of s214) [] 53 ≡ 3
-unfolding convert_to outcome_of negated_of complement_of calls_within greatest_depth
+unfolding convert_to outcome_of negated_of complement_of bodies_within greatest_depth
 s214-units = refl
 
 -- int x; int *p = &x + 1; int main(void){return 0;}
@@ -395,12 +405,12 @@ s219-accepted : refusal s219 ≡ None
 unfolding convert_to outcome_of negated_of complement_of
 s219-accepted = refl
 
-s219-answer : reference (typed_of s219) [] 53 ≡ Over (Ended 0) ([])
-unfolding convert_to outcome_of negated_of complement_of calls_within greatest_depth
+s219-answer : shown (reference (typed_of s219) [] 53) ≡ Over (Ended 0) ([])
+unfolding convert_to outcome_of negated_of complement_of bodies_within greatest_depth
 s219-answer = refl
 
 s219-units : spent (typed_of s219) [] 53 ≡ 3
-unfolding convert_to outcome_of negated_of complement_of calls_within greatest_depth
+unfolding convert_to outcome_of negated_of complement_of bodies_within greatest_depth
 s219-units = refl
 
 -- int main(void) { return -(2147483647 + 1); }
@@ -411,12 +421,12 @@ s223-accepted : refusal s223 ≡ None
 unfolding convert_to outcome_of negated_of complement_of
 s223-accepted = refl
 
-s223-answer : reference (typed_of s223) [] 57 ≡ Over (Undefined Ub.U01 (at_place 1 27)) ([])
-unfolding convert_to outcome_of negated_of complement_of calls_within greatest_depth
+s223-answer : shown (reference (typed_of s223) [] 57) ≡ Over (Undefined Ub.U01 (at_place 1 27)) ([])
+unfolding convert_to outcome_of negated_of complement_of bodies_within greatest_depth
 s223-answer = refl
 
 s223-units : spent (typed_of s223) [] 57 ≡ 7
-unfolding convert_to outcome_of negated_of complement_of calls_within greatest_depth
+unfolding convert_to outcome_of negated_of complement_of bodies_within greatest_depth
 s223-units = refl
 
 -- int main(void) { return 1 / 0; }
@@ -427,12 +437,12 @@ s226-accepted : refusal s226 ≡ None
 unfolding convert_to outcome_of negated_of complement_of
 s226-accepted = refl
 
-s226-answer : reference (typed_of s226) [] 55 ≡ Over (Undefined Ub.U02 (at_place 1 25)) ([])
-unfolding convert_to outcome_of negated_of complement_of calls_within greatest_depth
+s226-answer : shown (reference (typed_of s226) [] 55) ≡ Over (Undefined Ub.U02 (at_place 1 25)) ([])
+unfolding convert_to outcome_of negated_of complement_of bodies_within greatest_depth
 s226-answer = refl
 
 s226-units : spent (typed_of s226) [] 55 ≡ 5
-unfolding convert_to outcome_of negated_of complement_of calls_within greatest_depth
+unfolding convert_to outcome_of negated_of complement_of bodies_within greatest_depth
 s226-units = refl
 
 -- int main(void) { return 2147483647 + 1; }
@@ -443,12 +453,12 @@ s228-accepted : refusal s228 ≡ None
 unfolding convert_to outcome_of negated_of complement_of
 s228-accepted = refl
 
-s228-answer : reference (typed_of s228) [] 55 ≡ Over (Undefined Ub.U01 (at_place 1 25)) ([])
-unfolding convert_to outcome_of negated_of complement_of calls_within greatest_depth
+s228-answer : shown (reference (typed_of s228) [] 55) ≡ Over (Undefined Ub.U01 (at_place 1 25)) ([])
+unfolding convert_to outcome_of negated_of complement_of bodies_within greatest_depth
 s228-answer = refl
 
 s228-units : spent (typed_of s228) [] 55 ≡ 5
-unfolding convert_to outcome_of negated_of complement_of calls_within greatest_depth
+unfolding convert_to outcome_of negated_of complement_of bodies_within greatest_depth
 s228-units = refl
 
 -- int main(void) { int x = 2147483647; x++; }
@@ -459,12 +469,12 @@ s229-accepted : refusal s229 ≡ None
 unfolding convert_to outcome_of negated_of complement_of
 s229-accepted = refl
 
-s229-answer : reference (typed_of s229) [] 55 ≡ Over (Undefined Ub.U01 (at_place 1 38)) ([])
-unfolding convert_to outcome_of negated_of complement_of calls_within greatest_depth
+s229-answer : shown (reference (typed_of s229) [] 55) ≡ Over (Undefined Ub.U01 (at_place 1 38)) ([])
+unfolding convert_to outcome_of negated_of complement_of bodies_within greatest_depth
 s229-answer = refl
 
 s229-units : spent (typed_of s229) [] 55 ≡ 5
-unfolding convert_to outcome_of negated_of complement_of calls_within greatest_depth
+unfolding convert_to outcome_of negated_of complement_of bodies_within greatest_depth
 s229-units = refl
 
 -- int main(void) { char x = 127; x++; return x == -128; }
@@ -475,12 +485,12 @@ s231-accepted : refusal s231 ≡ None
 unfolding convert_to outcome_of negated_of complement_of
 s231-accepted = refl
 
-s231-answer : reference (typed_of s231) [] 60 ≡ Over (Ended 1) ([])
-unfolding convert_to outcome_of negated_of complement_of calls_within greatest_depth
+s231-answer : shown (reference (typed_of s231) [] 60) ≡ Over (Ended 1) ([])
+unfolding convert_to outcome_of negated_of complement_of bodies_within greatest_depth
 s231-answer = refl
 
 s231-units : spent (typed_of s231) [] 60 ≡ 10
-unfolding convert_to outcome_of negated_of complement_of calls_within greatest_depth
+unfolding convert_to outcome_of negated_of complement_of bodies_within greatest_depth
 s231-units = refl
 
 -- int main(void) { return (-2147483647-1) % -1; }
@@ -491,12 +501,12 @@ s232-accepted : refusal s232 ≡ None
 unfolding convert_to outcome_of negated_of complement_of
 s232-accepted = refl
 
-s232-answer : reference (typed_of s232) [] 60 ≡ Over (Undefined Ub.U01 (at_place 1 25)) ([])
-unfolding convert_to outcome_of negated_of complement_of calls_within greatest_depth
+s232-answer : shown (reference (typed_of s232) [] 60) ≡ Over (Undefined Ub.U01 (at_place 1 25)) ([])
+unfolding convert_to outcome_of negated_of complement_of bodies_within greatest_depth
 s232-answer = refl
 
 s232-units : spent (typed_of s232) [] 60 ≡ 10
-unfolding convert_to outcome_of negated_of complement_of calls_within greatest_depth
+unfolding convert_to outcome_of negated_of complement_of bodies_within greatest_depth
 s232-units = refl
 
 -- int main(void) { return 1 << 32; }
@@ -507,12 +517,12 @@ s234-accepted : refusal s234 ≡ None
 unfolding convert_to outcome_of negated_of complement_of
 s234-accepted = refl
 
-s234-answer : reference (typed_of s234) [] 55 ≡ Over (Undefined Ub.U03 (at_place 1 25)) ([])
-unfolding convert_to outcome_of negated_of complement_of calls_within greatest_depth
+s234-answer : shown (reference (typed_of s234) [] 55) ≡ Over (Undefined Ub.U03 (at_place 1 25)) ([])
+unfolding convert_to outcome_of negated_of complement_of bodies_within greatest_depth
 s234-answer = refl
 
 s234-units : spent (typed_of s234) [] 55 ≡ 5
-unfolding convert_to outcome_of negated_of complement_of calls_within greatest_depth
+unfolding convert_to outcome_of negated_of complement_of bodies_within greatest_depth
 s234-units = refl
 
 -- int main(void) { return 1 << -1; }
@@ -523,12 +533,12 @@ s235-accepted : refusal s235 ≡ None
 unfolding convert_to outcome_of negated_of complement_of
 s235-accepted = refl
 
-s235-answer : reference (typed_of s235) [] 56 ≡ Over (Undefined Ub.U03 (at_place 1 25)) ([])
-unfolding convert_to outcome_of negated_of complement_of calls_within greatest_depth
+s235-answer : shown (reference (typed_of s235) [] 56) ≡ Over (Undefined Ub.U03 (at_place 1 25)) ([])
+unfolding convert_to outcome_of negated_of complement_of bodies_within greatest_depth
 s235-answer = refl
 
 s235-units : spent (typed_of s235) [] 56 ≡ 6
-unfolding convert_to outcome_of negated_of complement_of calls_within greatest_depth
+unfolding convert_to outcome_of negated_of complement_of bodies_within greatest_depth
 s235-units = refl
 
 -- int main(void) { return -1 << 1; }
@@ -539,12 +549,12 @@ s237-accepted : refusal s237 ≡ None
 unfolding convert_to outcome_of negated_of complement_of
 s237-accepted = refl
 
-s237-answer : reference (typed_of s237) [] 56 ≡ Over (Undefined Ub.U03 (at_place 1 25)) ([])
-unfolding convert_to outcome_of negated_of complement_of calls_within greatest_depth
+s237-answer : shown (reference (typed_of s237) [] 56) ≡ Over (Undefined Ub.U03 (at_place 1 25)) ([])
+unfolding convert_to outcome_of negated_of complement_of bodies_within greatest_depth
 s237-answer = refl
 
 s237-units : spent (typed_of s237) [] 56 ≡ 6
-unfolding convert_to outcome_of negated_of complement_of calls_within greatest_depth
+unfolding convert_to outcome_of negated_of complement_of bodies_within greatest_depth
 s237-units = refl
 
 -- int main(void) { return (1u << 31) >> 31; }
@@ -555,12 +565,12 @@ s238-accepted : refusal s238 ≡ None
 unfolding convert_to outcome_of negated_of complement_of
 s238-accepted = refl
 
-s238-answer : reference (typed_of s238) [] 58 ≡ Over (Ended 1) ([])
-unfolding convert_to outcome_of negated_of complement_of calls_within greatest_depth
+s238-answer : shown (reference (typed_of s238) [] 58) ≡ Over (Ended 1) ([])
+unfolding convert_to outcome_of negated_of complement_of bodies_within greatest_depth
 s238-answer = refl
 
 s238-units : spent (typed_of s238) [] 58 ≡ 8
-unfolding convert_to outcome_of negated_of complement_of calls_within greatest_depth
+unfolding convert_to outcome_of negated_of complement_of bodies_within greatest_depth
 s238-units = refl
 
 -- int main(void) { int x; return x + 1; }
@@ -571,12 +581,12 @@ s240-accepted : refusal s240 ≡ None
 unfolding convert_to outcome_of negated_of complement_of
 s240-accepted = refl
 
-s240-answer : reference (typed_of s240) [] 54 ≡ Over (Undefined Ub.U04 (at_place 1 32)) ([])
-unfolding convert_to outcome_of negated_of complement_of calls_within greatest_depth
+s240-answer : shown (reference (typed_of s240) [] 54) ≡ Over (Undefined Ub.U04 (at_place 1 32)) ([])
+unfolding convert_to outcome_of negated_of complement_of bodies_within greatest_depth
 s240-answer = refl
 
 s240-units : spent (typed_of s240) [] 54 ≡ 4
-unfolding convert_to outcome_of negated_of complement_of calls_within greatest_depth
+unfolding convert_to outcome_of negated_of complement_of bodies_within greatest_depth
 s240-units = refl
 
 -- int main(void) { int x; x++; }
@@ -587,12 +597,12 @@ s241-accepted : refusal s241 ≡ None
 unfolding convert_to outcome_of negated_of complement_of
 s241-accepted = refl
 
-s241-answer : reference (typed_of s241) [] 54 ≡ Over (Undefined Ub.U04 (at_place 1 25)) ([])
-unfolding convert_to outcome_of negated_of complement_of calls_within greatest_depth
+s241-answer : shown (reference (typed_of s241) [] 54) ≡ Over (Undefined Ub.U04 (at_place 1 25)) ([])
+unfolding convert_to outcome_of negated_of complement_of bodies_within greatest_depth
 s241-answer = refl
 
 s241-units : spent (typed_of s241) [] 54 ≡ 4
-unfolding convert_to outcome_of negated_of complement_of calls_within greatest_depth
+unfolding convert_to outcome_of negated_of complement_of bodies_within greatest_depth
 s241-units = refl
 
 -- int main(void) { int *p = malloc(4); return *p; }
@@ -603,12 +613,12 @@ s243-accepted : refusal s243 ≡ None
 unfolding convert_to outcome_of negated_of complement_of
 s243-accepted = refl
 
-s243-answer : reference (typed_of s243) [] 57 ≡ Over (Undefined Ub.U04 (at_place 1 45)) ([])
-unfolding convert_to outcome_of negated_of complement_of calls_within greatest_depth
+s243-answer : shown (reference (typed_of s243) [] 57) ≡ Over (Undefined Ub.U04 (at_place 1 45)) ([])
+unfolding convert_to outcome_of negated_of complement_of bodies_within greatest_depth
 s243-answer = refl
 
 s243-units : spent (typed_of s243) [] 57 ≡ 7
-unfolding convert_to outcome_of negated_of complement_of calls_within greatest_depth
+unfolding convert_to outcome_of negated_of complement_of bodies_within greatest_depth
 s243-units = refl
 
 -- int main(void) { int *p = NULL; return *p; }
@@ -619,12 +629,12 @@ s244-accepted : refusal s244 ≡ None
 unfolding convert_to outcome_of negated_of complement_of
 s244-accepted = refl
 
-s244-answer : reference (typed_of s244) [] 55 ≡ Over (Undefined Ub.U05 (at_place 1 40)) ([])
-unfolding convert_to outcome_of negated_of complement_of calls_within greatest_depth
+s244-answer : shown (reference (typed_of s244) [] 55) ≡ Over (Undefined Ub.U05 (at_place 1 40)) ([])
+unfolding convert_to outcome_of negated_of complement_of bodies_within greatest_depth
 s244-answer = refl
 
 s244-units : spent (typed_of s244) [] 55 ≡ 5
-unfolding convert_to outcome_of negated_of complement_of calls_within greatest_depth
+unfolding convert_to outcome_of negated_of complement_of bodies_within greatest_depth
 s244-units = refl
 
 -- int main(void) { int *p = NULL; return &p[0] == p; }
@@ -635,12 +645,12 @@ s246-accepted : refusal s246 ≡ None
 unfolding convert_to outcome_of negated_of complement_of
 s246-accepted = refl
 
-s246-answer : reference (typed_of s246) [] 58 ≡ Over (Undefined Ub.U17 (at_place 1 41)) ([])
-unfolding convert_to outcome_of negated_of complement_of calls_within greatest_depth
+s246-answer : shown (reference (typed_of s246) [] 58) ≡ Over (Undefined Ub.U17 (at_place 1 41)) ([])
+unfolding convert_to outcome_of negated_of complement_of bodies_within greatest_depth
 s246-answer = refl
 
 s246-units : spent (typed_of s246) [] 58 ≡ 8
-unfolding convert_to outcome_of negated_of complement_of calls_within greatest_depth
+unfolding convert_to outcome_of negated_of complement_of bodies_within greatest_depth
 s246-units = refl
 
 -- int main(void) { int *p = NULL; return &*p == p; }
@@ -651,12 +661,12 @@ s247-accepted : refusal s247 ≡ None
 unfolding convert_to outcome_of negated_of complement_of
 s247-accepted = refl
 
-s247-answer : reference (typed_of s247) [] 58 ≡ Over (Ended 1) ([])
-unfolding convert_to outcome_of negated_of complement_of calls_within greatest_depth
+s247-answer : shown (reference (typed_of s247) [] 58) ≡ Over (Ended 1) ([])
+unfolding convert_to outcome_of negated_of complement_of bodies_within greatest_depth
 s247-answer = refl
 
 s247-units : spent (typed_of s247) [] 58 ≡ 8
-unfolding convert_to outcome_of negated_of complement_of calls_within greatest_depth
+unfolding convert_to outcome_of negated_of complement_of bodies_within greatest_depth
 s247-units = refl
 
 -- struct s {int a; int b;}; int main(void) { struct s *p = NULL; return &p->b != NULL; }
@@ -667,12 +677,12 @@ s249-accepted : refusal s249 ≡ None
 unfolding convert_to outcome_of negated_of complement_of
 s249-accepted = refl
 
-s249-answer : reference (typed_of s249) [] 57 ≡ Over (Undefined Ub.U05 (at_place 1 72)) ([])
-unfolding convert_to outcome_of negated_of complement_of calls_within greatest_depth
+s249-answer : shown (reference (typed_of s249) [] 57) ≡ Over (Undefined Ub.U05 (at_place 1 72)) ([])
+unfolding convert_to outcome_of negated_of complement_of bodies_within greatest_depth
 s249-answer = refl
 
 s249-units : spent (typed_of s249) [] 57 ≡ 7
-unfolding convert_to outcome_of negated_of complement_of calls_within greatest_depth
+unfolding convert_to outcome_of negated_of complement_of bodies_within greatest_depth
 s249-units = refl
 
 -- int main(void) { int *p = malloc(4); free(p); return p == NULL; }
@@ -683,12 +693,12 @@ s250-accepted : refusal s250 ≡ None
 unfolding convert_to outcome_of negated_of complement_of
 s250-accepted = refl
 
-s250-answer : reference (typed_of s250) [] 62 ≡ Over (Undefined Ub.U06 (at_place 1 54)) ([])
-unfolding convert_to outcome_of negated_of complement_of calls_within greatest_depth
+s250-answer : shown (reference (typed_of s250) [] 62) ≡ Over (Undefined Ub.U06 (at_place 1 54)) ([])
+unfolding convert_to outcome_of negated_of complement_of bodies_within greatest_depth
 s250-answer = refl
 
 s250-units : spent (typed_of s250) [] 62 ≡ 12
-unfolding convert_to outcome_of negated_of complement_of calls_within greatest_depth
+unfolding convert_to outcome_of negated_of complement_of bodies_within greatest_depth
 s250-units = refl
 
 -- int main(void) { int *p = malloc(4); free(p); void *q = p; return 0; }
@@ -699,12 +709,12 @@ s252-accepted : refusal s252 ≡ None
 unfolding convert_to outcome_of negated_of complement_of
 s252-accepted = refl
 
-s252-answer : reference (typed_of s252) [] 59 ≡ Over (Undefined Ub.U06 (at_place 1 57)) ([])
-unfolding convert_to outcome_of negated_of complement_of calls_within greatest_depth
+s252-answer : shown (reference (typed_of s252) [] 59) ≡ Over (Undefined Ub.U06 (at_place 1 57)) ([])
+unfolding convert_to outcome_of negated_of complement_of bodies_within greatest_depth
 s252-answer = refl
 
 s252-units : spent (typed_of s252) [] 59 ≡ 9
-unfolding convert_to outcome_of negated_of complement_of calls_within greatest_depth
+unfolding convert_to outcome_of negated_of complement_of bodies_within greatest_depth
 s252-units = refl
 
 -- int main(void) { int *p = malloc(4); free(p); if (p) ; }
@@ -715,12 +725,12 @@ s253-accepted : refusal s253 ≡ None
 unfolding convert_to outcome_of negated_of complement_of
 s253-accepted = refl
 
-s253-answer : reference (typed_of s253) [] 60 ≡ Over (Undefined Ub.U06 (at_place 1 51)) ([])
-unfolding convert_to outcome_of negated_of complement_of calls_within greatest_depth
+s253-answer : shown (reference (typed_of s253) [] 60) ≡ Over (Undefined Ub.U06 (at_place 1 51)) ([])
+unfolding convert_to outcome_of negated_of complement_of bodies_within greatest_depth
 s253-answer = refl
 
 s253-units : spent (typed_of s253) [] 60 ≡ 10
-unfolding convert_to outcome_of negated_of complement_of calls_within greatest_depth
+unfolding convert_to outcome_of negated_of complement_of bodies_within greatest_depth
 s253-units = refl
 
 -- int main(void) { int *p; { int x; p = &x; } return *p; }
@@ -731,12 +741,12 @@ s255-accepted : refusal s255 ≡ None
 unfolding convert_to outcome_of negated_of complement_of
 s255-accepted = refl
 
-s255-answer : reference (typed_of s255) [] 60 ≡ Over (Undefined Ub.U06 (at_place 1 52)) ([])
-unfolding convert_to outcome_of negated_of complement_of calls_within greatest_depth
+s255-answer : shown (reference (typed_of s255) [] 60) ≡ Over (Undefined Ub.U06 (at_place 1 52)) ([])
+unfolding convert_to outcome_of negated_of complement_of bodies_within greatest_depth
 s255-answer = refl
 
 s255-units : spent (typed_of s255) [] 60 ≡ 10
-unfolding convert_to outcome_of negated_of complement_of calls_within greatest_depth
+unfolding convert_to outcome_of negated_of complement_of bodies_within greatest_depth
 s255-units = refl
 
 -- int main(void) { int a[3]; return a[3]; }
@@ -747,12 +757,12 @@ s256-accepted : refusal s256 ≡ None
 unfolding convert_to outcome_of negated_of complement_of
 s256-accepted = refl
 
-s256-answer : reference (typed_of s256) [] 55 ≡ Over (Undefined Ub.U07 (at_place 1 35)) ([])
-unfolding convert_to outcome_of negated_of complement_of calls_within greatest_depth
+s256-answer : shown (reference (typed_of s256) [] 55) ≡ Over (Undefined Ub.U07 (at_place 1 35)) ([])
+unfolding convert_to outcome_of negated_of complement_of bodies_within greatest_depth
 s256-answer = refl
 
 s256-units : spent (typed_of s256) [] 55 ≡ 5
-unfolding convert_to outcome_of negated_of complement_of calls_within greatest_depth
+unfolding convert_to outcome_of negated_of complement_of bodies_within greatest_depth
 s256-units = refl
 
 -- int main(void) { int a[3]; return a[-1]; }
@@ -763,12 +773,12 @@ s258-accepted : refusal s258 ≡ None
 unfolding convert_to outcome_of negated_of complement_of
 s258-accepted = refl
 
-s258-answer : reference (typed_of s258) [] 56 ≡ Over (Undefined Ub.U08 (at_place 1 35)) ([])
-unfolding convert_to outcome_of negated_of complement_of calls_within greatest_depth
+s258-answer : shown (reference (typed_of s258) [] 56) ≡ Over (Undefined Ub.U08 (at_place 1 35)) ([])
+unfolding convert_to outcome_of negated_of complement_of bodies_within greatest_depth
 s258-answer = refl
 
 s258-units : spent (typed_of s258) [] 56 ≡ 6
-unfolding convert_to outcome_of negated_of complement_of calls_within greatest_depth
+unfolding convert_to outcome_of negated_of complement_of bodies_within greatest_depth
 s258-units = refl
 
 -- int main(void) { int a[3]; return *(a + 4); }
@@ -779,12 +789,12 @@ s259-accepted : refusal s259 ≡ None
 unfolding convert_to outcome_of negated_of complement_of
 s259-accepted = refl
 
-s259-answer : reference (typed_of s259) [] 57 ≡ Over (Undefined Ub.U08 (at_place 1 37)) ([])
-unfolding convert_to outcome_of negated_of complement_of calls_within greatest_depth
+s259-answer : shown (reference (typed_of s259) [] 57) ≡ Over (Undefined Ub.U08 (at_place 1 37)) ([])
+unfolding convert_to outcome_of negated_of complement_of bodies_within greatest_depth
 s259-answer = refl
 
 s259-units : spent (typed_of s259) [] 57 ≡ 7
-unfolding convert_to outcome_of negated_of complement_of calls_within greatest_depth
+unfolding convert_to outcome_of negated_of complement_of bodies_within greatest_depth
 s259-units = refl
 
 -- int main(void) { int a[3]; return &a[4] == a; }
@@ -795,12 +805,12 @@ s261-accepted : refusal s261 ≡ None
 unfolding convert_to outcome_of negated_of complement_of
 s261-accepted = refl
 
-s261-answer : reference (typed_of s261) [] 57 ≡ Over (Undefined Ub.U08 (at_place 1 36)) ([])
-unfolding convert_to outcome_of negated_of complement_of calls_within greatest_depth
+s261-answer : shown (reference (typed_of s261) [] 57) ≡ Over (Undefined Ub.U08 (at_place 1 36)) ([])
+unfolding convert_to outcome_of negated_of complement_of bodies_within greatest_depth
 s261-answer = refl
 
 s261-units : spent (typed_of s261) [] 57 ≡ 7
-unfolding convert_to outcome_of negated_of complement_of calls_within greatest_depth
+unfolding convert_to outcome_of negated_of complement_of bodies_within greatest_depth
 s261-units = refl
 
 -- int main(void) { int a[3]; return &a[3] == a + 3; }
@@ -811,12 +821,12 @@ s262-accepted : refusal s262 ≡ None
 unfolding convert_to outcome_of negated_of complement_of
 s262-accepted = refl
 
-s262-answer : reference (typed_of s262) [] 60 ≡ Over (Ended 1) ([])
-unfolding convert_to outcome_of negated_of complement_of calls_within greatest_depth
+s262-answer : shown (reference (typed_of s262) [] 60) ≡ Over (Ended 1) ([])
+unfolding convert_to outcome_of negated_of complement_of bodies_within greatest_depth
 s262-answer = refl
 
 s262-units : spent (typed_of s262) [] 60 ≡ 10
-unfolding convert_to outcome_of negated_of complement_of calls_within greatest_depth
+unfolding convert_to outcome_of negated_of complement_of bodies_within greatest_depth
 s262-units = refl
 
 -- int main(void) { int a[2][3]; return &a[0][2] < &a[1][0]; }
@@ -827,12 +837,12 @@ s264-accepted : refusal s264 ≡ None
 unfolding convert_to outcome_of negated_of complement_of
 s264-accepted = refl
 
-s264-answer : reference (typed_of s264) [] 65 ≡ Over (Undefined Ub.U09 (at_place 1 38)) ([])
-unfolding convert_to outcome_of negated_of complement_of calls_within greatest_depth
+s264-answer : shown (reference (typed_of s264) [] 65) ≡ Over (Undefined Ub.U09 (at_place 1 38)) ([])
+unfolding convert_to outcome_of negated_of complement_of bodies_within greatest_depth
 s264-answer = refl
 
 s264-units : spent (typed_of s264) [] 65 ≡ 15
-unfolding convert_to outcome_of negated_of complement_of calls_within greatest_depth
+unfolding convert_to outcome_of negated_of complement_of bodies_within greatest_depth
 s264-units = refl
 
 -- int main(void) { int a[3]; int b[3]; return a < b; }
@@ -843,12 +853,12 @@ s265-accepted : refusal s265 ≡ None
 unfolding convert_to outcome_of negated_of complement_of
 s265-accepted = refl
 
-s265-answer : reference (typed_of s265) [] 55 ≡ Over (Undefined Ub.U09 (at_place 1 45)) ([])
-unfolding convert_to outcome_of negated_of complement_of calls_within greatest_depth
+s265-answer : shown (reference (typed_of s265) [] 55) ≡ Over (Undefined Ub.U09 (at_place 1 45)) ([])
+unfolding convert_to outcome_of negated_of complement_of bodies_within greatest_depth
 s265-answer = refl
 
 s265-units : spent (typed_of s265) [] 55 ≡ 5
-unfolding convert_to outcome_of negated_of complement_of calls_within greatest_depth
+unfolding convert_to outcome_of negated_of complement_of bodies_within greatest_depth
 s265-units = refl
 
 -- int main(void) { int a[3]; int b[3]; return a - b; }
@@ -859,12 +869,12 @@ s267-accepted : refusal s267 ≡ None
 unfolding convert_to outcome_of negated_of complement_of
 s267-accepted = refl
 
-s267-answer : reference (typed_of s267) [] 55 ≡ Over (Undefined Ub.U10 (at_place 1 45)) ([])
-unfolding convert_to outcome_of negated_of complement_of calls_within greatest_depth
+s267-answer : shown (reference (typed_of s267) [] 55) ≡ Over (Undefined Ub.U10 (at_place 1 45)) ([])
+unfolding convert_to outcome_of negated_of complement_of bodies_within greatest_depth
 s267-answer = refl
 
 s267-units : spent (typed_of s267) [] 55 ≡ 5
-unfolding convert_to outcome_of negated_of complement_of calls_within greatest_depth
+unfolding convert_to outcome_of negated_of complement_of bodies_within greatest_depth
 s267-units = refl
 
 -- int main(void) { int *p = NULL; return p - p; }
@@ -875,12 +885,12 @@ s268-accepted : refusal s268 ≡ None
 unfolding convert_to outcome_of negated_of complement_of
 s268-accepted = refl
 
-s268-answer : reference (typed_of s268) [] 56 ≡ Over (Undefined Ub.U10 (at_place 1 40)) ([])
-unfolding convert_to outcome_of negated_of complement_of calls_within greatest_depth
+s268-answer : shown (reference (typed_of s268) [] 56) ≡ Over (Undefined Ub.U10 (at_place 1 40)) ([])
+unfolding convert_to outcome_of negated_of complement_of bodies_within greatest_depth
 s268-answer = refl
 
 s268-units : spent (typed_of s268) [] 56 ≡ 6
-unfolding convert_to outcome_of negated_of complement_of calls_within greatest_depth
+unfolding convert_to outcome_of negated_of complement_of bodies_within greatest_depth
 s268-units = refl
 
 -- int main(void) { int *p = malloc(8); free(p + 1); }
@@ -891,12 +901,12 @@ s270-accepted : refusal s270 ≡ None
 unfolding convert_to outcome_of negated_of complement_of
 s270-accepted = refl
 
-s270-answer : reference (typed_of s270) [] 60 ≡ Over (Undefined Ub.U11 (at_place 1 38)) ([])
-unfolding convert_to outcome_of negated_of complement_of calls_within greatest_depth
+s270-answer : shown (reference (typed_of s270) [] 60) ≡ Over (Undefined Ub.U11 (at_place 1 38)) ([])
+unfolding convert_to outcome_of negated_of complement_of bodies_within greatest_depth
 s270-answer = refl
 
 s270-units : spent (typed_of s270) [] 60 ≡ 10
-unfolding convert_to outcome_of negated_of complement_of calls_within greatest_depth
+unfolding convert_to outcome_of negated_of complement_of bodies_within greatest_depth
 s270-units = refl
 
 -- int main(void) { int x; free(&x); }
@@ -907,12 +917,12 @@ s271-accepted : refusal s271 ≡ None
 unfolding convert_to outcome_of negated_of complement_of
 s271-accepted = refl
 
-s271-answer : reference (typed_of s271) [] 56 ≡ Over (Undefined Ub.U11 (at_place 1 25)) ([])
-unfolding convert_to outcome_of negated_of complement_of calls_within greatest_depth
+s271-answer : shown (reference (typed_of s271) [] 56) ≡ Over (Undefined Ub.U11 (at_place 1 25)) ([])
+unfolding convert_to outcome_of negated_of complement_of bodies_within greatest_depth
 s271-answer = refl
 
 s271-units : spent (typed_of s271) [] 56 ≡ 6
-unfolding convert_to outcome_of negated_of complement_of calls_within greatest_depth
+unfolding convert_to outcome_of negated_of complement_of bodies_within greatest_depth
 s271-units = refl
 
 -- int main(void) { void *p = malloc(4); free(p); free(p); }
@@ -923,12 +933,12 @@ s273-accepted : refusal s273 ≡ None
 unfolding convert_to outcome_of negated_of complement_of
 s273-accepted = refl
 
-s273-answer : reference (typed_of s273) [] 62 ≡ Over (Undefined Ub.U11 (at_place 1 48)) ([])
-unfolding convert_to outcome_of negated_of complement_of calls_within greatest_depth
+s273-answer : shown (reference (typed_of s273) [] 62) ≡ Over (Undefined Ub.U11 (at_place 1 48)) ([])
+unfolding convert_to outcome_of negated_of complement_of bodies_within greatest_depth
 s273-answer = refl
 
 s273-units : spent (typed_of s273) [] 62 ≡ 12
-unfolding convert_to outcome_of negated_of complement_of calls_within greatest_depth
+unfolding convert_to outcome_of negated_of complement_of bodies_within greatest_depth
 s273-units = refl
 
 -- int main(void) { int x; long *p = (long *)&x; }
@@ -939,12 +949,12 @@ s274-accepted : refusal s274 ≡ None
 unfolding convert_to outcome_of negated_of complement_of
 s274-accepted = refl
 
-s274-answer : reference (typed_of s274) [] 54 ≡ Over (Undefined Ub.U12 (at_place 1 35)) ([])
-unfolding convert_to outcome_of negated_of complement_of calls_within greatest_depth
+s274-answer : shown (reference (typed_of s274) [] 54) ≡ Over (Undefined Ub.U12 (at_place 1 35)) ([])
+unfolding convert_to outcome_of negated_of complement_of bodies_within greatest_depth
 s274-answer = refl
 
 s274-units : spent (typed_of s274) [] 54 ≡ 4
-unfolding convert_to outcome_of negated_of complement_of calls_within greatest_depth
+unfolding convert_to outcome_of negated_of complement_of bodies_within greatest_depth
 s274-units = refl
 
 -- int main(void) { int a[3]; int (*p)[3] = (int (*)[3])a; }
@@ -955,12 +965,12 @@ s276-accepted : refusal s276 ≡ None
 unfolding convert_to outcome_of negated_of complement_of
 s276-accepted = refl
 
-s276-answer : reference (typed_of s276) [] 53 ≡ Over (Undefined Ub.U12 (at_place 1 42)) ([])
-unfolding convert_to outcome_of negated_of complement_of calls_within greatest_depth
+s276-answer : shown (reference (typed_of s276) [] 53) ≡ Over (Undefined Ub.U12 (at_place 1 42)) ([])
+unfolding convert_to outcome_of negated_of complement_of bodies_within greatest_depth
 s276-answer = refl
 
 s276-units : spent (typed_of s276) [] 53 ≡ 3
-unfolding convert_to outcome_of negated_of complement_of calls_within greatest_depth
+unfolding convert_to outcome_of negated_of complement_of bodies_within greatest_depth
 s276-units = refl
 
 -- int main(void) { int a[3]; int (*p)[3] = (int (*)[3])&a; return sizeof *p; }
@@ -971,12 +981,12 @@ s277-accepted : refusal s277 ≡ None
 unfolding convert_to outcome_of negated_of complement_of
 s277-accepted = refl
 
-s277-answer : reference (typed_of s277) [] 56 ≡ Over (Ended 12) ([])
-unfolding convert_to outcome_of negated_of complement_of calls_within greatest_depth
+s277-answer : shown (reference (typed_of s277) [] 56) ≡ Over (Ended 12) ([])
+unfolding convert_to outcome_of negated_of complement_of bodies_within greatest_depth
 s277-answer = refl
 
 s277-units : spent (typed_of s277) [] 56 ≡ 6
-unfolding convert_to outcome_of negated_of complement_of calls_within greatest_depth
+unfolding convert_to outcome_of negated_of complement_of bodies_within greatest_depth
 s277-units = refl
 
 -- int main(void) { void *v = malloc(8); int *p = v; int *q = v; return p == q; }
@@ -987,12 +997,12 @@ s279-accepted : refusal s279 ≡ None
 unfolding convert_to outcome_of negated_of complement_of
 s279-accepted = refl
 
-s279-answer : reference (typed_of s279) [] 60 ≡ Over (Ended 1) ([])
-unfolding convert_to outcome_of negated_of complement_of calls_within greatest_depth
+s279-answer : shown (reference (typed_of s279) [] 60) ≡ Over (Ended 1) ([])
+unfolding convert_to outcome_of negated_of complement_of bodies_within greatest_depth
 s279-answer = refl
 
 s279-units : spent (typed_of s279) [] 60 ≡ 10
-unfolding convert_to outcome_of negated_of complement_of calls_within greatest_depth
+unfolding convert_to outcome_of negated_of complement_of bodies_within greatest_depth
 s279-units = refl
 
 -- int main(void) { void *v = malloc(8); int *p = v; long *q = v; }
@@ -1003,12 +1013,12 @@ s280-accepted : refusal s280 ≡ None
 unfolding convert_to outcome_of negated_of complement_of
 s280-accepted = refl
 
-s280-answer : reference (typed_of s280) [] 56 ≡ Over (Undefined Ub.U12 (at_place 1 61)) ([])
-unfolding convert_to outcome_of negated_of complement_of calls_within greatest_depth
+s280-answer : shown (reference (typed_of s280) [] 56) ≡ Over (Undefined Ub.U12 (at_place 1 61)) ([])
+unfolding convert_to outcome_of negated_of complement_of bodies_within greatest_depth
 s280-answer = refl
 
 s280-units : spent (typed_of s280) [] 56 ≡ 6
-unfolding convert_to outcome_of negated_of complement_of calls_within greatest_depth
+unfolding convert_to outcome_of negated_of complement_of bodies_within greatest_depth
 s280-units = refl
 
 -- int main(void) { int (*p)(void) = NULL; return p(); }
@@ -1019,12 +1029,12 @@ s282-accepted : refusal s282 ≡ None
 unfolding convert_to outcome_of negated_of complement_of
 s282-accepted = refl
 
-s282-answer : reference (typed_of s282) [] 55 ≡ Over (Undefined Ub.U15 (at_place 1 48)) ([])
-unfolding convert_to outcome_of negated_of complement_of calls_within greatest_depth
+s282-answer : shown (reference (typed_of s282) [] 55) ≡ Over (Undefined Ub.U15 (at_place 1 48)) ([])
+unfolding convert_to outcome_of negated_of complement_of bodies_within greatest_depth
 s282-answer = refl
 
 s282-units : spent (typed_of s282) [] 55 ≡ 5
-unfolding convert_to outcome_of negated_of complement_of calls_within greatest_depth
+unfolding convert_to outcome_of negated_of complement_of bodies_within greatest_depth
 s282-units = refl
 
 -- int main(void) { int (*p)(void) = NULL; return (*p)(); }
@@ -1035,12 +1045,12 @@ s283-accepted : refusal s283 ≡ None
 unfolding convert_to outcome_of negated_of complement_of
 s283-accepted = refl
 
-s283-answer : reference (typed_of s283) [] 57 ≡ Over (Undefined Ub.U15 (at_place 1 48)) ([])
-unfolding convert_to outcome_of negated_of complement_of calls_within greatest_depth
+s283-answer : shown (reference (typed_of s283) [] 57) ≡ Over (Undefined Ub.U15 (at_place 1 48)) ([])
+unfolding convert_to outcome_of negated_of complement_of bodies_within greatest_depth
 s283-answer = refl
 
 s283-units : spent (typed_of s283) [] 57 ≡ 7
-unfolding convert_to outcome_of negated_of complement_of calls_within greatest_depth
+unfolding convert_to outcome_of negated_of complement_of bodies_within greatest_depth
 s283-units = refl
 
 -- struct o; struct o *g(void) { return malloc(3); } int main(void) { struct o *p = g(); free(p); return 0; }
@@ -1051,12 +1061,12 @@ s285-accepted : refusal s285 ≡ None
 unfolding convert_to outcome_of negated_of complement_of
 s285-accepted = refl
 
-s285-answer : reference (typed_of s285) [] 64 ≡ Over (Ended 0) ([])
-unfolding convert_to outcome_of negated_of complement_of calls_within greatest_depth
+s285-answer : shown (reference (typed_of s285) [] 64) ≡ Over (Ended 0) ([])
+unfolding convert_to outcome_of negated_of complement_of bodies_within greatest_depth
 s285-answer = refl
 
 s285-units : spent (typed_of s285) [] 64 ≡ 14
-unfolding convert_to outcome_of negated_of complement_of calls_within greatest_depth
+unfolding convert_to outcome_of negated_of complement_of bodies_within greatest_depth
 s285-units = refl
 
 -- struct o; struct o *g(void) { return malloc(8); } int main(void) { int *p = (int *)g(); p[1] = 7; return p[1]; }
@@ -1067,12 +1077,12 @@ s286-accepted : refusal s286 ≡ None
 unfolding convert_to outcome_of negated_of complement_of
 s286-accepted = refl
 
-s286-answer : reference (typed_of s286) [] 69 ≡ Over (Ended 7) ([])
-unfolding convert_to outcome_of negated_of complement_of calls_within greatest_depth
+s286-answer : shown (reference (typed_of s286) [] 69) ≡ Over (Ended 7) ([])
+unfolding convert_to outcome_of negated_of complement_of bodies_within greatest_depth
 s286-answer = refl
 
 s286-units : spent (typed_of s286) [] 69 ≡ 19
-unfolding convert_to outcome_of negated_of complement_of calls_within greatest_depth
+unfolding convert_to outcome_of negated_of complement_of bodies_within greatest_depth
 s286-units = refl
 
 -- int d; int f(void) { d = d * 10 + 1; return 0; } int g(void) { d = d * 10 + 2; return 0; } int main(void) { f() + g() * f(); return d - 100; }
@@ -1083,12 +1093,12 @@ s288-accepted : refusal s288 ≡ None
 unfolding convert_to outcome_of negated_of complement_of
 s288-accepted = refl
 
-s288-answer : reference (typed_of s288) [] 97 ≡ Over (Ended 21) ([])
-unfolding convert_to outcome_of negated_of complement_of calls_within greatest_depth
+s288-answer : shown (reference (typed_of s288) [] 97) ≡ Over (Ended 21) ([])
+unfolding convert_to outcome_of negated_of complement_of bodies_within greatest_depth
 s288-answer = refl
 
 s288-units : spent (typed_of s288) [] 97 ≡ 47
-unfolding convert_to outcome_of negated_of complement_of calls_within greatest_depth
+unfolding convert_to outcome_of negated_of complement_of bodies_within greatest_depth
 s288-units = refl
 
 -- int main(void) { int x = 1; x = x++ + x++; return x; }
@@ -1099,10 +1109,10 @@ s289-accepted : refusal s289 ≡ None
 unfolding convert_to outcome_of negated_of complement_of
 s289-accepted = refl
 
-s289-answer : reference (typed_of s289) [] 62 ≡ Over (Ended 3) ([])
-unfolding convert_to outcome_of negated_of complement_of calls_within greatest_depth
+s289-answer : shown (reference (typed_of s289) [] 62) ≡ Over (Ended 3) ([])
+unfolding convert_to outcome_of negated_of complement_of bodies_within greatest_depth
 s289-answer = refl
 
 s289-units : spent (typed_of s289) [] 62 ≡ 12
-unfolding convert_to outcome_of negated_of complement_of calls_within greatest_depth
+unfolding convert_to outcome_of negated_of complement_of bodies_within greatest_depth
 s289-units = refl

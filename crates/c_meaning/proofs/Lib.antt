@@ -1,1 +1,4 @@
 mod Answers
+pub mod Shrinking
+pub mod ShrinkingSteps
+pub mod ShrinkingTrees

@@ -9,9 +9,10 @@ use Rattle.c_typed.specs.declared.structure.Member.{Member}
 use Rattle.c_typed.specs.declared.structure.PlacedMember.{PlacedMember}
 use Rattle.c_typed.specs.declared.structure.Structure.{Structure}
 use Rattle.c_typed.specs.Extents.{IsSmall, extent_layout}
-use Rattle.c_typed.specs.Layouts.{StructDef, MemberDef, Layout, Table, saturated, aligned, no_layout, behind, known_layout, member_layout, members_layout, layouts, slots_before}
+use Rattle.c_typed.specs.Layouts.{StructDef, MemberDef, Layout, Table, saturated, aligned, no_layout, behind, known_layout, member_layout, members_layout, layouts, slots_before, offset_before}
 use Rattle.c_typed.specs.Table.{Interned, MemberEntry, known_in, member_def, member_defs, structs_in}
-use Rattle.c_typed.specs.Inside.{member_entry, struct_entry, is_known_sized, are_sized, HaveSlots, Pushes, IsEmpty, IsBuilding, IsBuilt}
+use Rattle.c_typed.specs.Inside.{member_entry, struct_entry, is_known_sized, are_sized, HaveSlots, HaveOffsets, Pushes, IsEmpty, IsBuilding, IsBuilt}
+use Rattle.c_typed.proofs.Offsets.{offset_front, offset_last}
 use Rattle.c_typed.proofs.Sizes.{small_front}
 use Rattle.c_typed.proofs.Tags.{get_pushed_at}
 
@@ -53,6 +54,7 @@ module _ (table : Interned) (its : tag.StructId) where
     sized = ap (λ ms. are_sized (structs_in table) (defs_of ms)) is.members;
     extent = is.extent ∙ sym (ap (λ ms. members_layout (layouts (structs_in table)) no_layout (defs_of ms)) is.members);
     slots = subst (λ ms. HaveSlots (structs_in table) (defs_of ms) ms) (sym is.members) (λ n member at. absurd (none_there n member at));
+    offsets = subst (λ ms. HaveOffsets (structs_in table) (defs_of ms) ms) (sym is.members) (λ n member at. absurd (none_there n member at));
     numbers = is.numbers;
   }
     where
@@ -63,7 +65,7 @@ module _ (table : Interned) (its : tag.StructId) where
       (layout : extent_layout own ≡ known_layout (layouts (structs_in table)) (known_in table.tags table.entries member.c_type))
       (sized : is_known_sized (structs_in table) (known_in table.tags table.entries member.c_type) ≡ true) where
     abbrev placed : PlacedMember
-    placed = record { name = member.name; c_type = member.c_type; slots_before = s.extent.slots }
+    placed = record { name = member.name; c_type = member.c_type; slots_before = s.extent.slots; offset = saturated (aligned own.alignment s.extent.size) }
 
     slots_pushed : HaveSlots (structs_in table) (defs_of (s.members.items ++ placed ∷ [])) (s.members.items ++ placed ∷ [])
     slots_pushed n found at = by (get_pushed_at s.members.items placed found n at)
@@ -82,6 +84,21 @@ module _ (table : Interned) (its : tag.StructId) where
             ∙ ap (λ ds. (members_layout (layouts (structs_in table)) no_layout ds).slots) (sym (take_at (defs_of s.members.items) (own_def placed ∷ []) n (length-defs s.members.items ∙ sym last.0)))
             ∙ ap (λ ds. slots_before (layouts (structs_in table)) n ds) (sym (defs_pushed s.members.items placed))
 
+    abbrev all_defs : List MemberDef
+    all_defs = defs_of s.members.items ++ own_def placed ∷ []
+
+    offsets_pushed : HaveOffsets (structs_in table) (defs_of (s.members.items ++ placed ∷ [])) (s.members.items ++ placed ∷ [])
+    offsets_pushed n found at = by (get_pushed_at s.members.items placed found n at) ∙ ap (λ ds. offset_before (layouts (structs_in table)) ds n (slice_get ds n)) (sym (defs_pushed s.members.items placed))
+      where
+        by : (slice_get s.members.items n ≡ Some found) ⊎ ((n ≡ length s.members.items) × (placed ≡ found)) → found.offset ≡ offset_before (layouts (structs_in table)) all_defs n (slice_get all_defs n)
+        by (inl old) =
+            let lt = slice_get_within s.members.items n found old in
+            is.offsets n found old ∙ sym (offset_front (layouts (structs_in table)) (defs_of s.members.items) (own_def placed) n (omega (arith, length-defs s.members.items)))
+        by (inr last) =
+            ap (λ (m : PlacedMember). m.offset) (sym last.1)
+            ∙ (λ i. saturated (aligned (layout i).alignment (is.extent i).size))
+            ∙ sym (offset_last (layouts (structs_in table)) (defs_of s.members.items) (own_def placed) n (last.0 ∙ sym (length-defs s.members.items)))
+
     pub building_more : IsBuilding table its new
     building_more = record {
       id = pushes.id ∙ is.id;
@@ -96,6 +113,7 @@ module _ (table : Interned) (its : tag.StructId) where
           ∙ ap (members_layout (layouts (structs_in table)) no_layout) (sym (defs_pushed s.members.items placed))
           ∙ sym (ap (λ ms. members_layout (layouts (structs_in table)) no_layout (defs_of ms)) pushes.members);
       slots = subst (λ ms. HaveSlots (structs_in table) (defs_of ms) ms) (sym pushes.members) slots_pushed;
+      offsets = subst (λ ms. HaveOffsets (structs_in table) (defs_of ms) ms) (sym pushes.members) offsets_pushed;
       numbers = pushes.numbers is.numbers;
     }
 
@@ -116,5 +134,6 @@ module _ (table : Interned) (its : tag.StructId) where
     sized = is.sized;
     extent = extent ∙ (λ i. let l = is.extent i in record { size = saturated (aligned l.alignment l.size); alignment = l.alignment; slots = l.slots });
     slots = is.slots;
+    offsets = is.offsets;
     numbers = is.numbers;
   }

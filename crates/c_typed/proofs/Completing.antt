@@ -108,6 +108,7 @@ module _ {Z : Type 0} (entries : List (Derived × Extent)) (tags : List (Vec ℕ
     sized = built.sized;
     extent = built.extent;
     slots = built.slots;
+    offsets = built.offsets;
     numbers = built.numbers;
   }
 

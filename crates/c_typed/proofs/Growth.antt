@@ -8,7 +8,7 @@ use Rattle.c_typed.specs.declared.c_type.Derived.TheVariants as D
 use Rattle.c_typed.specs.declared.extent.Extent.{Extent}
 use Rattle.c_typed.specs.declared.structure.Structure.{Structure}
 use Rattle.c_typed.specs.Types.{Array}
-use Rattle.c_typed.specs.Layouts.{StructDef, layouts, layout_of, struct_layout, slots_before}
+use Rattle.c_typed.specs.Layouts.{StructDef, layouts, layout_of, struct_layout, slots_before, offset_before}
 use Rattle.c_typed.specs.Table.{Interned, MemberEntry, Meaning, AType, AList, Nothing, meaning_in, meaning_of, derived_meaning, numbered, the_tag, the_type, member_def, member_defs, struct_defs, structs_in, IsAType, Grows}
 use Rattle.c_typed.specs.Inside.{AreApart, IsSomething, HaveMeanings, is_sized, HasExtent, struct_entry, struct_entries, MemberStands, MembersStand, are_sized, ArePlaced, types_of, tags_of, interned, greatest_count, IsTable, MakesEntry}
 use Rattle.c_typed.proofs.Meanings.{entry-means, meaning_stays, meaning_newest, numbered_more}
@@ -65,6 +65,7 @@ module _ (more_tags tags : List (List ℕ)) (more es : List Derived) where
             sized = (λ i. are_sized (defs i) (members.0 i)) ∙ placed.sized;
             extent = placed.extent ∙ sym (λ i. struct_layout (layouts (defs i)) (members.0 i));
             slots = λ n member at. placed.slots n member at ∙ sym (λ i. slots_before (layouts (defs i)) n (members.0 i));
+            offsets = λ n member at. placed.offsets n member at ∙ sym (λ i. offset_before (layouts (defs i)) (members.0 i) n (slice_get (members.0 i) n));
             numbers = placed.numbers;
           },
           rest.1,

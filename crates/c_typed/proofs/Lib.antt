@@ -8,6 +8,7 @@ mod Keys
 mod Lists
 mod Meanings
 mod Members
+mod Offsets
 mod Reading
 pub mod Same
 mod Sizes

@@ -198,7 +198,7 @@ module _ {Z : Type 0} (entries : List (Derived × Extent)) (tags : List (Vec ℕ
       let same : found.structure ≡ s = same_Some found.structure s (sym found.at ∙ numbered-reverse structures n ∙ at) in
       let facts = found.facts in
       subst (IsStructure (interned entries tags structures) id) same
-      (record { members = facts.members; extent = facts.extent; stand = facts.stand; slots = facts.slots; numbers = facts.numbers })
+      (record { members = facts.members; extent = facts.extent; stand = facts.stand; slots = facts.slots; offsets = facts.offsets; numbers = facts.numbers })
 
   pub structure_within : (n : ℕ) → completed_index (struct_entries (reverse structures)) id.0 ≡ Some n → n < length structures
   structure_within n some =

@@ -103,7 +103,7 @@ none_incomplete structs tag e = by (members_by_tag structs tag) e
     by None e = refl
     by (Some members) e = absurd (none-some members (sym e))
 
-sized_parts : (a b : Bool) → cond a b false ≡ true → (a ≡ true) × (b ≡ true)
+pub sized_parts : (a b : Bool) → cond a b false ≡ true → (a ≡ true) × (b ≡ true)
 sized_parts true b h = (refl, h)
 sized_parts false b h = absurd (false≢true h)
 
@@ -134,7 +134,7 @@ module _ (newest : StructDef) (older : List StructDef) (fresh : members_by_tag o
       by false e = h
   sized_more (Function t ts) h = h
 
-  known_stays : (t : Option CType) → is_known_sized older t ≡ true → known_layout (layouts (newest ∷ older)) t ≡ known_layout (layouts older) t
+  pub known_stays : (t : Option CType) → is_known_sized older t ≡ true → known_layout (layouts (newest ∷ older)) t ≡ known_layout (layouts older) t
   known_stays (Some t) h = sized_layout t h
   known_stays None h = refl
 
@@ -148,7 +148,7 @@ module _ (newest : StructDef) (older : List StructDef) (fresh : members_by_tag o
       ap (λ l. members_layout (layouts (newest ∷ older)) (behind front l) members) same
       ∙ front_stays members (behind front (member_layout (layouts older) member)) parts.1
 
-  sized_taken : (n : ℕ) (members : List MemberDef) → are_sized older members ≡ true → are_sized older (take n members) ≡ true
+  pub sized_taken : (n : ℕ) (members : List MemberDef) → are_sized older members ≡ true → are_sized older (take n members) ≡ true
   sized_taken zero members h = refl
   sized_taken (suc n) [] h = refl
   sized_taken (suc n) (member ∷ members) h =

@@ -12,7 +12,7 @@ use Rattle.c_typed.specs.declared.statement.SwitchItem as memory_switch
 use Rattle.c_typed.specs.declared.statement.SwitchItem.TheVariants as W
 use Rattle.c_typed.specs.declared.typed.Value as memory_value
 use Rattle.c_typed.specs.Typed as typed
-use Rattle.c_typed.specs.Table.{Interned, Grows, Stands, type_in}
+use Rattle.c_typed.specs.Table.{Interned, Grows}
 use Rattle.c_typed.specs.Views.{value_in, ValueStands}
 use Rattle.c_typed.specs.StatementViews.{optional_value_in, OptionalStands, local_in, LocalStands, LocalsStand, start_in, StartStands, stmt_in, block_row, switch_row, block_in, switch_in, StmtStands, BlockRowStands, SwitchRowStands, BlockStands, SwitchStands}
 use Rattle.c_typed.proofs.Grown.{stays}

@@ -8,12 +8,13 @@ use Rattle.c_typed.specs.declared.c_type.Shape.{Shape}
 use Rattle.c_typed.specs.declared.c_type.Shape.TheVariants as S
 use Rattle.c_typed.specs.declared.structure.PlacedMember.{PlacedMember}
 use Rattle.c_typed.specs.declared.structure.MemberAt.{MemberAt}
+use Rattle.c_typed.specs.declared.structure.MemberPlace.{MemberPlace}
 use Rattle.c_typed.specs.declared.structure.Structure.{Structure}
 use Rattle.c_typed.specs.declared.structure.Step.{Step}
 use Rattle.c_typed.specs.declared.structure.Step.TheVariants as Steps
 use Rattle.c_typed.specs.Types.{CType, Void, Integer, Pointer, Array, Struct}
-use Rattle.c_typed.specs.Layouts.{StructDef, greatest, saturated, layouts, members_by_tag, known_members, member_type, member_slots, slot_at}
-use Rattle.c_typed.specs.Table.{Interned, structs_in, known_in, KnownStands, member_def, member_defs, tag_in, type_in, Stands, shape_type, members_of, names_of, member_number, IsMember, IsMemberType}
+use Rattle.c_typed.specs.Layouts.{StructDef, MemberDef, greatest, saturated, layouts, members_by_tag, known_members, member_type, member_slots, slot_at}
+use Rattle.c_typed.specs.Table.{Interned, structs_in, known_in, KnownStands, member_def, member_defs, tag_in, type_in, Stands, shape_type, members_of, names_of, member_number, IsMember, IsMemberType, IsMemberPlace}
 use Rattle.c_typed.specs.Inside.{IsStep, IsStructure, MemberStands, MembersStand, member_entry, struct_entry, before, placed_names, IsFirst}
 use Rattle.c_typed.proofs.Sizes.{saturated-le, small_slots_before}
 
@@ -109,6 +110,27 @@ module _ (table : Interned) where
   -- there is none before the structure is completed
   pub no_member_there : (id : tag.StructId) → members_by_tag (structs_in table) (tag_in table id) ≡ None → (n : ℕ) → IsMemberType table (slice_get (members_of (structs_in table) (Struct (tag_in table id))) n) None
   no_member_there id is n = subst (λ o. IsMemberType table (slice_get (known_members o) n) None) (sym is) tt
+
+  abbrev defs_of : Structure → List MemberDef
+  defs_of s = member_defs table.tags table.entries (struct_entry s).members
+
+  -- where a member stands
+  pub place_there : (id : tag.StructId) (s : Structure) (c_type : CType) → IsStructure table id s → c_type ≡ Struct (tag_in table id) → (n : ℕ) (found : Option MemberPlace)
+      → found ≡ option_map (λ (m : PlacedMember). record { offset = m.offset; c_type = m.c_type }) (slice_get s.members.items n)
+      → IsMemberPlace table (members_of (structs_in table) c_type) n found
+  place_there id s c_type is e n found h =
+      let members : members_of (structs_in table) c_type ≡ defs_of s = ap (members_of (structs_in table)) e ∙ ap known_members is.members in
+      subst (λ ms. IsMemberPlace table ms n found) (sym members) (subst (IsMemberPlace table (defs_of s) n) (sym h) (by (slice_get s.members.items n) refl))
+    where
+      by : (o : Option PlacedMember) → slice_get s.members.items n ≡ o
+          → IsMemberPlace table (defs_of s) n (option_map (λ (m : PlacedMember). record { offset = m.offset; c_type = m.c_type }) o)
+      by None at = def_there s.members.items n ∙ ap (option_map (λ (m : PlacedMember). member_def table.tags table.entries (member_entry m))) at
+      by (Some member) at =
+          let there = def_there s.members.items n ∙ ap (option_map (λ (m : PlacedMember). member_def table.tags table.entries (member_entry m))) at in (
+            is.offsets n member at,
+            sym (ap (option_map (λ (m : MemberDef). m.c_type)) there),
+            stands_there s.members.items is.stand n member at,
+          )
 
   -- a step from a part with a type
   pub step_from : (whole : Option number.CType) (t : number.CType) (c_type : CType) (step step' : Step) (found : ℕ × Option number.CType) → whole ≡ Some t → type_in table t ≡ c_type → step ≡ step'

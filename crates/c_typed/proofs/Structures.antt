@@ -10,11 +10,12 @@ use Rattle.c_typed.specs.declared.structure.Structure.{Structure}
 use Rattle.c_typed.specs.Extents.{extent_layout}
 use Rattle.c_typed.specs.Layouts.{StructDef, no_layout, layouts, layout_by_tag, struct_layout, members_by_tag}
 use Rattle.c_typed.specs.Table.{numbered, the_tag, member_defs, struct_def, struct_defs}
-use Rattle.c_typed.specs.Inside.{AreApart, struct_entry, struct_entries, completed_index, MembersStand, are_sized, HaveSlots, AreNumbered, ArePlaced}
+use Rattle.c_typed.specs.Inside.{AreApart, struct_entry, struct_entries, completed_index, MembersStand, are_sized, HaveSlots, HaveOffsets, AreNumbered, ArePlaced}
 use Rattle.c_typed.proofs.Meanings.{numbered_newest, numbered_older, numbered-below}
 use Rattle.c_typed.proofs.Apart.{numbered_apart}
 use Rattle.c_typed.proofs.Lists.{numbered-within}
 use Rattle.c_typed.proofs.Sizes.{slots_before-stays, are_sized_more}
+use Rattle.c_typed.proofs.Offsets.{offset_before-stays}
 
 module _ (tags : List (List ℕ)) (apart : AreApart tags) where
   -- tags are the same only where their numbers are
@@ -33,6 +34,7 @@ pub record Facts (tags : List (List ℕ)) (es : List Derived) (ss : List Structu
   pub stand : MembersStand tags es (struct_entry s).members
   pub sized : are_sized (struct_defs tags es (struct_entries ss)) (member_defs tags es (struct_entry s).members) ≡ true
   pub slots : HaveSlots (struct_defs tags es (struct_entries ss)) (member_defs tags es (struct_entry s).members) s.members.items
+  pub offsets : HaveOffsets (struct_defs tags es (struct_entries ss)) (member_defs tags es (struct_entry s).members) s.members.items
   pub numbers : AreNumbered s.numbers s.members.items
 
 module _ (tags : List (List ℕ)) (es : List Derived) (apart : AreApart tags) where
@@ -67,6 +69,7 @@ module _ (tags : List (List ℕ)) (es : List Derived) (apart : AreApart tags) wh
         stand = placed.stand;
         sized = are_sized_more def defs fresh def.members placed.sized;
         slots = λ n member at. placed.slots n member at ∙ sym (slots_before-stays def defs fresh n def.members placed.sized);
+        offsets = λ n member at. placed.offsets n member at ∙ sym (offset_before-stays def defs fresh n def.members placed.sized);
         numbers = placed.numbers;
       }
 
@@ -86,6 +89,7 @@ module _ (tags : List (List ℕ)) (es : List Derived) (apart : AreApart tags) wh
         stand = facts.stand;
         sized = are_sized_more def defs fresh members facts.sized;
         slots = λ n member at. facts.slots n member at ∙ sym (slots_before-stays def defs fresh n members facts.sized);
+        offsets = λ n member at. facts.offsets n member at ∙ sym (offset_before-stays def defs fresh n members facts.sized);
         numbers = facts.numbers;
       }
 

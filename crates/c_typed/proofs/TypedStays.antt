@@ -140,7 +140,9 @@ module _ (old new : Interned) (grows : Grows old new) where
     pub object_stays : (v : memory_object.Object) → ObjectStands old v → ObjectStands new v × (object_in new v ≡ object_in old v)
     object_stays (O.Local number) h = (tt, refl)
     object_stays (O.Global name) h = (tt, refl)
-    object_stays (O.Literal place bytes) h = (tt, refl)
+    object_stays (O.Literal place bytes c_type) h =
+        let kept = stays old new grows c_type h.0 in
+        ((kept.0, kept.1 ∙ h.1), refl)
     object_stays (O.Grouped' p inner) h =
         let kept = object_stays inner h in
         (kept.0, ap Typed.GroupedObject kept.1)

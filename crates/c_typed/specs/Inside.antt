@@ -13,7 +13,7 @@ use Rattle.c_typed.specs.declared.structure.MemberAt.{MemberAt}
 use Rattle.c_typed.specs.declared.structure.PlacedMember.{PlacedMember}
 use Rattle.c_typed.specs.declared.structure.Structure.{Structure}
 use Rattle.c_typed.specs.Types.{CType, Array, Struct}
-use Rattle.c_typed.specs.Layouts.{StructDef, MemberDef, layouts, layout_of, struct_layout, is_complete, slots_before, slot_at, members_by_tag, members_layout, behind, no_layout, saturated, greatest}
+use Rattle.c_typed.specs.Layouts.{StructDef, MemberDef, layouts, layout_of, struct_layout, is_complete, slots_before, offset_before, slot_at, members_by_tag, members_layout, behind, no_layout, saturated, aligned, greatest}
 use Rattle.c_typed.specs.Extents.{extent_layout}
 use Rattle.c_typed.specs.Table.{Interned, MemberEntry, StructEntry, Meaning, Nothing, meaning_in, derived_meaning, numbered, the_type, meaning_of, Grows, KnownStands, known_in, tag_in, member_number, member_defs, struct_defs, structs_in, IsAType}
 
@@ -79,6 +79,11 @@ are_sized structs (member ∷ members) = if is_known_sized structs member.c_type
 abbrev pub HaveSlots : List StructDef → List MemberDef → List PlacedMember → Type 0
 HaveSlots structs defs members = (n : ℕ) (member : PlacedMember) → slice_get members n ≡ Some member → member.slots_before ≡ slots_before (layouts structs) n defs
 
+-- each member has the number of bytes in front of it
+abbrev pub HaveOffsets : List StructDef → List MemberDef → List PlacedMember → Type 0
+HaveOffsets structs defs members =
+    (n : ℕ) (member : PlacedMember) → slice_get members n ≡ Some member → member.offset ≡ offset_before (layouts structs) defs n (slice_get defs n)
+
 -- the number that a map has for a name
 abbrev pub number_of : {S Z : Type 0} → IndexMap (Vec ℕ Z) ℕ S → List ℕ → Option ℕ
 number_of numbers name = get_by (λ key. bytes_eq name key.items) numbers
@@ -119,6 +124,7 @@ pub record IsPlaced (tags : List (List ℕ)) (entries : List Derived) (older : L
   pub sized : are_sized (struct_defs tags entries older) (member_defs tags entries (struct_entry structure).members) ≡ true
   pub extent : extent_layout structure.extent ≡ struct_layout (layouts (struct_defs tags entries older)) (member_defs tags entries (struct_entry structure).members)
   pub slots : HaveSlots (struct_defs tags entries older) (member_defs tags entries (struct_entry structure).members) structure.members.items
+  pub offsets : HaveOffsets (struct_defs tags entries older) (member_defs tags entries (struct_entry structure).members) structure.members.items
   pub numbers : AreNumbered structure.numbers structure.members.items
 
 abbrev pub struct_entries : List Structure → List StructEntry
@@ -174,6 +180,7 @@ pub record IsStructure (table : Interned) (id : tag.StructId) (structure : Struc
   pub extent : extent_layout structure.extent ≡ layout_of (structs_in table) (Struct (tag_in table id))
   pub stand : MembersStand table.tags table.entries (struct_entry structure).members
   pub slots : HaveSlots (structs_in table) (member_defs table.tags table.entries (struct_entry structure).members) structure.members.items
+  pub offsets : HaveOffsets (structs_in table) (member_defs table.tags table.entries (struct_entry structure).members) structure.members.items
   pub numbers : AreNumbered structure.numbers structure.members.items
 
 abbrev pub StructureIs : Interned → tag.StructId → Option (Bor Structure) → Type 0
@@ -189,7 +196,7 @@ pub record IsStep (table : Interned) (whole : Option CType) (step : Step) (found
 -- a member was placed behind the others
 pub record Pushes (old new : Structure) (member : Member) (own : Extent) : Type 0 where
   pub id : new.id ≡ old.id
-  pub members : new.members.items ≡ old.members.items ++ record { name = member.name; c_type = member.c_type; slots_before = old.extent.slots } ∷ []
+  pub members : new.members.items ≡ old.members.items ++ record { name = member.name; c_type = member.c_type; slots_before = old.extent.slots; offset = saturated (aligned own.alignment old.extent.size) } ∷ []
   pub extent : extent_layout new.extent ≡ behind (extent_layout old.extent) (extent_layout own)
   pub numbers : AreNumbered old.numbers old.members.items → AreNumbered new.numbers new.members.items
 
@@ -206,6 +213,7 @@ pub record IsBuilding (table : Interned) (its : tag.StructId) (structure : Struc
   pub sized : are_sized (structs_in table) (member_defs table.tags table.entries (struct_entry structure).members) ≡ true
   pub extent : extent_layout structure.extent ≡ members_layout (layouts (structs_in table)) no_layout (member_defs table.tags table.entries (struct_entry structure).members)
   pub slots : HaveSlots (structs_in table) (member_defs table.tags table.entries (struct_entry structure).members) structure.members.items
+  pub offsets : HaveOffsets (structs_in table) (member_defs table.tags table.entries (struct_entry structure).members) structure.members.items
   pub numbers : AreNumbered structure.numbers structure.members.items
 
 -- a structure with all of these members
@@ -215,4 +223,5 @@ pub record IsBuilt (table : Interned) (its : tag.StructId) (all : List MemberEnt
   pub sized : are_sized (structs_in table) (member_defs table.tags table.entries (struct_entry structure).members) ≡ true
   pub extent : extent_layout structure.extent ≡ struct_layout (layouts (structs_in table)) (member_defs table.tags table.entries (struct_entry structure).members)
   pub slots : HaveSlots (structs_in table) (member_defs table.tags table.entries (struct_entry structure).members) structure.members.items
+  pub offsets : HaveOffsets (structs_in table) (member_defs table.tags table.entries (struct_entry structure).members) structure.members.items
   pub numbers : AreNumbered structure.numbers structure.members.items

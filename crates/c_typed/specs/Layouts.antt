@@ -117,6 +117,11 @@ abbrev pub member_type : Option MemberDef → Option CType
 member_type (Some member) = member.c_type
 member_type None = None
 
+-- how many bytes stand in front of a member, which is there: it lies as low as its alignment lets it
+abbrev pub offset_before : Table → List MemberDef → ℕ → Option MemberDef → ℕ
+offset_before table members number (Some member) = saturated (aligned (member_layout table member).alignment (members_layout table no_layout (take number members)).size)
+offset_before table members number None = 0
+
 -- the slots in front of a member, which is there
 abbrev pub member_slots : Table → List MemberDef → ℕ → Option MemberDef → ℕ
 member_slots table members number (Some member) = slots_before table number members

@@ -12,7 +12,8 @@ use Rattle.c_typed.specs.declared.c_type.Shape.TheVariants as S
 use Rattle.c_typed.specs.Types.{CType, CTypes, Void, Integer, Pointer, Array, Struct, Function, NoTypes, MoreTypes}
 use Rattle.c_typed.specs.declared.structure.Member.{Member}
 use Rattle.c_typed.specs.declared.structure.MemberAt.{MemberAt}
-use Rattle.c_typed.specs.Layouts.{StructDef, MemberDef, members_by_tag, known_members, member_type, is_complete}
+use Rattle.c_typed.specs.declared.structure.MemberPlace.{MemberPlace}
+use Rattle.c_typed.specs.Layouts.{StructDef, MemberDef, layouts, members_by_tag, known_members, member_type, offset_before, is_complete}
 
 -- a member: its name, and the number of its type where it has one
 pub record MemberEntry : Type 0 where
@@ -199,6 +200,14 @@ abbrev pub IsMemberType : Interned → Option MemberDef → Option (Option numbe
 IsMemberType table (Some member) (Some t) = (known_in table.tags table.entries t ≡ member.c_type) × KnownStands table t
 IsMemberType table None None = Unit {0}
 IsMemberType table _ _ = ⊥
+
+-- where a member stands in its structure, and its type where it has one
+abbrev pub IsMemberPlace : Interned → List MemberDef → ℕ → Option MemberPlace → Type 0
+IsMemberPlace table members number (Some found) =
+    (found.offset ≡ offset_before (layouts (structs_in table)) members number (slice_get members number))
+    × (Some (known_in table.tags table.entries found.c_type) ≡ option_map (λ (member : MemberDef). member.c_type) (slice_get members number))
+    × KnownStands table found.c_type
+IsMemberPlace table members number None = slice_get members number ≡ None
 
 -- the members that complete a structure
 abbrev pub member_entries : List Member → List MemberEntry

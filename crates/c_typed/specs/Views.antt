@@ -1,5 +1,7 @@
 -- The typed trees that those in memory stand for, in a table of types.
-use Rattle.std.specs.Prelude.{List, [], ◌∷◌}
+use Rattle.std.specs.Prelude.{◌≡◌, suc, List, [], ◌∷◌, length}
+use Rattle.c_num.specs.declared.IntType.TheVariants as I
+use Rattle.c_typed.specs.Types.{Array, Integer}
 use Rattle.c_typed.specs.declared.typed.Value as memory_value
 use Rattle.c_typed.specs.declared.typed.Value.TheVariants as V
 use Rattle.c_typed.specs.declared.typed.Object as memory_object
@@ -50,7 +52,7 @@ abbrev mutual
   pub object_in : Interned → memory_object.Object → Typed.Object
   object_in table (O.Local number) = Typed.Local number
   object_in table (O.Global name) = Typed.Global name
-  object_in table (O.Literal place bytes) = Typed.Literal place bytes
+  object_in table (O.Literal place bytes c_type) = Typed.Literal place bytes
   object_in table (O.Grouped' p inner) = Typed.GroupedObject (object_in table inner)
   object_in table (O.Pointed' place p pointer) = Typed.Pointed place (value_in table pointer)
   object_in table (O.Element' place p pointer q number) = Typed.Element place (value_in table pointer) (value_in table number)
@@ -115,7 +117,7 @@ abbrev mutual
   pub ObjectStands : Interned → memory_object.Object → Type 0
   ObjectStands table (O.Local number) = Unit {0}
   ObjectStands table (O.Global name) = Unit {0}
-  ObjectStands table (O.Literal place bytes) = Unit {0}
+  ObjectStands table (O.Literal place bytes c_type) = Stands table c_type × (type_in table c_type ≡ Array (Integer I.Char) (suc (length bytes)))
   ObjectStands table (O.Grouped' p inner) = ObjectStands table inner
   ObjectStands table (O.Pointed' place p pointer) = ValueStands table pointer
   ObjectStands table (O.Element' place p pointer q number) = ValueStands table pointer × ValueStands table number

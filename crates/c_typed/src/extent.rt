@@ -71,7 +71,7 @@ impl Extent {
     }
 
     /// The size, rounded up to an alignment (C17 6.2.8 paragraph 1).
-    fn rounded_up(self, alignment: u64) -> u64
+    pub(crate) fn rounded_up(self, alignment: u64) -> u64
         requires small { IsSmall (extent_layout self) }
         requires least { 1 ≤ alignment }
         requires greatest { alignment ≤ 8 }

@@ -21,6 +21,6 @@ pub use c_type::{CType, Derived, Parameters, Shape, StructId};
 pub use definition::{First, FunctionDef, GlobalDef, Held, LiteralDef, Program, Scalar, Static};
 pub use part::Part;
 pub use statement::{BlockItem, ForStart, LocalDef, Stmt, SwitchItem};
-pub use structure::{Member, MemberAt, Step};
+pub use structure::{Member, MemberAt, MemberPlace, Step};
 pub use type_table::TypeTable;
 pub use typed::{Designator, LibraryFunction, Object, Stepping, Value};

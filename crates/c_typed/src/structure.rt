@@ -23,6 +23,14 @@ pub struct MemberAt {
     pub c_type: Option<CType>,
 }
 
+/// Where a member stands in its structure (C17 6.7.2.1 paragraph 15).
+#[derive(Clone, Copy, Debug, PartialEq, Eq)]
+pub struct MemberPlace {
+    /// How many bytes stand in front of it.
+    pub offset: u64,
+    pub c_type: Option<CType>,
+}
+
 /// A step from an object to a part of it.
 #[derive(Clone, Copy, Debug, PartialEq, Eq)]
 pub enum Step {
@@ -39,6 +47,8 @@ pub(crate) struct PlacedMember {
     pub(crate) c_type: Option<CType>,
     /// How many slots the members before it have.
     pub(crate) slots_before: u64,
+    /// How many bytes stand in front of it.
+    pub(crate) offset: u64,
 }
 
 /// A structure that is completed (C17 6.7.2.1 paragraph 8).
@@ -85,6 +95,7 @@ impl Structure {
             name: member.name,
             c_type: member.c_type,
             slots_before: self.extent.slots,
+            offset: self.extent.rounded_up(extent.alignment),
         };
         self.members.push(placed)?;
         self.extent = self.extent.followed_by(extent);
@@ -119,6 +130,19 @@ impl Structure {
     {
         match self.members.get(number) {
             Some(member) => Some(member.c_type),
+            None => None,
+        }
+    }
+
+    /// Where the member of this number stands, where there is one.
+    pub(crate) fn member_place(&self, number: usize) -> Option<MemberPlace>
+        ensures { result ≡ option_map (λ member. record { offset = member.offset; c_type = member.c_type }) (slice_get self.now.members.items number) }
+    {
+        match self.members.get(number) {
+            Some(member) => Some(MemberPlace {
+                offset: member.offset,
+                c_type: member.c_type,
+            }),
             None => None,
         }
     }

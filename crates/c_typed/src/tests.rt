@@ -5,7 +5,7 @@ ghost use Rattle.c_typed.specs.Types as T;
 ghost use Rattle.c_typed.specs.Table.{Interned, Stands, type_in, TagStands, tag_in, AreComplete, member_entries};
 ghost use Rattle.c_typed.specs.Kept.{IsObject, MakesObject};
 
-use crate::{CType, Member, Shape, Step, StructId, TypeTable};
+use crate::{CType, Member, MemberPlace, Shape, Step, StructId, TypeTable};
 use c_num::IntType;
 use std::alloc::{AllocError, Global};
 use std::test::Fail;
@@ -139,6 +139,26 @@ fn members_are_aligned(rt: HostRuntime) -> Result<(), Fail> {
     // struct large { char a; long b; char c; };
     let large = triple(alloc, &mut table, "large", char, long, char)?;
     assert_eq!(rt; layout(&table, large), (24, 8, 3));
+    Ok(())
+}
+
+#[test]
+fn members_have_their_offsets(rt: HostRuntime) -> Result<(), Fail> {
+    let alloc = rt.alloc();
+    let mut table = TypeTable::new(alloc);
+    let char = integer(IntType::Char);
+    let long = integer(IntType::Long);
+    // struct large { char a; long b; char c; };
+    let large = triple(alloc, &mut table, "large", char, long, char)?;
+    let at_b = MemberPlace {
+        offset: 8,
+        c_type: Some(long),
+    };
+    assert_eq!(rt; table.member_place(large, 1), Some(at_b));
+    let offset = table.member_place(large, 2).map(|place| place.offset);
+    assert_eq!(rt; offset, Some(16));
+    assert_eq!(rt; table.member_place(large, 3), None);
+    assert_eq!(rt; table.member_place(char, 0), None);
     Ok(())
 }
 

@@ -1,17 +1,17 @@
 // The table of types.
 
-ghost use Rattle.std.specs.Prelude.{◌≡◌, ℕ, ◌<◌, ◌≤◌, true, false, Some, IfOk, OnOk, OnErr, slice_get};
+ghost use Rattle.std.specs.Prelude.{◌≡◌, ℕ, ◌<◌, ◌≤◌, true, false, Some, IfOk, IfSome, OnOk, OnErr, slice_get};
 ghost use Rattle.c_typed.specs.Types as T;
 ghost use Rattle.c_typed.specs.Types.{same_type, is_array};
 ghost use Rattle.c_typed.specs.Layouts.{is_complete, layouts, layout_of, known_layout, slot_at};
 ghost use Rattle.c_typed.specs.Extents.{extent_layout, IsSmall};
-ghost use Rattle.c_typed.specs.Table.{empty, numbered, derived_meaning, meaning_of, Stands, type_in, ListStands, types_in, TagStands, tag_in, structs_in, members_of, IsMember, IsMemberType, base_meaning, the_type, Interned, KnownStands, known_in, member_entries, IsCompleteMember, AreComplete, MakesType, MakesList, completed, HasShape, IsSplit};
+ghost use Rattle.c_typed.specs.Table.{empty, numbered, derived_meaning, meaning_of, Stands, type_in, ListStands, types_in, TagStands, tag_in, structs_in, members_of, IsMember, IsMemberType, IsMemberPlace, base_meaning, the_type, Interned, KnownStands, known_in, member_entries, IsCompleteMember, AreComplete, MakesType, MakesList, completed, HasShape, IsSplit};
 ghost use Rattle.c_typed.specs.Inside.{IsSomething, is_sized, is_known_sized, IsBuilt, HasExtent, MakesEntry, EntryIs, StructureIs, IsStep};
 ghost use Rattle.c_typed.specs.declared.structure.Step.TheVariants as Steps;
 
 use crate::c_type::{CType, Derived, FIRST_ENTRY, Parameters, Shape, StructId};
 use crate::extent::{Extent, saturated_sum};
-use crate::structure::{Member, MemberAt, Step, Structure};
+use crate::structure::{Member, MemberAt, MemberPlace, Step, Structure};
 use c_num::IntType;
 use indexmap::IndexMap;
 use std::alloc::{AllocError, Global};
@@ -71,6 +71,17 @@ impl TypeTable {
     {
         let extent = self.extent(element).repeated(length);
         Ok(CType(self.intern(Derived::Array { element, length }, extent)?))
+    }
+
+    /// The arrays of so many elements of a type, where they have been made.
+    pub fn find_array(&self, element: CType, length: u64) -> Option<CType>
+        requires { Stands self.now element }
+        ensures { IfSome result (λ t. Stands self.now t × (type_in self.now t ≡ T.Array (type_in self.now element) length)) }
+    {
+        let index = self
+            .entries
+            .get_index_of(&Derived::Array { element, length })?;
+        Some(CType(index as u32 + FIRST_ENTRY))
     }
 
     /// The structure with a tag, completed or not (C17 6.7.2.3).
@@ -244,6 +255,17 @@ impl TypeTable {
         ensures { IsMemberType self.now (slice_get (members_of (structs_in self.now) (T.Struct (tag_in self.now id))) number) result }
     {
         self.structure(id)?.member_type(number)
+    }
+
+    /// A member's place within its structure, by how many members stand before it (C17 6.7.2.1 paragraph 15).
+    pub fn member_place(&self, t: CType, number: usize) -> Option<MemberPlace>
+        requires { Stands self.now t }
+        ensures { IsMemberPlace self.now (members_of (structs_in self.now) (type_in self.now t)) number result }
+    {
+        match self.shape(t) {
+            Shape::Struct(id) => self.structure(id)?.member_place(number),
+            _ => None,
+        }
     }
 
     /// The number of the slot at which the part of an object begins to which a path leads.

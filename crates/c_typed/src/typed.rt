@@ -199,10 +199,11 @@ pub enum Object {
     Local(usize),
     /// A variable outside functions.
     Global(ByteString),
-    /// A literal (C17 6.4.5).
+    /// A literal (C17 6.4.5), with its type.
     Literal {
         place: Pos,
         bytes: ByteString,
+        c_type: CType,
     },
     /// An object in parentheses.
     Grouped(Box<Object>),

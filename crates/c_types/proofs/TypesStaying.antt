@@ -1,5 +1,5 @@
 -- What typed trees and definitions stand for stays where each type stays, whatever becomes of the structures.
-use Rattle.std.proofs.Common.{◌≡◌, List, [], ◌∷◌, map, Option, Some, None, refl, ap}
+use Rattle.std.proofs.Common.{◌≡◌, List, [], ◌∷◌, map, Option, Some, None, refl, ap, ◌∙◌}
 use Rattle.c_typed.specs.declared.c_type.CType as number
 use Rattle.c_typed.specs.declared.typed.Value as memory_value
 use Rattle.c_typed.specs.declared.typed.Value.TheVariants as V
@@ -153,7 +153,9 @@ module _ (old new : Interned) (keeps : TypesStay old new) where
     object_stays : (v : memory_object.Object) → ObjectStands old v → ObjectStands new v × (object_in new v ≡ object_in old v)
     object_stays (O.Local number) h = (tt, refl)
     object_stays (O.Global name) h = (tt, refl)
-    object_stays (O.Literal place bytes) h = (tt, refl)
+    object_stays (O.Literal place bytes c_type) h =
+        let kept = keeps c_type h.0 in
+        ((kept.0, kept.1 ∙ h.1), refl)
     object_stays (O.Grouped' p inner) h =
         let kept = object_stays inner h in
         (kept.0, ap typed.GroupedObject kept.1)

@@ -1,7 +1,7 @@
 -- Fronts of lists, and the output of a trace.
 use Rattle.std.proofs.Common.{◌≡◌, List, [], ◌∷◌, ◌++◌, ap, sym, ◌∙◌, refl, append_assoc}
 use Rattle.std.proofs.lemmas.List.{append-nil}
-use Rattle.run_theory.specs.Runs.{Trace, Output, output_of, IsPrefix}
+use Rattle.run_theory.specs.Runs.{Trace, Output, Called, Returned, Allocated, Freed, Loaded, Stored, output_of, IsPrefix}
 
 pub prefix_refl : {X : Type 0} → (s : List X) → IsPrefix s s
 prefix_refl s = ([], sym (append-nil s))
@@ -23,6 +23,12 @@ prefix_nil s = (s, refl)
 pub output_of-append : (s t : Trace) → output_of (s ++ t) ≡ output_of s ++ output_of t
 output_of-append [] t = refl
 output_of-append (Output byte ∷ s) t = ap (λ l. byte ∷ l) (output_of-append s t)
+output_of-append (Called function ∷ s) t = output_of-append s t
+output_of-append (Returned ∷ s) t = output_of-append s t
+output_of-append (Allocated object size ∷ s) t = output_of-append s t
+output_of-append (Freed object ∷ s) t = output_of-append s t
+output_of-append (Loaded object ∷ s) t = output_of-append s t
+output_of-append (Stored object ∷ s) t = output_of-append s t
 
 pub output_of-prefix : (s t : Trace) → IsPrefix s t → IsPrefix (output_of s) (output_of t)
 output_of-prefix s t p = (output_of p.0, ap output_of p.1 ∙ output_of-append s p.0)

@@ -4,9 +4,17 @@ use Rattle.run_theory.specs.declared.ends.Pos.{Pos}
 use Rattle.run_theory.specs.declared.ends.UbKind.{UbKind}
 use Rattle.run_theory.specs.declared.ends.TrapKind.{TrapKind}
 
--- what a run does that can be seen from outside
+-- What a run does that theorems speak of: what it writes; the calls of the program's functions, by their numbers, and the
+-- returns; and what becomes of the objects of the heap, by their numbers: allocations with their sizes, frees, and each load and
+-- store of a scalar within one.
 pub data Event : Type 0 where
   Output : (byte : ℕ) → Event
+  Called : (function : ℕ) → Event
+  Returned : Event
+  Allocated : (object size : ℕ) → Event
+  Freed : (object : ℕ) → Event
+  Loaded : (object : ℕ) → Event
+  Stored : (object : ℕ) → Event
 
 -- the events so far, the first one first
 abbrev pub Trace : Type 0
@@ -16,6 +24,7 @@ Trace = List Event
 abbrev pub output_of : Trace → List ℕ
 output_of [] = []
 output_of (Output byte ∷ trace) = byte ∷ output_of trace
+output_of (event ∷ trace) = output_of trace
 
 -- how a run ends
 pub data Final : Type 0 where

@@ -1,4 +1,4 @@
-use Rattle.std.proofs.Common.{suc, ap, length, ◌+◌, add-one}
+use Rattle.std.proofs.Common.{ℕ, List, suc, sym, ap, length, ◌+◌, add-one}
 use Rattle.c_num.specs.declared.IntType.TheVariants as I
 use Rattle.c_typed.specs.Layouts.{is_complete}
 use Rattle.c_typed.specs.Table.{structs_in}
@@ -16,4 +16,4 @@ array_of-requires-clause-complete c =
 pub returns : goal.returns
 returns c =
     literal-known c.integer.result c.in_ok-c_type.c_type (length c.args.bytes.now + 1) (suc (length c.args.bytes.now)) c.args.place c.args.bytes.now c.in_ok-from_slice.field-0 c.new.result
-    c.integer.ensures c.in_ok-from_slice.ensures c.new.ensures.items (add-one (length c.args.bytes.now)) c.in_ok-c_type.ensures.made
+    c.integer.ensures c.in_ok-from_slice.ensures c.new.ensures.items (add-one (length c.args.bytes.now)) (ap (λ (bytes : List ℕ). suc (length bytes)) (sym c.in_ok-from_slice.ensures)) c.in_ok-c_type.ensures.made
