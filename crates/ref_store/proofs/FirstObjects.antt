@@ -1,0 +1,194 @@
+-- What the functions that fill the store before a program runs keep.
+use Rattle.std.proofs.Common.{◌≡◌, ℕ, zero, suc, ◌+◌, ◌<◌, Bool, true, false, if◌then◌else◌, List, [], ◌∷◌, ◌++◌, length, get_or, take, drop, map, Option, Some, None, bytes_eq, refl, sym, ap, subst, ◌∙◌, arith, true≢false}
+use Rattle.std.proofs.lemmas.List.{take_more, drop_more, map-append}
+use Rattle.run_theory.specs.declared.ends.Pos.{Pos}
+use Rattle.c_typed.specs.declared.definition.GlobalDef as memory_global
+use Rattle.c_typed.specs.Types.{CType}
+use Rattle.c_typed.specs.Typed.{GlobalDef, LiteralDef, Program}
+use Rattle.c_typed.specs.Table.{Interned, Stands, type_in}
+use Rattle.c_typed.specs.DefinitionViews.{global_in, all_first, GlobalsStand}
+use Rattle.c_rules.specs.Known.{is_same_place}
+use Rattle.c_meaning.specs.Values.{Name, Heap, Outer, Text, Own, Scalar, Content, Dead, Raw, Elements, same_name, whole_row}
+use Rattle.c_meaning.specs.Store.{Objects, is_dead, with_content}
+use Rattle.c_meaning.specs.First.{type_of_global, literal_at, literal_content, or_void, option_type, first_held, global_content, first_objects}
+use Rattle.c_meaning.specs.Meaning.{literal_type}
+use Rattle.ref_store.specs.declared.object.Content.TheVariants as C
+use Rattle.ref_store.specs.declared.object.Elements as memory_elements
+use Rattle.ref_store.specs.Holding.{AllHeld, ContentIs, elements}
+use Rattle.ref_store.specs.Beginning.{unfilled, unfilled_objects}
+use Rattle.ref_store.specs.Firsts.{unfilled_of, or_content, with_new, static_row, characters_row, IsFirst, AreFirsts, filled}
+use Rattle.ref_store.proofs.Names.{same_name-true}
+
+-- ---- what is there, and what isn't
+
+or_dead : (content : Content) → content ≡ or_content content Dead
+or_dead Dead = refl
+or_dead (Raw size) = refl
+or_dead (Elements is_static c_type count held) = refl
+
+module _ (objects : Objects) (name : Name) (content : Content) where
+  -- one is added where there is none
+  pub new_added : is_dead (objects name) ≡ true → (other : Name) → with_content name content objects other ≡ with_new name content objects other
+  new_added none other = by (same_name name other) (objects other) (λ e. sym (ap (λ n. is_dead (objects n)) (same_name-true name other e)) ∙ none)
+    where
+      by : (b : Bool) (had : Content) → (b ≡ true → is_dead had ≡ true) → (if b then content else had) ≡ or_content had (if b then content else Dead)
+      by true Dead h = refl
+      by true (Raw size) h = absurd (true≢false (sym (h refl)))
+      by true (Elements is_static c_type count held) h = absurd (true≢false (sym (h refl)))
+      by false had h = or_dead had
+
+  -- and none where there is one
+  pub new_left : is_dead (objects name) ≡ false → (other : Name) → objects other ≡ with_new name content objects other
+  new_left there other = by (same_name name other) (objects other) (λ e. sym (ap (λ n. is_dead (objects n)) (same_name-true name other e)) ∙ there)
+    where
+      by : (b : Bool) (had : Content) → (b ≡ true → is_dead had ≡ false) → had ≡ or_content had (if b then content else Dead)
+      by true Dead h = absurd (true≢false (h refl))
+      by true (Raw size) h = refl
+      by true (Elements is_static c_type count held) h = refl
+      by false had h = or_dead had
+
+-- ---- objects without first values
+
+pub mapped_more : {A B : Type 0} (f : A → B) (xs : List A) (n : ℕ) (x : A) → n < length xs → x ≡ get_or xs n x → map f (take n xs) ++ f x ∷ [] ≡ map f (take (n + 1) xs)
+mapped_more f xs n x lt at = sym (map-append f (take n xs) (x ∷ [])) ∙ (ap (λ y. map f (take n xs ++ y ∷ [])) at ∙ ap (map f) (sym (take_more xs n x lt)))
+
+global_added : (globals : List GlobalDef) (global : GlobalDef) (name : List ℕ)
+    → or_content (unfilled (type_of_global globals name)) (if bytes_eq global.name name then unfilled (Some global.c_type) else Dead) ≡ unfilled (type_of_global (globals ++ global ∷ []) name)
+global_added [] global name = by (bytes_eq global.name name)
+  where
+    by : (b : Bool) → (if b then unfilled (Some global.c_type) else Dead) ≡ unfilled (if b then Some global.c_type else None)
+    by true = refl
+    by false = refl
+global_added (first ∷ others) global name = by (global_added others global name) (bytes_eq first.name name)
+  where
+    by : or_content (unfilled (type_of_global others name)) (if bytes_eq global.name name then unfilled (Some global.c_type) else Dead) ≡ unfilled (type_of_global (others ++ global ∷ []) name)
+        → (b : Bool) → or_content (unfilled (if b then Some first.c_type else type_of_global others name)) (if bytes_eq global.name name then unfilled (Some global.c_type) else Dead)
+        ≡ unfilled (if b then Some first.c_type else type_of_global (others ++ global ∷ []) name)
+    by more true = refl
+    by more false = more
+
+literal_added : (literals : List LiteralDef) (literal : LiteralDef) (place : Pos)
+    → or_content (literal_content (literal_at literals place)) (if is_same_place literal.place place then literal_content (Some literal) else Dead) ≡ literal_content (literal_at (literals ++ literal ∷ []) place)
+literal_added [] literal place = by (is_same_place literal.place place)
+  where
+    by : (b : Bool) → (if b then literal_content (Some literal) else Dead) ≡ literal_content (if b then Some literal else None)
+    by true = refl
+    by false = refl
+literal_added (first ∷ others) literal place = by (literal_added others literal place) (is_same_place first.place place)
+  where
+    by : or_content (literal_content (literal_at others place)) (if is_same_place literal.place place then literal_content (Some literal) else Dead) ≡ literal_content (literal_at (others ++ literal ∷ []) place)
+        → (b : Bool) → or_content (literal_content (if b then Some first else literal_at others place)) (if is_same_place literal.place place then literal_content (Some literal) else Dead)
+        ≡ literal_content (if b then Some first else literal_at (others ++ literal ∷ []) place)
+    by more true = refl
+    by more false = more
+
+pub unfilled_global : (globals : List GlobalDef) (global : GlobalDef) (name : Name)
+    → with_new (Outer global.name) (unfilled (Some global.c_type)) (unfilled_of globals []) name ≡ unfilled_of (globals ++ global ∷ []) [] name
+unfilled_global globals global (Heap number) = refl
+unfilled_global globals global (Outer name) = global_added globals global name
+unfilled_global globals global (Text place) = refl
+unfilled_global globals global (Own number) = refl
+
+pub unfilled_literal : (globals : List GlobalDef) (literals : List LiteralDef) (literal : LiteralDef) (name : Name)
+    → with_new (Text literal.place) (literal_content (Some literal)) (unfilled_of globals literals) name ≡ unfilled_of globals (literals ++ literal ∷ []) name
+unfilled_literal globals literals literal (Heap number) = refl
+unfilled_literal globals literals literal (Outer name) = sym (or_dead (unfilled (type_of_global globals name)))
+unfilled_literal globals literals literal (Text place) = literal_added literals literal place
+unfilled_literal globals literals literal (Own number) = refl
+
+pub unfilled_none : (name : Name) → Dead ≡ unfilled_of [] [] name
+unfilled_none (Heap number) = refl
+unfilled_none (Outer name) = refl
+unfilled_none (Text place) = refl
+unfilled_none (Own number) = refl
+
+-- ---- the rows of objects
+
+pub literal_none : (literal : Option LiteralDef) → is_dead (literal_content literal) ≡ true → static_row (literal_content literal) ≡ whole_row (or_void (option_type literal)) 1
+literal_none None h = refl
+literal_none (Some literal) h = absurd (true≢false (sym h))
+
+-- a literal that is there
+pub record IsKept (literal : Option LiteralDef) : Type 0 where
+  pub bytes : List ℕ
+  pub row : static_row (literal_content literal) ≡ characters_row bytes
+  pub c_type : or_void (option_type literal) ≡ literal_type bytes
+
+pub literal_kept : (literal : Option LiteralDef) → is_dead (literal_content literal) ≡ false → IsKept literal
+literal_kept None h = absurd (true≢false h)
+literal_kept (Some literal) h = record { bytes = literal.bytes; row = refl; c_type = refl }
+
+-- ---- first values
+
+-- elements stand for a row
+pub elements_content : (table : Interned) (made : memory_elements.Elements) (is_static : Bool) (c_type : CType) (count : ℕ) (held : ℕ → Option Scalar) → made.is_static ≡ is_static → type_in table made.c_type ≡ c_type → made.count ≡ count
+    → Stands table made.c_type → AllHeld table made.held held → ContentIs table (Some (C.Elements made)) (Elements is_static c_type count held)
+elements_content table made is_static c_type count held s t n stands all =
+    subst (λ content. ContentIs table (Some (C.Elements made)) content) (λ i. Elements (s i) (t i) (n i) held) (elements made held stands all)
+
+pub first_content : (program : Program) (table : Interned) (global : memory_global.GlobalDef) (made : memory_elements.Elements) → Stands table global.c_type → IsFirst program table global made
+    → ContentIs table (Some (C.Elements made)) (Elements true (type_in table global.c_type) 1 (first_held program (type_in table global.c_type) (all_first global.first.items)))
+first_content program table global made stands is =
+    elements_content table made true (type_in table global.c_type) 1 (first_held program (type_in table global.c_type) (all_first global.first.items)) is.is_static (ap (type_in table) is.c_type) is.count
+    (subst (Stands table) (sym is.c_type) stands) is.held
+
+module _ (program : Program) (table : Interned) where
+  pub firsts_push : (globals : List memory_global.GlobalDef) (made : List memory_elements.Elements) (global : memory_global.GlobalDef) (last : memory_elements.Elements) → length made < length globals
+      → global ≡ get_or globals (length made) global → IsFirst program table global last → AreFirsts program table globals made → AreFirsts program table globals (made ++ last ∷ [])
+  firsts_push [] [] global last lt at is all = absurd (omega arith)
+  firsts_push [] (first ∷ others) global last lt at is all = absurd (omega arith)
+  firsts_push (g ∷ globals) [] global last lt at is all = (subst (λ x. IsFirst program table x last) at is, tt)
+  firsts_push (g ∷ globals) (first ∷ others) global last lt at is all = (all.0, firsts_push globals others global last (omega arith) at is all.1)
+
+  pub firsts_pop : (globals : List memory_global.GlobalDef) (made : List memory_elements.Elements) (global : memory_global.GlobalDef) (last : memory_elements.Elements)
+      → global ≡ get_or globals (length made) global → AreFirsts program table globals (made ++ last ∷ []) → AreFirsts program table globals made × IsFirst program table global last
+  firsts_pop [] [] global last at all = absurd all
+  firsts_pop [] (first ∷ others) global last at all = absurd all
+  firsts_pop (g ∷ globals) [] global last at all = (tt, subst (λ x. IsFirst program table x last) (sym at) all.0)
+  firsts_pop (g ∷ globals) (first ∷ others) global last at all = let rest = firsts_pop globals others global last at all.1 in ((all.0, rest.0), rest.1)
+
+-- each of the variables stands
+pub global_stands : (table : Interned) (globals : List memory_global.GlobalDef) (n : ℕ) (global : memory_global.GlobalDef) → GlobalsStand table globals → n < length globals → global ≡ get_or globals n global → Stands table global.c_type
+global_stands table [] n global all lt at = absurd (omega arith)
+global_stands table (g ∷ globals) zero global all lt at = subst (λ (x : memory_global.GlobalDef). Stands table x.c_type) (sym at) all.0
+global_stands table (g ∷ globals) (suc n) global all lt at = global_stands table globals n global all.1 (omega arith) at
+
+-- ---- the variables with their first values
+
+module _ (program : Program) where
+  filled_outer : (globals : List GlobalDef) (objects : Objects) (name : List ℕ) → (type_of_global globals name ≡ None → objects (Outer name) ≡ Dead) → filled program globals objects (Outer name) ≡ global_content program globals name
+  filled_outer [] objects name h = h refl
+  filled_outer (first ∷ others) objects name h = by (filled_outer others objects name) (bytes_eq first.name name) h
+    where
+      by : ((type_of_global others name ≡ None → objects (Outer name) ≡ Dead) → filled program others objects (Outer name) ≡ global_content program others name)
+          → (b : Bool) → ((if b then Some first.c_type else type_of_global others name) ≡ None → objects (Outer name) ≡ Dead)
+          → (if b then Elements true first.c_type 1 (first_held program first.c_type first.first) else filled program others objects (Outer name))
+          ≡ (if b then Elements true first.c_type 1 (first_held program first.c_type first.first) else global_content program others name)
+      by more true none = refl
+      by more false none = more none
+
+  filled_heap : (globals : List GlobalDef) (objects : Objects) (number : ℕ) → filled program globals objects (Heap number) ≡ objects (Heap number)
+  filled_heap [] objects number = refl
+  filled_heap (first ∷ others) objects number = filled_heap others objects number
+
+  filled_text : (globals : List GlobalDef) (objects : Objects) (place : Pos) → filled program globals objects (Text place) ≡ objects (Text place)
+  filled_text [] objects place = refl
+  filled_text (first ∷ others) objects place = filled_text others objects place
+
+  filled_own : (globals : List GlobalDef) (objects : Objects) (number : ℕ) → filled program globals objects (Own number) ≡ objects (Own number)
+  filled_own [] objects number = refl
+  filled_own (first ∷ others) objects number = filled_own others objects number
+
+  pub filled_all : (name : Name) → filled program program.globals (unfilled_objects program) name ≡ first_objects program name
+  filled_all (Heap number) = filled_heap program.globals (unfilled_objects program) number
+  filled_all (Outer name) = filled_outer program.globals (unfilled_objects program) name (λ none. ap unfilled none)
+  filled_all (Text place) = filled_text program.globals (unfilled_objects program) place
+  filled_all (Own number) = filled_own program.globals (unfilled_objects program) number
+
+  -- one more of them
+  pub filled_step : (table : Interned) (globals : List memory_global.GlobalDef) (n : ℕ) (global : memory_global.GlobalDef) (objects : Objects) → n < length globals → global ≡ get_or globals n global
+      → with_content (Outer global.name) (Elements true (type_in table global.c_type) 1 (first_held program (type_in table global.c_type) (all_first global.first.items))) (filled program (map (global_in table) (drop (n + 1) globals)) objects)
+      ≡ filled program (map (global_in table) (drop n globals)) objects
+  filled_step table globals n global objects lt at =
+      ap (λ (g : memory_global.GlobalDef). filled program (map (global_in table) (g ∷ drop (n + 1) globals)) objects) at
+      ∙ ap (λ l. filled program (map (global_in table) l) objects) (sym (drop_more globals n global lt))

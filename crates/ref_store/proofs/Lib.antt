@@ -1,0 +1,17 @@
+pub mod Giving
+pub mod Names
+pub mod Scalars
+pub mod Found
+pub mod MemberPlaces
+pub mod Reading
+pub mod Updating
+pub mod Locals
+pub mod Leaving
+pub mod Writing
+pub mod Pointing
+pub mod Allocations
+pub mod FirstValues
+pub mod FirstObjects
+pub mod FirstStore
+pub mod FirstTags
+pub mod Comparing

@@ -1,0 +1,14 @@
+use Rattle.std.proofs.Common.{◌≡◌, ℕ, suc, true, nat_eq, take, length}
+use Rattle.indexmap.specs.IndexMap.{get}
+use Rattle.c_meaning.specs.First.{characters}
+use Rattle.ref_store.specs.Holding.{HeldIs}
+use Rattle.ref_store.proofs.store.Store.characters.Given as goal
+
+abbrev pub invariant-loop-byte : goal.invariant-loop-byte
+invariant-loop-byte l = record {
+  offset : l.offset ≡ l.byte-index;
+  is_static : l.elements.is_static ≡ true;
+  c_type : l.elements.c_type.0 ≡ 1;
+  count : l.elements.count ≡ suc (length l.bytes);
+  held : (k : ℕ) → HeldIs l.self.types.now (get nat_eq l.elements.held k) (characters (take l.byte-index l.bytes) k);
+}

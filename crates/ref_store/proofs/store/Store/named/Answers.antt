@@ -1,0 +1,30 @@
+use Rattle.std.proofs.Common.{None, Some, sym, subst}
+use Rattle.c_typed.specs.Table.{Stands}
+use Rattle.ref_store.specs.Views.{name_of}
+use Rattle.ref_store.proofs.Found.{found_is, no_row_found, comes-named}
+use Rattle.ref_store.proofs.Scalars.{nothing, void_stands}
+use Rattle.ref_store.proofs.store.Store.named.Goals as goal
+
+pub returns-in-Some-clause-gives : goal.returns-in-Some-clause-gives
+returns-in-Some-clause-gives c = λ around base state at.
+    let table = c.args.self.now.types.now in
+    let content = state.objects (name_of c.args.name) in
+    comes-named around c.args.self.now base state c.args.name c.first.result c.row.result c.first.ensures
+    (c.row.ensures.means table content (found_is table c.args.self.now.objects c.args.name (Some c.in-Some.content.now) content c.in-Some.ensures.value (at.objects c.args.name))) at
+
+pub returns-in-Some-clause-stands : goal.returns-in-Some-clause-stands
+returns-in-Some-clause-stands c = λ around base state at.
+    let table = c.args.self.now.types.now in
+    let content = state.objects (name_of c.args.name) in
+    subst (λ p. Stands table p.row.c_type) (sym c.first.ensures)
+    (c.row.ensures.stands table content (found_is table c.args.self.now.objects c.args.name (Some c.in-Some.content.now) content c.in-Some.ensures.value (at.objects c.args.name)))
+
+pub returns-in-None-clause-gives : goal.returns-in-None-clause-gives
+returns-in-None-clause-gives c = λ around base state at.
+    let table = c.args.self.now.types.now in
+    let content = state.objects (name_of c.args.name) in
+    comes-named around c.args.self.now base state c.args.name c.first-in-None.result nothing c.first-in-None.ensures
+    (no_row_found table content (found_is table c.args.self.now.objects c.args.name None content c.in-None.ensures.value (at.objects c.args.name))) at
+
+pub returns-in-None-clause-stands : goal.returns-in-None-clause-stands
+returns-in-None-clause-stands c = λ around base state at. subst (λ p. Stands c.args.self.now.types.now p.row.c_type) (sym c.first-in-None.ensures) (void_stands c.args.self.now.types.now)

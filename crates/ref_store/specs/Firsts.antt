@@ -1,0 +1,101 @@
+-- What the functions that make the store before a program runs leave.
+use Rattle.std.specs.Prelude.{◌≡◌, ℕ, suc, true, if◌then◌else◌, ◌==◌, List, [], ◌∷◌, length, Option, Some, None, pos}
+use Rattle.c_num.specs.declared.IntType.{IntType}
+use Rattle.c_num.specs.declared.IntType.TheVariants as I
+use Rattle.c_num.specs.Conversion.{convert_to}
+use Rattle.c_typed.specs.declared.definition.GlobalDef as memory_global
+use Rattle.c_typed.specs.Types.{CType, Void, Integer, Array}
+use Rattle.c_typed.specs.Values as values
+use Rattle.c_typed.specs.Typed.{GlobalDef, LiteralDef, Program}
+use Rattle.c_typed.specs.Table.{Interned, Stands, type_in}
+use Rattle.c_typed.specs.DefinitionViews.{all_first}
+use Rattle.c_meaning.specs.Values.{Name, Outer, Text, Row, Place, Scalar, IntegerValue, Content, Dead, Elements, same_name, whole_row, at_index}
+use Rattle.c_meaning.specs.Store.{Around, Objects, offset_of, row_of, with_content}
+use Rattle.c_meaning.specs.First.{around_of, type_of_global, literal_at, literal_content, characters, first_held, first_state}
+use Rattle.ref_store.specs.declared.object.Elements as memory_elements
+use Rattle.ref_store.specs.declared.store.Store.{Store}
+use Rattle.ref_store.specs.Holding.{At, AllHeld}
+use Rattle.ref_store.specs.Beginning.{unfilled}
+
+-- ---- objects without first values
+
+-- those of some variables and literals
+abbrev pub unfilled_of : List GlobalDef → List LiteralDef → Objects
+unfilled_of globals literals (Outer name) = unfilled (type_of_global globals name)
+unfilled_of globals literals (Text place) = literal_content (literal_at literals place)
+unfilled_of globals literals _ = Dead
+
+abbrev pub or_content : Content → Content → Content
+or_content Dead other = other
+or_content content other = content
+
+-- objects, and one more where there is none
+abbrev pub with_new : Name → Content → Objects → Objects
+with_new name content objects other = or_content (objects other) (if same_name name other then content else Dead)
+
+-- before a program runs, a store holds these objects
+abbrev pub Has : Program → Store → Objects → Type 0
+Has program store objects = At (around_of program) store 0 (record (first_state program [] 0) { objects = objects })
+
+-- the row that an object is; one that isn't there is one without a type
+abbrev pub static_row : Content → Row
+static_row Dead = whole_row Void 1
+static_row content = row_of content
+
+-- a literal, as it is kept
+abbrev pub characters_row : List ℕ → Row
+characters_row bytes = whole_row (Integer I.Char) (suc (length bytes))
+
+-- the array whose elements are a row
+abbrev pub array_row : Row → Row
+array_row row = whole_row (Array row.c_type row.count) 1
+
+-- ---- first values
+
+abbrev pub or_else : Option Scalar → Option Scalar → Option Scalar
+or_else (Some value) other = Some value
+or_else None other = other
+
+-- scalars, and one more where there is none
+abbrev pub with_first : Around → Place → Scalar → (ℕ → Option Scalar) → ℕ → Option Scalar
+with_first around place value held offset = or_else (held offset) (if offset_of around place == offset then Some value else None)
+
+-- bytes as the elements of a row, from an index on, converted to their type
+abbrev pub text_held : Around → Place → IntType → ℕ → List ℕ → ℕ → Option Scalar
+text_held around place int_type index [] offset = None
+text_held around place int_type index (byte ∷ bytes) offset =
+    if offset_of around (at_index place index) == offset then Some (IntegerValue (convert_to int_type (pos byte))) else text_held around place int_type (suc index) bytes offset
+
+-- scalars, and those of a text where there is none
+abbrev pub with_text : Around → Place → IntType → ℕ → List ℕ → (ℕ → Option Scalar) → ℕ → Option Scalar
+with_text around place int_type index bytes held offset = or_else (held offset) (text_held around place int_type index bytes offset)
+
+-- scalars, and those that are given where there is none
+abbrev pub with_given : Program → CType → List values.Held → (ℕ → Option Scalar) → ℕ → Option Scalar
+with_given program c_type given held offset = or_else (held offset) (first_held program c_type given offset)
+
+-- a variable with its first values
+pub record IsFirst (program : Program) (table : Interned) (global : memory_global.GlobalDef) (elements : memory_elements.Elements) : Type 0 where
+  pub is_static : elements.is_static ≡ true
+  pub c_type : elements.c_type ≡ global.c_type
+  pub count : elements.count ≡ 1
+  pub held : AllHeld table elements.held (first_held program (type_in table global.c_type) (all_first global.first.items))
+
+-- the first of these variables with their first values
+abbrev pub AreFirsts : Program → Interned → List memory_global.GlobalDef → List memory_elements.Elements → Type 0
+AreFirsts program table globals [] = Unit {0}
+AreFirsts program table [] (first ∷ others) = ⊥
+AreFirsts program table (global ∷ globals) (first ∷ others) = IsFirst program table global first × AreFirsts program table globals others
+
+-- objects, with these variables with their first values
+abbrev pub filled : Program → List GlobalDef → Objects → Objects
+filled program [] objects = objects
+filled program (first ∷ others) objects = with_content (Outer first.name) (Elements true first.c_type 1 (first_held program first.c_type first.first)) (filled program others objects)
+
+-- the bytes of a literal as a row of characters
+pub record AreCharacters (table : Interned) (bytes : List ℕ) (elements : memory_elements.Elements) : Type 0 where
+  pub is_static : elements.is_static ≡ true
+  pub stands : Stands table elements.c_type
+  pub c_type : type_in table elements.c_type ≡ Integer I.Char
+  pub count : elements.count ≡ suc (length bytes)
+  pub held : AllHeld table elements.held (characters bytes)

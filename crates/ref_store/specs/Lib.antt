@@ -1,0 +1,4 @@
+pub mod Views
+pub mod Holding
+pub mod Beginning
+pub mod Firsts

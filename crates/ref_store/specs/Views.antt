@@ -1,0 +1,41 @@
+-- The values, places and contents that those in memory stand for, in a table of types.
+use Rattle.std.specs.Prelude.{Bool}
+use Rattle.c_typed.specs.Table.{Interned, Stands, type_in}
+use Rattle.c_meaning.specs.Values as V
+use Rattle.ref_store.specs.declared.value.Name as memory_name
+use Rattle.ref_store.specs.declared.value.Name.TheVariants as N
+use Rattle.ref_store.specs.declared.value.Row as memory_row
+use Rattle.ref_store.specs.declared.value.Place as memory_place
+use Rattle.ref_store.specs.declared.value.Scalar as memory_scalar
+use Rattle.ref_store.specs.declared.value.Scalar.TheVariants as M
+
+abbrev pub name_of : memory_name.Name → V.Name
+name_of (N.Heap number) = V.Heap number
+name_of (N.Outer name) = V.Outer name.now
+name_of (N.Text place) = V.Text place
+name_of (N.Own number) = V.Own number
+
+abbrev pub row_in : Interned → memory_row.Row → V.Row
+row_in table row = record { start = row.start; c_type = type_in table row.c_type; count = row.count }
+
+abbrev pub place_in : Interned → memory_place.Place → V.Place
+place_in table place = record { name = name_of place.name; row = row_in table place.row; index = place.index }
+
+abbrev pub scalar_in : Interned → memory_scalar.Scalar → V.Scalar
+scalar_in table (M.Integer value) = V.IntegerValue value
+scalar_in table M.Null = V.NullValue
+scalar_in table (M.Function name) = V.FunctionValue name.now
+scalar_in table (M.Pointer place) = V.PointerValue (place_in table place)
+scalar_in table (M.Raw number) = V.RawPointer number
+
+-- each of the types in it stands for one
+abbrev pub PlaceStands : Interned → memory_place.Place → Type 0
+PlaceStands table place = Stands table place.row.c_type
+
+abbrev pub ScalarStands : Interned → memory_scalar.Scalar → Type 0
+ScalarStands table (M.Pointer place) = PlaceStands table place
+ScalarStands table _ = Unit {0}
+
+-- the names of one object
+abbrev pub same_memory : memory_name.Name → memory_name.Name → Bool
+same_memory a b = V.same_name (name_of a) (name_of b)

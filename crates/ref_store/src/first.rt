@@ -1,0 +1,428 @@
+// The store before a program runs (C17 5.1.2, 6.7.9 paragraph 10).
+
+ghost use Rattle.std.specs.Prelude.{◌≡◌, ℕ, List, [], Option, Some, length, IfOk, OnOk};
+ghost use Rattle.c_typed.specs.Types as types;
+ghost use Rattle.c_typed.specs.Table.{Interned, Stands, type_in, structs_in};
+ghost use Rattle.c_typed.specs.DefinitionViews.{program_of, first_of, literal_of, scalar_of, ProgramStands, GlobalsStand};
+ghost use Rattle.c_typed.specs.DefinitionViews as views;
+ghost use Rattle.c_meaning.specs.Values as meaning;
+ghost use Rattle.c_meaning.specs.Values.{object_place, first_of_row};
+ghost use Rattle.c_meaning.specs.Store.{Around, State, with_content};
+ghost use Rattle.c_meaning.specs.Meaning.{literal_type};
+ghost use Rattle.c_meaning.specs.First as rules;
+ghost use Rattle.c_meaning.specs.First.{around_of, first_state};
+ghost use Rattle.ref_store.specs.declared.object.Content.TheVariants as C;
+ghost use Rattle.ref_store.specs.Views.{name_of, row_in, place_in, scalar_in, PlaceStands, ScalarStands};
+ghost use Rattle.ref_store.specs.Holding.{At, AllHeld, ContentIs, IsUndisturbed};
+ghost use Rattle.ref_store.specs.Beginning.{IsUnfilled, unfilled, unfilled_objects};
+ghost use Rattle.ref_store.specs.Firsts.{Has, unfilled_of, with_new, static_row, array_row, characters_row, with_first, with_text, with_given, IsFirst, AreFirsts, AreCharacters};
+
+use crate::object::{Content, Elements};
+use crate::store::Store;
+use crate::value::{Name, Place, Row, Scalar, Stop};
+use c_num::{IntType, convert};
+use c_typed as typed;
+use c_typed::{CType, First, Part, Program, Static};
+use indexmap::{IndexMap, IndexSet};
+use run_theory::Pos;
+use std::alloc::{AllocError, Global};
+
+/// What the size of a type is at most.
+const GREATEST_SIZE: u64 = 1 << 62;
+
+/// The row to which a step leads from a literal that is kept as a row of characters.
+fn within_literal(row: Row, part: Part) -> Result<Row, Stop>
+    ensures means { (table : Interned) (around : Around) (name : meaning.Name) (bytes : List ℕ) → row_in table row ≡ characters_row bytes → IfOk result (λ found. first_of_row name (row_in table found) ≡ rules.stepped around (object_place name (literal_type bytes)) part) }
+    ensures stands { (table : Interned) → Stands table row.c_type → IfOk result (λ found. Stands table found.c_type) }
+{
+    match part {
+        Part::Elements { index } => {
+            let Some(start) = index.checked_mul(row.count.min(GREATEST_SIZE)) else {
+                return Err(Stop::OutOfMemory);
+            };
+            Ok(Row { start, ..row })
+        }
+        Part::Member { .. } => Ok(Row::NOTHING),
+    }
+}
+
+impl<'a> Store<'a> {
+    /// The store before a program runs: its variables outside functions, and its literals.
+    pub fn new(alloc: Global, program: &'a Program) -> Result<Store<'a>, AllocError>
+        requires { ProgramStands program.now }
+        ensures stands { (input : List ℕ) (units : ℕ) → IfOk result (λ store. At (around_of (program_of program.now)) store 0 (first_state (program_of program.now) input units)) }
+        ensures types { IfOk result (λ store. store.types.now ≡ program.now.types) }
+    {
+        let mut store = Store::empty(alloc, program)?;
+        store.add_globals(program)?;
+        store.add_literals(program)?;
+        let Ok(firsts) = store.first_values(program) else {
+            return Err(AllocError);
+        };
+        store.hold_firsts(program, firsts)?;
+        Ok(store)
+    }
+
+    /// A store without objects.
+    fn empty(alloc: Global, program: &'a Program) -> Result<Store<'a>, AllocError>
+        ensures made { IfOk result (λ store. Has (program_of program.now) store (unfilled_of [] [])) }
+        ensures types { IfOk result (λ store. store.types.now ≡ program.now.types) }
+    {
+        let mut completed = IndexSet::new(alloc);
+        for tag in program.completed.iter() {
+            completed.insert(tag.as_slice())?;
+        }
+        Ok(Store {
+            alloc,
+            types: &program.types,
+            completed,
+            objects: IndexMap::new(alloc),
+            locals: Vec::new(alloc),
+            next_local: 1,
+            next_heap: 1,
+        })
+    }
+
+    /// Variables outside functions, without first values. Of several of one name the first counts.
+    fn add_globals(&mut self, program: &'a Program) -> Result<(), AllocError>
+        requires stand { GlobalsStand program.now.types program.now.globals.items }
+        requires types { self.old.types.now ≡ program.now.types }
+        requires had { Has (program_of program.now) self.old (unfilled_of [] []) }
+        ensures added { OnOk result (Has (program_of program.now) self.new (unfilled_of (program_of program.now).globals [])) }
+        ensures types { self.new.types ≡ self.old.types }
+    {
+        for global in program.globals.iter() {
+            self.add_global(global)?;
+        }
+        Ok(())
+    }
+
+    /// A variable without first values, where there is none of its name.
+    fn add_global(&mut self, global: &'a typed::GlobalDef) -> Result<(), AllocError>
+        requires { Stands self.old.types.now global.now.c_type }
+        ensures added { (around : Around) (base : ℕ) (state : State) → At around self.old base state → OnOk result (At around self.new base (record state { objects = with_new (meaning.Outer global.now.name) (unfilled (Some (type_in self.old.types.now global.now.c_type))) state.objects })) }
+        ensures types { self.new.types ≡ self.old.types }
+    {
+        let name = Name::Outer(global.name.as_slice());
+        if self.objects.get(&name).is_some() {
+            return Ok(());
+        }
+        let elements = Elements::new(self.alloc, true, global.c_type, 1);
+        self.objects.insert(name, Content::Elements(elements))?;
+        Ok(())
+    }
+
+    /// The literals. Of several at one place the first counts.
+    fn add_literals(&mut self, program: &'a Program) -> Result<(), AllocError>
+        requires { Has (program_of program.now) self.old (unfilled_of (program_of program.now).globals []) }
+        ensures added { OnOk result (IsUnfilled (program_of program.now) self.new) }
+        ensures types { self.new.types ≡ self.old.types }
+    {
+        for literal in program.literals.iter() {
+            self.add_literal(literal)?;
+        }
+        Ok(())
+    }
+
+    /// A literal, where there is none at its place.
+    fn add_literal(&mut self, literal: &'a typed::LiteralDef) -> Result<(), AllocError>
+        ensures added { (around : Around) (base : ℕ) (state : State) → At around self.old base state → OnOk result (At around self.new base (record state { objects = with_new (meaning.Text literal.now.place) (rules.literal_content (Some (literal_of literal.now))) state.objects })) }
+        ensures types { self.new.types ≡ self.old.types }
+    {
+        let name = Name::Text(literal.place);
+        if self.objects.get(&name).is_some() {
+            return Ok(());
+        }
+        let elements = self.characters(literal.bytes.as_slice())?;
+        self.objects.insert(name, Content::Elements(elements))?;
+        Ok(())
+    }
+
+    /// The bytes of a literal, as a row of characters.
+    fn characters(&self, bytes: &[u8]) -> Result<Elements<'a>, AllocError>
+        ensures { IfOk result (AreCharacters self.now.types.now bytes.now) }
+    {
+        let c_type = CType::integer(IntType::Char);
+        let mut elements = Elements::new(self.alloc, true, c_type, bytes.len() as u64 + 1);
+        let mut offset = 0;
+        for byte in bytes {
+            let value = convert(i128::from(*byte), IntType::Char);
+            elements.hold(offset, Scalar::Integer(value))?;
+            offset += 1;
+        }
+        Ok(elements)
+    }
+
+    /// The variables outside functions with their first values, in their order.
+    fn first_values(&self, program: &'a Program) -> Result<Vec<Elements<'a>>, Stop>
+        requires stand { GlobalsStand program.now.types program.now.globals.items }
+        requires types { self.now.types.now ≡ program.now.types }
+        requires unfilled { IsUnfilled (program_of program.now) self.now }
+        ensures firsts { IfOk result (λ firsts. AreFirsts (program_of program.now) self.now.types.now program.now.globals.items firsts.items) }
+        ensures length { IfOk result (λ firsts. length firsts.items ≡ length program.now.globals.items) }
+    {
+        let mut firsts = Vec::new(self.alloc);
+        for global in program.globals.iter() {
+            let elements = self.first_elements(program, global)?;
+            firsts.push(elements)?;
+        }
+        Ok(firsts)
+    }
+
+    /// Variables outside functions get their first values, the last one first.
+    fn hold_firsts(
+        &mut self,
+        program: &'a Program,
+        mut firsts: Vec<Elements<'a>>,
+    ) -> Result<(), AllocError>
+        requires stand { GlobalsStand program.now.types program.now.globals.items }
+        requires types { self.old.types.now ≡ program.now.types }
+        requires unfilled { IsUnfilled (program_of program.now) self.old }
+        requires firsts { AreFirsts (program_of program.now) self.old.types.now program.now.globals.items firsts.items }
+        requires length { length firsts.items ≡ length program.now.globals.items }
+        ensures filled { OnOk result (Has (program_of program.now) self.new (rules.first_objects (program_of program.now))) }
+        ensures types { self.new.types ≡ self.old.types }
+    {
+        while let Some(elements) = firsts.pop() {
+            let Some(global) = program.globals.get(firsts.len()) else {
+                return Err(AllocError);
+            };
+            self.hold_global(global, elements)?;
+        }
+        Ok(())
+    }
+
+    /// A variable becomes these elements.
+    fn hold_global(
+        &mut self,
+        global: &'a typed::GlobalDef,
+        elements: Elements<'a>,
+    ) -> Result<(), AllocError>
+        ensures held { (around : Around) (base : ℕ) (state : State) (content : meaning.Content) → ContentIs self.old.types.now (Some (C.Elements elements.entry)) content → At around self.old base state → OnOk result (At around self.new base (record state { objects = with_content (meaning.Outer global.now.name) content state.objects })) }
+        ensures types { self.new.types ≡ self.old.types }
+    {
+        let name = Name::Outer(global.name.as_slice());
+        self.objects.insert(name, Content::Elements(elements))?;
+        Ok(())
+    }
+
+    /// A variable with its first values.
+    fn first_elements(
+        &self,
+        program: &'a Program,
+        global: &'a typed::GlobalDef,
+    ) -> Result<Elements<'a>, Stop>
+        requires stands { Stands program.now.types global.now.c_type }
+        requires types { self.now.types.now ≡ program.now.types }
+        requires unfilled { IsUnfilled (program_of program.now) self.now }
+        ensures { IfOk result (IsFirst (program_of program.now) self.now.types.now global.now) }
+    {
+        let mut elements = Elements::new(self.alloc, true, global.c_type, 1);
+        let root = Place::first(Name::Heap(0), elements.row());
+        for first in global.first.iter() {
+            self.hold_given(program, &mut elements, root, first)?;
+        }
+        Ok(elements)
+    }
+
+    /// Stores what an initializer gives where none is stored.
+    fn hold_given(
+        &self,
+        program: &'a Program,
+        elements: &mut Elements<'a>,
+        root: Place<'a>,
+        first: &'a First,
+    ) -> Result<(), Stop>
+        requires unfilled { IsUnfilled (program_of program.now) self.now }
+        requires root { PlaceStands self.now.types.now root }
+        ensures same { IsUndisturbed elements.old elements.new }
+        ensures held { (c_type : types.CType) (held : ℕ → Option meaning.Scalar) → place_in self.now.types.now root.entry ≡ object_place (meaning.Heap 0) c_type → AllHeld self.now.types.now elements.old.held held → OnOk result (AllHeld self.now.types.now elements.new.held (with_given (program_of program.now) c_type (first_of first.now) held)) }
+    {
+        match first {
+            First::Scalar(held) => {
+                let place = self.walked(root, held.parts.as_slice(), held.index)?;
+                let value = self.first_scalar(program, &held.value)?;
+                self.hold_first(elements, place, value)
+            }
+            First::Text {
+                parts,
+                int_type,
+                bytes,
+            } => {
+                let place = self.walked(root, parts.as_slice(), 0)?;
+                self.hold_text(elements, place, *int_type, bytes.as_slice())
+            }
+        }
+    }
+
+    /// Bytes as the elements of a row, converted to their type.
+    fn hold_text(
+        &self,
+        elements: &mut Elements<'a>,
+        place: Place<'a>,
+        int_type: IntType,
+        bytes: &[u8],
+    ) -> Result<(), Stop>
+        requires { PlaceStands self.now.types.now place }
+        ensures same { IsUndisturbed elements.old elements.new }
+        ensures held { (around : Around) (held : ℕ → Option meaning.Scalar) → around.structs ≡ structs_in self.now.types.now → AllHeld self.now.types.now elements.old.held held → OnOk result (AllHeld self.now.types.now elements.new.held (with_text around (place_in self.now.types.now place.entry) int_type 0 bytes.now held)) }
+    {
+        let mut index = 0;
+        for byte in bytes {
+            let element = Place { index, ..place };
+            let value = convert(i128::from(*byte), int_type);
+            self.hold_first(elements, element, Scalar::Integer(value))?;
+            index += 1;
+        }
+        Ok(())
+    }
+
+    /// Stores a scalar where none is stored.
+    fn hold_first(
+        &self,
+        elements: &mut Elements<'a>,
+        place: Place<'a>,
+        value: Scalar<'a>,
+    ) -> Result<(), Stop>
+        requires place { PlaceStands self.now.types.now place }
+        requires value { ScalarStands self.now.types.now value }
+        ensures same { IsUndisturbed elements.old elements.new }
+        ensures held { (around : Around) (held : ℕ → Option meaning.Scalar) → around.structs ≡ structs_in self.now.types.now → AllHeld self.now.types.now elements.old.held held → OnOk result (AllHeld self.now.types.now elements.new.held (with_first around (place_in self.now.types.now place.entry) (scalar_in self.now.types.now value.entry) held)) }
+    {
+        let offset = self.offset(place)?;
+        if elements.held(offset).is_none() {
+            elements.hold(offset, value)?;
+        }
+        Ok(())
+    }
+
+    /// A first value.
+    fn first_scalar(
+        &self,
+        program: &'a Program,
+        value: &'a typed::Scalar,
+    ) -> Result<Scalar<'a>, Stop>
+        requires { IsUnfilled (program_of program.now) self.now }
+        ensures means { IfOk result (λ scalar. scalar_in self.now.types.now scalar ≡ rules.first_scalar (program_of program.now) (scalar_of value.now)) }
+        ensures stands { IfOk result (ScalarStands self.now.types.now) }
+    {
+        match value {
+            typed::Scalar::Integer(value) => Ok(Scalar::Integer(*value)),
+            typed::Scalar::Null => Ok(Scalar::Null),
+            typed::Scalar::Function(name) => Ok(Scalar::Function(name.as_slice())),
+            typed::Scalar::Pointer { root, parts, index } => {
+                let place = self.first_place(program, root, parts.as_slice(), *index)?;
+                Ok(Scalar::Pointer(place))
+            }
+        }
+    }
+
+    /// An element of the row to which steps lead from an object that lives as long as the program.
+    fn first_place(
+        &self,
+        program: &'a Program,
+        root: &'a Static,
+        parts: &[Part],
+        index: u64,
+    ) -> Result<Place<'a>, Stop>
+        requires { IsUnfilled (program_of program.now) self.now }
+        ensures means { IfOk result (λ place. place_in self.now.types.now place ≡ rules.first_place (program_of program.now) (record { name = views.name_of root.now; steps = parts.now; index = index })) }
+        ensures stands { IfOk result (PlaceStands self.now.types.now) }
+    {
+        match root {
+            Static::Variable(name) => {
+                let place = self.root(program, Name::Outer(name.as_slice()));
+                self.walked(place, parts, index)
+            }
+            Static::Literal(place) => self.in_literal(program, *place, parts, index),
+        }
+    }
+
+    /// An object that lives as long as the program.
+    fn root(&self, program: &'a Program, name: Name<'a>) -> Place<'a>
+        requires { IsUnfilled (program_of program.now) self.now }
+        ensures means { place_in self.now.types.now result ≡ first_of_row (name_of name.entry) (static_row (unfilled_objects (program_of program.now) (name_of name.entry))) }
+        ensures stands { PlaceStands self.now.types.now result }
+    {
+        match self.objects.get(&name) {
+            Some(content) => Place::first(name, content.row()),
+            None => Place::first(
+                name,
+                Row {
+                    start: 0,
+                    c_type: CType::VOID,
+                    count: 1,
+                },
+            ),
+        }
+    }
+
+    /// An element of the row to which steps lead from a literal, which is an array, though it is kept as a row of characters.
+    fn in_literal(
+        &self,
+        program: &'a Program,
+        place: Pos,
+        parts: &[Part],
+        index: u64,
+    ) -> Result<Place<'a>, Stop>
+        requires { IsUnfilled (program_of program.now) self.now }
+        ensures means { IfOk result (λ found. place_in self.now.types.now found ≡ rules.walked (around_of (program_of program.now)) (object_place (meaning.Text place) (rules.static_type (program_of program.now) (meaning.Text place))) parts.now index) }
+        ensures stands { IfOk result (PlaceStands self.now.types.now) }
+    {
+        let name = Name::Text(place);
+        let root = self.root(program, name);
+        if self.is_dead(name) {
+            return self.walked(root, parts, index);
+        }
+        let Some((part, others)) = parts.split_first() else {
+            return self.whole_literal(root, index);
+        };
+        let row = within_literal(root.row, *part)?;
+        self.walked(Place::first(name, row), others, index)
+    }
+
+    /// The array that a literal is, where it is kept as a row of characters.
+    fn whole_literal(&self, root: Place<'a>, index: u64) -> Result<Place<'a>, Stop>
+        requires { PlaceStands self.now.types.now root }
+        ensures means { IfOk result (λ found. place_in self.now.types.now found ≡ record { name = name_of root.entry.name; row = array_row (row_in self.now.types.now root.entry.row); index = index }) }
+        ensures stands { IfOk result (PlaceStands self.now.types.now) }
+    {
+        let Some(c_type) = self.types.find_array(root.row.c_type, root.row.count) else {
+            return Err(Stop::OutOfMemory);
+        };
+        Ok(Place {
+            name: root.name,
+            row: Row {
+                start: 0,
+                c_type,
+                count: 1,
+            },
+            index,
+        })
+    }
+
+    /// The element with an index of the row to which steps lead.
+    fn walked(&self, place: Place<'a>, parts: &[Part], index: u64) -> Result<Place<'a>, Stop>
+        requires { PlaceStands self.now.types.now place }
+        ensures found { (around : Around) → around.structs ≡ structs_in self.now.types.now → IfOk result (λ found. place_in self.now.types.now found ≡ rules.walked around (place_in self.now.types.now place.entry) parts.now index) }
+        ensures stands { IfOk result (PlaceStands self.now.types.now) }
+    {
+        let mut reached = place;
+        for part in parts {
+            reached = self.stepped(reached, *part)?;
+        }
+        Ok(Place { index, ..reached })
+    }
+
+    /// The first element of the row to which a step leads.
+    fn stepped(&self, place: Place<'a>, part: Part) -> Result<Place<'a>, Stop>
+        requires { PlaceStands self.now.types.now place }
+        ensures found { (around : Around) → around.structs ≡ structs_in self.now.types.now → IfOk result (λ found. place_in self.now.types.now found ≡ rules.stepped around (place_in self.now.types.now place.entry) part) }
+        ensures stands { IfOk result (PlaceStands self.now.types.now) }
+    {
+        match part {
+            Part::Member { index, number } => self.member_at(Place { index, ..place }, number),
+            Part::Elements { index } => self.decayed(Place { index, ..place }),
+        }
+    }
+}
