@@ -145,7 +145,7 @@ bind_lawful around [] given = give_lawful Onward
 
 -- ---- the ends of statements
 
-leave_lawful : (way : Way) (count : ℕ) → Lawful (leave way count)
+pub leave_lawful : (way : Way) (count : ℕ) → Lawful (leave way count)
 leave_lawful way count = record { later = λ state more. refl; keeps = λ state. prefix_refl state.trace }
 
 pub scoped_lawful : {inside : Eval Way} → Lawful inside → Lawful (scoped inside)

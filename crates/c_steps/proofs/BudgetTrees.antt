@@ -34,25 +34,25 @@ two_lawful h k each = one_lawful h (λ a. then_lawful (k) (each a))
 
 -- ---- the turns of loops
 
-while_turn : {condition : Eval Scalar} {body : Eval Way} → Lawful condition → Lawful body → Lawful (condition >>= λ c. if is_true c then (body >>= λ way. give (after_body way)) else give (Some Onward))
+pub while_turn : {condition : Eval Scalar} {body : Eval Way} → Lawful condition → Lawful body → Lawful (condition >>= λ c. if is_true c then (body >>= λ way. give (after_body way)) else give (Some Onward))
 while_turn h k = then_lawful h (λ c. choice_lawful (is_true c) (then_lawful k (λ way. give_lawful _)) (give_lawful _))
 
-do_condition_lawful : (way : Option Way) {condition : Eval Scalar} → Lawful condition → Lawful (do_condition way condition)
+pub do_condition_lawful : (way : Option Way) {condition : Eval Scalar} → Lawful condition → Lawful (do_condition way condition)
 do_condition_lawful (Some way) h = give_lawful _
 do_condition_lawful None h = then_lawful h (λ c. give_lawful _)
 
-do_turn : {body : Eval Way} {condition : Eval Scalar} → Lawful body → Lawful condition → Lawful (body >>= λ way. do_condition (after_body way) condition)
+pub do_turn : {body : Eval Way} {condition : Eval Scalar} → Lawful body → Lawful condition → Lawful (body >>= λ way. do_condition (after_body way) condition)
 do_turn h k = then_lawful h (λ way. do_condition_lawful (after_body way) k)
 
-for_step_lawful : (way : Option Way) {step : Eval (Option Scalar)} → Lawful step → Lawful (for_step way step)
+pub for_step_lawful : (way : Option Way) {step : Eval (Option Scalar)} → Lawful step → Lawful (for_step way step)
 for_step_lawful (Some way) h = give_lawful _
 for_step_lawful None h = then_lawful h (λ a. give_lawful _)
 
-for_body : {body : Eval Way} {step : Eval (Option Scalar)} → Lawful body → Lawful step → Lawful (body >>= λ way. for_step (after_body way) step)
+pub for_body : {body : Eval Way} {step : Eval (Option Scalar)} → Lawful body → Lawful step → Lawful (body >>= λ way. for_step (after_body way) step)
 for_body h k = then_lawful h (λ way. for_step_lawful (after_body way) k)
 
 -- a turn without a condition enters its body
-for_turn : (eval : Value → Eval Scalar) → ((v : Value) → Lawful (eval v)) → (condition : Option Value) {body : Eval Way} {step : Eval (Option Scalar)} → Lawful body → Lawful step →
+pub for_turn : (eval : Value → Eval Scalar) → ((v : Value) → Lawful (eval v)) → (condition : Option Value) {body : Eval Way} {step : Eval (Option Scalar)} → Lawful body → Lawful step →
     Lawful (optional_value eval condition >>= λ c. if holds c then (body >>= λ way. for_step (after_body way) step) else give (Some Onward))
 for_turn eval each None h k = for_body h k
 for_turn eval each (Some v) h k = then_lawful (then_lawful (each v) (λ a. give_lawful _)) (λ c. choice_lawful (holds c) ((for_body h k)) (give_lawful _))
@@ -207,7 +207,7 @@ module _ (around : Around) (calls : Calls) (calls_shrink : CallsShrink calls) (c
 
 -- ---- the calls of a program
 
-used_value_lawful : (here : Pos) (is_used : Bool) (result : CType) (given : Option Scalar) → Lawful (used_value here is_used result given)
+pub used_value_lawful : (here : Pos) (is_used : Bool) (result : CType) (given : Option Scalar) → Lawful (used_value here is_used result given)
 used_value_lawful here is_used result (Some value) = give_lawful _
 used_value_lawful here is_used result None = choice_lawful _ ((undefined_lawful Ub.U16 here)) (give_lawful _)
 

@@ -110,7 +110,7 @@ unless_lawful here (first ∷ others) h = choice_lawful first.fails (undefined_l
 
 -- ---- loops
 
-way_or_lawful : (way : Option Way) {rest : Eval Way} → Lawful rest → Lawful (way_or way rest)
+pub way_or_lawful : (way : Option Way) {rest : Eval Way} → Lawful rest → Lawful (way_or way rest)
 way_or_lawful (Some way) h = give_lawful way
 way_or_lawful None h = h
 

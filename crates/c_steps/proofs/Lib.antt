@@ -9,5 +9,6 @@ pub mod Agreeing
 pub mod Budgets
 pub mod BudgetSteps
 pub mod BudgetTrees
+pub mod BudgetRuns
 pub mod Spans
 pub mod Spending

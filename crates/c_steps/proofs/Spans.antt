@@ -1,13 +1,15 @@
 -- What budgets do to a whole program.
 use Rattle.std.proofs.Common.{◌≡◌, ℕ, ◌+◌, ◌-◌, true, List, [], codes, refl, sym, ap, subst, arith, ◌∙◌}
 use Rattle.run_theory.specs.Runs.{Going, Over, trace_of, IsPrefix, IsGoing, IsOver}
-use Rattle.c_typed.specs.Typed.{Program}
+use Rattle.c_typed.specs.Typed.{FunctionDef, Program}
 use Rattle.c_meaning.specs.Values.{Scalar, FunctionValue}
-use Rattle.c_meaning.specs.Store.{Outcome, Then, Stopped}
+use Rattle.c_meaning.specs.Store.{Around, State, Outcome, Then, Stopped}
 use Rattle.c_meaning.specs.Meaning.{greatest_depth}
 use Rattle.c_meaning.specs.First.{around_of, main_type, first_state, status_of, run_main, reference, spent, units_left}
+use Rattle.c_steps.specs.Steps.{Config, goes_on}
 use Rattle.c_steps.proofs.Budgets.{with_more, trace_in, Later, Lawful, prefix_refl}
 use Rattle.c_steps.proofs.BudgetTrees.{calls-lawful}
+use Rattle.c_steps.proofs.BudgetRuns.{goes_lawful}
 
 run_main_lawful : (program : Program) → Lawful (run_main program)
 run_main_lawful program = calls-lawful (around_of program) program.functions greatest_depth (record { line = 1; column = 1 }) true main_type (FunctionValue (codes "main")) []
@@ -50,3 +52,6 @@ spends_all program input units going =
   where
     whole : units - 0 ≡ units
     whole = omega (arith)
+
+pub kept : (around : Around) (functions : List FunctionDef) (config : Config) (state : State) → IsPrefix state.trace (trace_of (status_of (goes_on around functions config state)))
+kept around functions config state = subst (λ t. IsPrefix state.trace t) (sym (status_trace (goes_on around functions config state))) ((goes_lawful around functions config).keeps state)
