@@ -1,0 +1,287 @@
+-- How a run goes on, step by step.
+use Rattle.std.proofs.Common.{◌≡◌, ℕ, suc, ◌+◌, ◌-◌, ◌<◌, ◌≤◌, Bool, true, false, List, ◌++◌, Option, Some, None, is_some, Ok, Err, refl, sym, ap, subst, ◌∙◌, arith}
+use Rattle.std.proofs.lemmas.Bool.{false≢true}
+use Rattle.std.specs.Int.{from_bool}
+use Rattle.run_theory.specs.Runs.{Over, output_of}
+use Rattle.c_meaning.specs.Store.{State, ◌>>=◌, continue_with}
+use Rattle.c_meaning.specs.First.{status_of, around_of}
+use Rattle.c_typed.specs.DefinitionViews.{program_of}
+use Rattle.c_steps.specs.Steps.{goes_on, task_then, resume}
+use Rattle.c_steps.specs.Units.{takes_unit}
+use Rattle.c_steps.proofs.Spending.{goes-spending, goes-nowhere, goes-freely}
+use Rattle.ref_store.specs.Holding.{left}
+use Rattle.ref_meaning.specs.declared.control.Final as memory_final
+use Rattle.ref_meaning.specs.declared.control.Final.TheVariants as F
+use Rattle.ref_meaning.specs.declared.control.Task as memory_task
+use Rattle.ref_meaning.specs.declared.control.Task.TheVariants as K
+use Rattle.ref_meaning.specs.declared.run.Halt.{Halt}
+use Rattle.ref_meaning.specs.declared.run.Halt.TheVariants as H
+use Rattle.ref_meaning.specs.declared.run.RefEnd.{RefEnd}
+use Rattle.ref_meaning.specs.declared.run.RefEnd.TheVariants as E
+use Rattle.ref_meaning.specs.declared.run.RefRun.{RefRun}
+use Rattle.ref_meaning.specs.Views.{table_of, operands_of, part_in, task_in, config_in, around_run, functions_of, final_of}
+use Rattle.ref_meaning.specs.Holding.{Holds}
+use Rattle.ref_meaning.specs.Doing.{acting, takes}
+use Rattle.ref_meaning.specs.Moving.{IsKept, IsTold, StaysTold, Acts}
+use Rattle.ref_meaning.specs.Running.{Behaviour, answers, StandsFor, Ends, GoesOn, BreaksOff, Answers, end_in, answer_of, halted, IsHalted, HoldsUnlessOver}
+
+-- Of so many units some are left, and the run goes on behind the others.
+pub record Goes (first now : RefRun) (behaviour : Behaviour) (base input : List ℕ) (steps units : ℕ) (is_left written : Option (List ℕ)) : Type 0 where
+  pub done : ℕ
+  pub split : done + units ≡ steps
+  pub counted : now.spent ≡ first.spent + done
+  pub goes_on : GoesOn now behaviour base input done is_left written
+
+plus-none : (n : ℕ) → 0 + n ≡ n
+plus-none n = omega arith
+
+pub goes-first : (run : RefRun) (behaviour : Behaviour) (written base input : List ℕ) (steps : ℕ) (is_left out : Option (List ℕ)) → StandsFor run written behaviour → is_left ≡ Some input → out ≡ Some (base ++ written)
+    → Goes run run behaviour base input steps steps is_left out
+goes-first run behaviour written base input steps is_left out stands told out_is = record {
+  done = 0;
+  split = plus-none steps;
+  counted = omega arith;
+  goes_on = record { later = behaviour; front = written; rest = input; stands = stands; follows = λ units. ap (behaviour input) (plus-none units); told = told; out = out_is };
+}
+
+-- ---- what is left to do, by the units
+
+abbrev pub with_unit : Bool → ℕ → ℕ
+with_unit true n = suc n
+with_unit false n = n
+
+suc-is : (n : ℕ) → suc n ≡ 1 + n
+suc-is n = omega arith
+
+unit-plus : (b : Bool) (n : ℕ) → with_unit b n ≡ from_bool b + n
+unit-plus true n = suc-is n
+unit-plus false n = sym (plus-none n)
+
+-- the answer is that of the step and what follows
+proceeds : (run : RefRun) (state : State) (rest : List ℕ) (b : Bool) (n : ℕ) → takes_unit (takes run) ≡ b
+    → answers run state rest (with_unit b n) ≡ status_of ((acting run >>= goes_on (around_run run) (functions_of run)) (left n rest state))
+proceeds run state rest true n e = ap status_of (goes-spending (around_run run) (functions_of run) (config_in run) (left 0 rest state) n e)
+proceeds run state rest false n e = ap status_of (goes-freely (around_run run) (functions_of run) (config_in run) (left n rest state) e)
+
+-- ---- ends
+
+abbrev inner : memory_final.Final → Option memory_final.Final → memory_final.Final
+inner default (Some one) = one
+inner default None = default
+
+is-over : (final : memory_final.Final) (task : memory_task.Task) → end_in task ≡ Some final → task ≡ K.Over final
+is-over final (K.Over other) e = ap (λ found. K.Over (inner final found)) e
+is-over final _ e = absurd (false≢true (ap is_some e))
+
+over-task : (run : RefRun) (final : memory_final.Final) → end_in run.control.task ≡ Some final → (state : State) → status_of (goes_on (around_run run) (functions_of run) (config_in run) state) ≡ Over (final_of final) state.trace
+over-task run final e state =
+    let is = is-over final run.control.task e in
+    λ i. status_of (task_then (around_run run) (functions_of run) (config_in run).depth (task_in (table_of run) (operands_of run) (part_in (table_of run) run.control.node) (is i))
+    (resume (around_run run) (functions_of run) (config_in run).depth (config_in run).frames) state)
+
+pub ends-over : (first now : RefRun) (behaviour : Behaviour) (base input : List ℕ) (steps units : ℕ) (is_left written : Option (List ℕ)) (final : memory_final.Final)
+    → Goes first now behaviour base input steps units is_left written → end_in now.control.task ≡ Some final → Ends behaviour base input steps (final_of final) written
+ends-over first now behaviour base input steps units is_left written final goes e =
+    let far = goes.goes_on in
+    let stands = far.stands in
+    record {
+      trace = stands.state.trace;
+      is = ap (behaviour input) (sym goes.split) ∙ (far.follows units ∙ (stands.behaves far.rest units ∙ over-task now final e (left units far.rest stands.state)));
+      out = far.out ∙ ap (λ front. Some (base ++ front)) (sym stands.front);
+    }
+
+pub answers-end : (old new : RefRun) (behaviour : Behaviour) (base input : List ℕ) (steps : ℕ) (is_left written : Option (List ℕ)) (final : memory_final.Final)
+    → Ends behaviour base input steps (final_of final) written → Answers old new behaviour base input steps (answer_of final) is_left written
+answers-end old new behaviour base input steps is_left written (F.Ended status) ends = ends
+answers-end old new behaviour base input steps is_left written F.Depth ends = ends
+answers-end old new behaviour base input steps is_left written (F.Undefined kind place) ends = ends
+
+-- ---- all units are spent
+
+pub spent-all : (first now : RefRun) (behaviour : Behaviour) (base input : List ℕ) (steps units : ℕ) (is_left written : Option (List ℕ))
+    → Goes first now behaviour base input steps units is_left written → takes_unit (takes now) ≡ true → units ≡ 0 → Answers first now behaviour base input steps E.StepsSpent is_left written
+spent-all first now behaviour base input steps units is_left written goes e none =
+    let far = goes.goes_on in
+    let stands = far.stands in
+    let split : goes.done + 0 ≡ steps = subst (λ n. goes.done + n ≡ steps) none goes.split in
+    let all : goes.done ≡ steps = omega (arith, split) in (
+      record {
+        trace = stands.state.trace;
+        is = ap (behaviour input) (sym split) ∙ (far.follows 0 ∙ (stands.behaves far.rest 0 ∙ ap status_of (goes-nowhere (around_run now) (functions_of now) (config_in now) (left 0 far.rest stands.state) e)));
+        out = far.out ∙ ap (λ front. Some (base ++ front)) (sym stands.front);
+        goes_on = subst (λ n. GoesOn now behaviour base input n is_left written) all far;
+      },
+      goes.counted ∙ ap (λ n. first.spent + n) all,
+    )
+
+-- ---- a step
+
+pub respent : (run : RefRun) (n : ℕ) → Holds run → Holds (record run { spent = n })
+respent run n holds = record {
+  program = holds.program;
+  types = holds.types;
+  numbered = holds.numbered;
+  main = holds.main;
+  node = holds.node;
+  task = holds.task;
+  operands = holds.operands;
+  frames = holds.frames;
+  within = holds.within;
+  calls = holds.calls;
+  shallow = holds.shallow;
+  state = holds.state;
+  at = holds.at;
+}
+
+is-told : (base : List ℕ) (rest front : List ℕ) (state : State) (is_left written : Option (List ℕ)) → is_left ≡ Some rest → written ≡ Some (base ++ front) → output_of state.trace ≡ front → IsTold base rest state is_left written
+is-told base rest front state is_left written told out is = (told, out ∙ ap (λ bytes. Some (base ++ bytes)) (sym is))
+
+pub goes-further : (value : Unit {0}) (first old mid : RefRun) (behaviour : Behaviour) (base input : List ℕ) (steps units units' : ℕ) (is_left written left' written' : Option (List ℕ)) (b : Bool)
+    → Goes first old behaviour base input steps units is_left written → IsKept old mid → Acts old mid (acting old) (Ok value) is_left written left' written'
+    → takes_unit (takes old) ≡ b → units ≡ from_bool b + units' → (spent : ℕ) → spent ≡ mid.spent + from_bool b
+    → Goes first (record mid { spent = spent }) behaviour base input steps units' left' written'
+goes-further value first old mid behaviour base input steps units units' is_left written left' written' b goes kept acts takes_is rest_is spent spent_is =
+    let far = goes.goes_on in
+    let stands = far.stands in
+    let program = sym kept.program in
+    let arrives = acts base far.rest stands.state stands.at (is-told base far.rest far.front stands.state is_left written far.told far.out stands.front) in
+    record {
+      done = goes.done + from_bool b;
+      split = omega (arith, goes.split, rest_is);
+      counted = omega (arith, spent_is, kept.spent, goes.counted);
+      goes_on = record {
+        later = answers mid arrives.after;
+        front = output_of arrives.after.trace;
+        rest = arrives.rest;
+        stands = record {
+          holds = respent mid spent arrives.holds;
+          state = arrives.after;
+          at = arrives.at;
+          front = refl;
+          behaves = λ input units. refl;
+        };
+        follows = λ n.
+            ap (behaviour input) (by n) ∙ (far.follows (with_unit b n) ∙ (stands.behaves far.rest (with_unit b n) ∙ (proceeds old stands.state far.rest b n takes_is
+            ∙ (ap (λ outcome. status_of (continue_with (goes_on (around_run old) (functions_of old)) outcome)) (arrives.does n)
+            ∙ (λ i. status_of (goes_on (around_of (program_of (program i).now)) (program_of (program i).now).functions (config_in mid) (left n arrives.rest arrives.after)))))));
+        told = arrives.told.0;
+        out = arrives.told.1;
+      };
+    }
+  where
+    by : (n : ℕ) → goes.done + from_bool b + n ≡ goes.done + with_unit b n
+    by n = let plus = unit-plus b n in omega (arith, plus)
+
+-- ---- a step that isn't done
+
+ends-final : (A : Type 0) (old mid : RefRun) (first : RefRun) (behaviour : Behaviour) (base input : List ℕ) (steps units units' : ℕ) (is_left written left' written' : Option (List ℕ)) (b : Bool) (final : memory_final.Final)
+    → Goes first old behaviour base input steps units is_left written → Acts {A = A} old mid (acting old) (Err (H.Final final)) is_left written left' written'
+    → takes_unit (takes old) ≡ b → units ≡ from_bool b + units' → Ends behaviour base input steps (final_of final) written'
+ends-final A old mid first behaviour base input steps units units' is_left written left' written' b final goes acts takes_is rest_is =
+    let far = goes.goes_on in
+    let stands = far.stands in
+    let is_over = acts base far.rest stands.state stands.at (is-told base far.rest far.front stands.state is_left written far.told far.out stands.front) in
+    let plus = unit-plus b units' in
+    let count : steps ≡ goes.done + with_unit b units' = omega (arith, plus, goes.split, rest_is) in
+    record {
+      trace = is_over.there.trace;
+      is =
+          ap (behaviour input) count ∙ (far.follows (with_unit b units') ∙ (stands.behaves far.rest (with_unit b units') ∙ (proceeds old stands.state far.rest b units' takes_is
+          ∙ ap (λ outcome. status_of (continue_with (goes_on (around_run old) (functions_of old)) outcome)) (is_over.is units'))));
+      out = is_over.told.1;
+    }
+
+stays-on : (old mid first : RefRun) (behaviour : Behaviour) (base input : List ℕ) (steps units : ℕ) (is_left written left' written' : Option (List ℕ))
+    → Goes first old behaviour base input steps units is_left written → IsKept old mid → StaysTold old mid is_left written left' written' → BreaksOff first mid behaviour base input steps left' written'
+stays-on old mid first behaviour base input steps units is_left written left' written' goes kept told =
+    let far = goes.goes_on in
+    let stands = far.stands in
+    let stays = told.stays in
+    let program = sym kept.program in
+    let same = sym stays.same in
+    record {
+      done = goes.done;
+      within = omega (arith, goes.split);
+      counted = kept.spent ∙ goes.counted;
+      goes_on = record {
+        later = far.later;
+        front = far.front;
+        rest = far.rest;
+        stands = record {
+          holds = stays.holds;
+          state = stands.state;
+          at = stays.at stands.state stands.at;
+          front = stands.front;
+          behaves = λ rest units. stands.behaves rest units ∙ (λ i. status_of (goes_on (around_of (program_of (program i).now)) (program_of (program i).now).functions (same i) (left units rest stands.state)));
+        };
+        follows = far.follows;
+        told = told.unread ∙ far.told;
+        out = told.unwritten ∙ far.out;
+      };
+    }
+
+pub breaks-off : (first now : RefRun) (behaviour : Behaviour) (base input : List ℕ) (steps units : ℕ) (is_left written : Option (List ℕ))
+    → Goes first now behaviour base input steps units is_left written → BreaksOff first now behaviour base input steps is_left written
+breaks-off first now behaviour base input steps units is_left written goes = record { done = goes.done; within = omega (arith, goes.split); counted = goes.counted; goes_on = goes.goes_on }
+
+pub answers-halted : (A : Type 0) (first old mid new : RefRun) (behaviour : Behaviour) (base input : List ℕ) (steps units units' : ℕ) (is_left written left' written' : Option (List ℕ)) (b : Bool) (halt : Halt)
+    → Goes first old behaviour base input steps units is_left written → IsKept old mid → Acts {A = A} old mid (acting old) (Err halt) is_left written left' written'
+    → takes_unit (takes old) ≡ b → units ≡ from_bool b + units' → IsHalted mid halt new
+    → Answers first new behaviour base input steps (halted halt) left' written'
+answers-halted A first old mid new behaviour base input steps units units' is_left written left' written' b (H.Final final) goes kept acts takes_is rest_is is =
+    answers-end first new behaviour base input steps left' written' final (ends-final A old mid first behaviour base input steps units units' is_left written left' written' b final goes acts takes_is rest_is)
+answers-halted A first old mid new behaviour base input steps units units' is_left written left' written' b H.ReadFault goes kept acts takes_is rest_is is =
+    subst (λ run. BreaksOff first run behaviour base input steps left' written') (sym is) (stays-on old mid first behaviour base input steps units is_left written left' written' goes kept acts)
+answers-halted A first old mid new behaviour base input steps units units' is_left written left' written' b H.WriteFault goes kept acts takes_is rest_is is =
+    subst (λ run. BreaksOff first run behaviour base input steps left' written') (sym is) (stays-on old mid first behaviour base input steps units is_left written left' written' goes kept acts)
+answers-halted A first old mid new behaviour base input steps units units' is_left written left' written' b H.OutOfMemory goes kept acts takes_is rest_is is =
+    subst (λ run. BreaksOff first run behaviour base input steps left' written') (sym is) (stays-on old mid first behaviour base input steps units is_left written left' written' goes kept acts)
+
+-- ---- what a turn of the loop needs
+
+pub needs-unit : (b : Bool) (left unit : ℕ) → unit ≡ from_bool b → left < unit → (b ≡ true) × (left ≡ 0)
+needs-unit true left unit e lt = let one : unit ≡ 1 = e in (refl, omega (arith, one, lt))
+needs-unit false left unit e lt = absurd (none-below left (subst (λ n. left < n) e lt))
+  where
+    none-below : (n : ℕ) → n < 0 → ⊥
+    none-below n h = omega (arith, h)
+
+pub left-split : (left unit n : ℕ) → unit ≡ n → unit ≤ left → left ≡ n + (left - unit)
+left-split left unit n e le = omega (arith, e, le)
+
+abbrev is_read : RefEnd → Bool
+is_read E.ReadFault = true
+is_read _ = false
+
+abbrev is_written : RefEnd → Bool
+is_written E.WriteFault = true
+is_written _ = false
+
+final-read : (final : memory_final.Final) → is_read (answer_of final) ≡ false
+final-read (F.Ended status) = refl
+final-read F.Depth = refl
+final-read (F.Undefined kind place) = refl
+
+final-written : (final : memory_final.Final) → is_written (answer_of final) ≡ false
+final-written (F.Ended status) = refl
+final-written F.Depth = refl
+final-written (F.Undefined kind place) = refl
+
+pub halted-read : (halt : Halt) → halted halt ≡ E.ReadFault → halt ≡ H.ReadFault
+halted-read (H.Final final) e = absurd (false≢true (sym (final-read final) ∙ ap is_read e))
+halted-read H.ReadFault e = refl
+halted-read H.WriteFault e = absurd (false≢true (ap is_read e))
+halted-read H.OutOfMemory e = absurd (false≢true (ap is_read e))
+
+pub halted-written : (halt : Halt) → halted halt ≡ E.WriteFault → halt ≡ H.WriteFault
+halted-written (H.Final final) e = absurd (false≢true (sym (final-written final) ∙ ap is_written e))
+halted-written H.ReadFault e = absurd (false≢true (ap is_written e))
+halted-written H.WriteFault e = refl
+halted-written H.OutOfMemory e = absurd (false≢true (ap is_written e))
+
+-- behind a step that isn't done
+pub halted-unless : (A : Type 0) (old mid new : RefRun) (halt : Halt) (is_left written left' written' : Option (List ℕ)) → Acts {A = A} old mid (acting old) (Err halt) is_left written left' written' → IsHalted mid halt new → HoldsUnlessOver new
+halted-unless A old mid new (H.Final final) is_left written left' written' acts is = λ none. absurd (false≢true (ap is_some (sym none ∙ is)))
+halted-unless A old mid new H.ReadFault is_left written left' written' acts is = λ none. subst Holds (sym is) acts.stays.holds
+halted-unless A old mid new H.WriteFault is_left written left' written' acts is = λ none. subst Holds (sym is) acts.stays.holds
+halted-unless A old mid new H.OutOfMemory is_left written left' written' acts is = λ none. subst Holds (sym is) acts.stays.holds

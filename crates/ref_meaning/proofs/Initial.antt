@@ -1,0 +1,84 @@
+-- A run before its first unit.
+use Rattle.std.specs.Prelude.{codes}
+use Rattle.std.proofs.Common.{◌≡◌, ℕ, ◌-◌, ◌≤◌, List, [], reverse, length, refl, sym, ap, subst, ◌∙◌, arith}
+use Rattle.run_theory.specs.Runs.{Ended}
+use Rattle.c_typed.specs.Typed.{Program}
+use Rattle.c_typed.specs.DefinitionViews.{program_of, ProgramStands}
+use Rattle.c_meaning.specs.Values.{Scalar}
+use Rattle.c_meaning.specs.Store.{State, Outcome, Then, Stopped, continue_with, over}
+use Rattle.c_meaning.specs.Library.{low_byte}
+use Rattle.c_meaning.specs.Meaning.{greatest_depth}
+use Rattle.c_meaning.specs.First.{around_of, first_state, status_of, run_main, reference}
+use Rattle.c_steps.specs.Steps.{Start, Config, goes_on}
+use Rattle.ref_store.specs.Holding.{At, left}
+use Rattle.ref_meaning.specs.declared.control.Node.TheVariants as N
+use Rattle.ref_meaning.specs.declared.control.Task.TheVariants as K
+use Rattle.ref_meaning.specs.declared.run.RefRun.{RefRun}
+use Rattle.ref_meaning.specs.Views.{table_of, operands_of, config_in, around_run, functions_of, frames_in, operands_after, part_in, task_in}
+use Rattle.ref_meaning.specs.Holding.{NodeStands, TaskFits, ScalarsStand, FramesHold, calls_among}
+use Rattle.ref_meaning.specs.Numbers.{number_from, HasNumbers}
+use Rattle.ref_meaning.specs.Running.{StandsFor}
+use Rattle.ref_meaning.proofs.Numbering.{number-means}
+
+status-over : (outcome : Outcome Scalar) → status_of outcome ≡ status_of (continue_with (λ a. over (Ended (low_byte a))) outcome)
+status-over (Then value state) = refl
+status-over (Stopped answer state) = refl
+
+-- what is left to do before the first step is the whole program
+goes-reference : (program : Program) (depth : ℕ) → depth ≡ greatest_depth → (input : List ℕ) (units : ℕ)
+    → reference program input units ≡ status_of (goes_on (around_of program) program.functions (record { task = Start; frames = []; depth = depth }) (left units input (first_state program [] 0)))
+goes-reference program depth e input units =
+    let back = sym e in
+    status-over (run_main program (first_state program input units)) ∙ (λ i. status_of (goes_on (around_of program) program.functions (record { task = Start; frames = []; depth = back i }) (left units input (first_state program [] 0))))
+
+-- the run that `new` makes
+pub stands-first : (run : RefRun) → run.control ≡ record { node = N.Nothing; task = K.Start } → run.frames.items ≡ [] → run.operands.items ≡ [] → run.base ≡ 0 → run.depth ≡ 0
+    → ProgramStands run.program.now → run.store.types.now ≡ run.program.now.types
+    → HasNumbers run.functions 0 run.program.now.functions.items
+    → run.main ≡ number_from 0 run.program.now.functions.items (codes "main")
+    → At (around_run run) run.store 0 (first_state (program_of run.program.now) [] 0)
+    → StandsFor run [] (reference (program_of run.program.now))
+stands-first run control frames operands base depth program types numbered main at =
+    record {
+      holds = record {
+        program = program;
+        types = types;
+        numbered = λ name. numbered name ∙ number-means run.program.now.types 0 run.program.now.functions.items name;
+        main = main ∙ number-means run.program.now.types 0 run.program.now.functions.items (codes "main");
+        node = subst (λ c. NodeStands (table_of run) c.node) (sym control) tt;
+        task = subst (λ c. TaskFits (table_of run) c.node (length (operands_of run)) c.task) (sym control) tt;
+        operands = subst (λ items. ScalarsStand (table_of run) (reverse items)) (sym operands) tt;
+        frames = subst (λ items. FramesHold (table_of run) run.base (operands_after run.control.task (operands_of run)) (reverse items)) (sym frames) tt;
+        within = subst (λ n. n ≤ length run.store.locals.items) (sym base) (omega arith);
+        calls = depth ∙ ap (λ items. calls_among (reverse items)) (sym frames);
+        shallow = subst (λ n. n ≤ greatest_depth) (sym depth) (omega arith);
+        state = state;
+        at = here;
+      };
+      state = state;
+      at = here;
+      front = refl;
+      behaves = λ input units. goes-reference (program_of run.program.now) (greatest_depth - run.depth) deep input units ∙ (λ i. status_of (goes_on (around_run run) (functions_of run) (config i) (left units input state)));
+    }
+  where
+    state : State
+    state = first_state (program_of run.program.now) [] 0
+
+    here : At (around_run run) run.store run.base state
+    here = subst (λ n. At (around_run run) run.store n state) (sym base) at
+
+    deep : greatest_depth - run.depth ≡ greatest_depth
+    deep = ap (λ n. greatest_depth - n) depth ∙ omega arith
+
+    first : Config
+    first = record { task = Start; frames = []; depth = greatest_depth - run.depth }
+
+    config : first ≡ config_in run
+    config =
+        let task = sym control in
+        let none = sym frames in
+        λ i. record {
+          task = task_in (table_of run) (operands_of run) (part_in (table_of run) (task i).node) (task i).task;
+          frames = frames_in (table_of run) run.store.locals.items run.base (operands_after run.control.task (operands_of run)) (reverse (none i));
+          depth = greatest_depth - run.depth;
+        }

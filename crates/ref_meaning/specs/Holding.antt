@@ -1,0 +1,190 @@
+-- What holds of a run throughout.
+use Rattle.std.specs.Prelude.{◌≡◌, ℕ, suc, ◌≤◌, List, [], ◌∷◌, length, Some, option_map, bytes_eq, codes}
+use Rattle.indexmap.specs.IndexMap.{get_by}
+use Rattle.c_typed.specs.declared.typed.Value.TheVariants as V
+use Rattle.c_typed.specs.declared.typed.Value as memory_value
+use Rattle.c_typed.specs.declared.statement.Stmt as memory_stmt
+use Rattle.c_typed.specs.declared.statement.Stmt.TheVariants as M
+use Rattle.c_typed.specs.Table.{Interned}
+use Rattle.c_typed.specs.Views.{ValueStands, ObjectStands, DesignatorStands}
+use Rattle.c_typed.specs.StatementViews.{StmtStands}
+use Rattle.c_typed.specs.DefinitionViews.{FunctionStands, ProgramStands}
+use Rattle.c_meaning.specs.Meaning.{function_from, greatest_depth}
+use Rattle.c_meaning.specs.Store.{State}
+use Rattle.ref_store.specs.declared.value.Scalar as memory_scalar
+use Rattle.ref_store.specs.Views.{ScalarStands, PlaceStands}
+use Rattle.ref_store.specs.Holding.{At}
+use Rattle.ref_meaning.specs.declared.control.Node as memory_node
+use Rattle.ref_meaning.specs.declared.control.Node.TheVariants as N
+use Rattle.ref_meaning.specs.declared.control.Way as memory_way
+use Rattle.ref_meaning.specs.declared.control.Way.TheVariants as W
+use Rattle.ref_meaning.specs.declared.control.Given as memory_given
+use Rattle.ref_meaning.specs.declared.control.Given.TheVariants as G
+use Rattle.ref_meaning.specs.declared.control.Stage as memory_stage
+use Rattle.ref_meaning.specs.declared.control.Stage.TheVariants as S
+use Rattle.ref_meaning.specs.declared.control.Frame as memory_frame
+use Rattle.ref_meaning.specs.declared.control.Task as memory_task
+use Rattle.ref_meaning.specs.declared.control.Task.TheVariants as K
+use Rattle.ref_meaning.specs.declared.run.RefRun.{RefRun}
+use Rattle.ref_meaning.specs.Views.{table_of, operands_of, stack_of, around_run, functions_of, operands_behind, base_behind, operands_after}
+
+-- ---- types stand
+
+abbrev pub NodeStands : Interned → memory_node.Node → Type 0
+NodeStands table (N.Value v) = ValueStands table v.now
+NodeStands table (N.Object object) = ObjectStands table object.now
+NodeStands table (N.Address object) = ObjectStands table object.now
+NodeStands table (N.Designator function) = DesignatorStands table function.now
+NodeStands table (N.Stmt s) = StmtStands table s.now
+NodeStands table (N.Body function) = FunctionStands table function.now
+NodeStands table N.Nothing = Unit {0}
+
+abbrev pub WayStands : Interned → memory_way.Way → Type 0
+WayStands table (W.Returned (Some value)) = ScalarStands table value
+WayStands table _ = Unit {0}
+
+abbrev pub GivenStands : Interned → memory_given.Given → Type 0
+GivenStands table (G.Scalar a) = ScalarStands table a
+GivenStands table (G.Way way) = WayStands table way
+
+abbrev pub ScalarsStand : Interned → List memory_scalar.Scalar → Type 0
+ScalarsStand table [] = Unit {0}
+ScalarsStand table (first ∷ others) = ScalarStands table first × ScalarsStand table others
+
+-- ---- a stage or a task fits a part
+
+abbrev pub IsCall : memory_node.Node → Type 0
+IsCall (N.Value v) = by v.now
+  where
+    by : memory_value.Value → Type 0
+    by (V.Call' is_used place p function c_type shape arguments) = Unit {0}
+    by (V.LibraryCall' function groups place shape arguments) = Unit {0}
+    by _ = ⊥
+IsCall _ = ⊥
+
+abbrev pub IsLibraryCall : memory_node.Node → Type 0
+IsLibraryCall (N.Value v) = by v.now
+  where
+    by : memory_value.Value → Type 0
+    by (V.LibraryCall' function groups place shape arguments) = Unit {0}
+    by _ = ⊥
+IsLibraryCall _ = ⊥
+
+abbrev pub IsBody : memory_node.Node → Type 0
+IsBody (N.Body function) = Unit {0}
+IsBody _ = ⊥
+
+abbrev pub IsLoop : memory_node.Node → Type 0
+IsLoop (N.Stmt s) = by s.now
+  where
+    by : memory_stmt.Stmt → Type 0
+    by (M.While' condition p body) = Unit {0}
+    by (M.DoWhile' p body condition) = Unit {0}
+    by (M.For' start condition step p body) = Unit {0}
+    by _ = ⊥
+IsLoop _ = ⊥
+
+abbrev pub IsSwitch : memory_node.Node → Type 0
+IsSwitch (N.Stmt s) = by s.now
+  where
+    by : memory_stmt.Stmt → Type 0
+    by (M.Switch' value shape items) = Unit {0}
+    by _ = ⊥
+IsSwitch _ = ⊥
+
+abbrev pub IsTurning : memory_node.Node → Type 0
+IsTurning (N.Stmt s) = by s.now
+  where
+    by : memory_stmt.Stmt → Type 0
+    by (M.While' condition p body) = Unit {0}
+    by (M.DoWhile' p body condition) = Unit {0}
+    by (M.For' start condition step p body) = Unit {0}
+    by (M.Switch' value shape items) = Unit {0}
+    by _ = ⊥
+IsTurning _ = ⊥
+
+-- it has items: a block, a `switch`, a `for`, or a function's body
+abbrev pub HasItems : memory_node.Node → Type 0
+HasItems (N.Stmt s) = by s.now
+  where
+    by : memory_stmt.Stmt → Type 0
+    by (M.Block' shape items) = Unit {0}
+    by (M.For' start condition step p body) = Unit {0}
+    by (M.Switch' value shape items) = Unit {0}
+    by _ = ⊥
+HasItems (N.Body function) = Unit {0}
+HasItems _ = ⊥
+
+abbrev pub Waits : memory_node.Node → Type 0
+Waits (N.Body function) = ⊥
+Waits N.Nothing = ⊥
+Waits _ = Unit {0}
+
+abbrev pub Fits : memory_node.Node → memory_stage.Stage → Type 0
+Fits node S.First = Waits node
+Fits node (S.Second a) = Waits node
+Fits node (S.Argument function count) = IsCall node
+Fits node (S.Item number) = HasItems node
+Fits node S.Begin = IsLoop node
+Fits node S.Turn = IsTurning node
+Fits node S.Step = IsLoop node
+Fits node (S.Call is_used place base) = IsBody node
+Fits node _ = Unit {0}
+
+abbrev pub StageStands : Interned → memory_stage.Stage → Type 0
+StageStands table (S.Second a) = ScalarStands table a
+StageStands table (S.Argument function count) = ScalarStands table function
+StageStands table (S.Local place) = PlaceStands table place
+StageStands table _ = Unit {0}
+
+-- its operands are there, and its locals begin behind those of its callers
+abbrev pub HasRoom : memory_stage.Stage → ℕ → ℕ → Type 0
+HasRoom (S.Argument function count) base operands = count ≤ operands
+HasRoom (S.Scope height) base operands = base ≤ height
+HasRoom (S.Call is_used place base') base operands = base' ≤ base
+HasRoom _ base operands = Unit {0}
+
+abbrev pub calls_in : memory_stage.Stage → ℕ → ℕ
+calls_in (S.Call is_used place base) n = suc n
+calls_in _ n = n
+
+abbrev pub calls_among : List memory_frame.Frame → ℕ
+calls_among [] = 0
+calls_among (frame ∷ frames) = calls_in frame.stage (calls_among frames)
+
+-- what waits, the innermost first
+abbrev pub FramesHold : Interned → ℕ → List memory_scalar.Scalar → List memory_frame.Frame → Type 0
+FramesHold table base operands [] = Unit {0}
+FramesHold table base operands (frame ∷ frames) =
+    NodeStands table frame.node × Fits frame.node frame.stage × StageStands table frame.stage × HasRoom frame.stage base (length operands)
+    × FramesHold table (base_behind frame.stage base) (operands_behind frame.stage operands) frames
+
+abbrev pub TaskFits : Interned → memory_node.Node → ℕ → memory_task.Task → Type 0
+TaskFits table node operands K.Start = Unit {0}
+TaskFits table N.Nothing operands K.Enter = ⊥
+TaskFits table node operands K.Enter = Unit {0}
+TaskFits table node operands (K.Library groups) = IsLibraryCall node
+TaskFits table node operands (K.Apply function count) = IsCall node × ScalarStands table function × (count ≤ operands)
+TaskFits table node operands (K.Bind count number) = IsBody node × (count ≤ operands)
+TaskFits table node operands (K.Label z number default) = IsSwitch node
+TaskFits table node operands (K.Give given) = GivenStands table given
+TaskFits table node operands (K.Over final) = Unit {0}
+
+-- the functions have their numbers
+abbrev pub AreNumbered : RefRun → Type 0
+AreNumbered run = (name : List ℕ) → get_by (λ key. bytes_eq name key.now) run.functions ≡ option_map (λ found. found.0) (function_from 0 (functions_of run) name)
+
+pub record Holds (run : RefRun) : Type 0 where
+  pub program : ProgramStands run.program.now
+  pub types : run.store.types.now ≡ run.program.now.types
+  pub numbered : AreNumbered run
+  pub main : run.main ≡ option_map (λ found. found.0) (function_from 0 (functions_of run) (codes "main"))
+  pub node : NodeStands (table_of run) run.control.node
+  pub task : TaskFits (table_of run) run.control.node (length (operands_of run)) run.control.task
+  pub operands : ScalarsStand (table_of run) (operands_of run)
+  pub frames : FramesHold (table_of run) run.base (operands_after run.control.task (operands_of run)) (stack_of run)
+  pub within : run.base ≤ length run.store.locals.items
+  pub calls : run.depth ≡ calls_among (stack_of run)
+  pub shallow : run.depth ≤ greatest_depth
+  pub state : State
+  pub at : At (around_run run) run.store run.base state

@@ -1,0 +1,9 @@
+pub mod Views
+pub mod Holding
+pub mod Items
+pub mod Calling
+pub mod Nexts
+pub mod Numbers
+pub mod Doing
+pub mod Moving
+pub mod Running

@@ -1,0 +1,103 @@
+-- What a run answers.
+use Rattle.std.specs.Prelude.{◌≡◌, ℕ, ◌+◌, ◌≤◌, List, ◌++◌, Option, Some, None}
+use Rattle.run_theory.specs.Runs as Runs
+use Rattle.run_theory.specs.Runs.{Answer, Final, Going, Over, Trace, output_of}
+use Rattle.c_meaning.specs.Store.{State}
+use Rattle.c_meaning.specs.First.{status_of}
+use Rattle.c_steps.specs.Steps.{goes_on}
+use Rattle.ref_store.specs.Holding.{At, left}
+use Rattle.ref_meaning.specs.declared.run.RefRun.{RefRun}
+use Rattle.ref_meaning.specs.declared.run.RefEnd.{RefEnd}
+use Rattle.ref_meaning.specs.declared.run.RefEnd.TheVariants as E
+use Rattle.ref_meaning.specs.declared.run.Halt.{Halt}
+use Rattle.ref_meaning.specs.declared.run.Halt.TheVariants as H
+use Rattle.ref_meaning.specs.declared.control.Final as memory_final
+use Rattle.ref_meaning.specs.declared.control.Final.TheVariants as F
+use Rattle.ref_meaning.specs.declared.control.Task as memory_task
+use Rattle.ref_meaning.specs.declared.control.Task.TheVariants as K
+use Rattle.ref_meaning.specs.Views.{config_in, around_run, functions_of}
+use Rattle.ref_meaning.specs.Holding.{Holds}
+
+-- the answer to each input and each number of units
+abbrev pub Behaviour : Type 0
+Behaviour = List ℕ → ℕ → Answer
+
+-- the answer of a run from a state, with this input and so many units left
+abbrev pub answers : RefRun → State → Behaviour
+answers run state input units = status_of (goes_on (around_run run) (functions_of run) (config_in run) (left units input state))
+
+-- A run stands for what it will do: with each input and each number of further units it comes to this answer. So much is written
+-- before it.
+pub record StandsFor (run : RefRun) (written : List ℕ) (behaviour : Behaviour) : Type 0 where
+  pub holds : Holds run
+  pub state : State
+  pub at : At (around_run run) run.store run.base state
+  pub front : output_of state.trace ≡ written
+  pub behaves : (input : List ℕ) (units : ℕ) → behaviour input units ≡ answers run state input units
+
+-- it is over, and what it writes is written
+pub record Ends (behaviour : Behaviour) (base input : List ℕ) (steps : ℕ) (final : Final) (written : Option (List ℕ)) : Type 0 where
+  pub trace : Trace
+  pub is : behaviour input steps ≡ Over final trace
+  pub out : written ≡ Some (base ++ output_of trace)
+
+-- So many units are done, what they write is written, and the run stands for what is left to do.
+pub record GoesOn (new : RefRun) (behaviour : Behaviour) (base input : List ℕ) (done : ℕ) (is_left written : Option (List ℕ)) : Type 0 where
+  pub later : Behaviour
+  pub front : List ℕ
+  pub rest : List ℕ
+  pub stands : StandsFor new front later
+  pub follows : (units : ℕ) → behaviour input (done + units) ≡ later rest units
+  pub told : is_left ≡ Some rest
+  pub out : written ≡ Some (base ++ front)
+
+-- it has spent all units
+pub record IsSpent (new : RefRun) (behaviour : Behaviour) (base input : List ℕ) (steps : ℕ) (is_left written : Option (List ℕ)) : Type 0 where
+  pub trace : Trace
+  pub is : behaviour input steps ≡ Going trace
+  pub out : written ≡ Some (base ++ output_of trace)
+  pub goes_on : GoesOn new behaviour base input steps is_left written
+
+-- it broke off before a step, with some of the units done
+pub record BreaksOff (old new : RefRun) (behaviour : Behaviour) (base input : List ℕ) (steps : ℕ) (is_left written : Option (List ℕ)) : Type 0 where
+  pub done : ℕ
+  pub within : done ≤ steps
+  pub counted : new.spent ≡ old.spent + done
+  pub goes_on : GoesOn new behaviour base input done is_left written
+
+-- What a run answers to so many units, where it stood for a behaviour.
+abbrev pub Answers : RefRun → RefRun → Behaviour → List ℕ → List ℕ → ℕ → RefEnd → Option (List ℕ) → Option (List ℕ) → Type 0
+Answers old new behaviour base input steps (E.Ended status) is_left written = Ends behaviour base input steps (Runs.Ended status) written
+Answers old new behaviour base input steps E.Depth is_left written = Ends behaviour base input steps Runs.DepthReached written
+Answers old new behaviour base input steps (E.Undefined kind place) is_left written = Ends behaviour base input steps (Runs.Undefined kind place) written
+Answers old new behaviour base input steps E.StepsSpent is_left written = IsSpent new behaviour base input steps is_left written × (new.spent ≡ old.spent + steps)
+Answers old new behaviour base input steps E.ReadFault is_left written = BreaksOff old new behaviour base input steps is_left written
+Answers old new behaviour base input steps E.WriteFault is_left written = BreaksOff old new behaviour base input steps is_left written
+Answers old new behaviour base input steps E.OutOfMemory is_left written = BreaksOff old new behaviour base input steps is_left written
+
+-- ---- runs that are over
+
+abbrev pub end_in : memory_task.Task → Option memory_final.Final
+end_in (K.Over final) = Some final
+end_in _ = None
+
+-- It holds, or it is over: of what is done once something is undefined, nothing is known.
+abbrev pub HoldsUnlessOver : RefRun → Type 0
+HoldsUnlessOver run = end_in run.control.task ≡ None → Holds run
+
+abbrev pub answer_of : memory_final.Final → RefEnd
+answer_of (F.Ended status) = E.Ended status
+answer_of F.Depth = E.Depth
+answer_of (F.Undefined kind place) = E.Undefined kind place
+
+-- what a run answers where a step isn't done
+abbrev pub halted : Halt → RefEnd
+halted (H.Final final) = answer_of final
+halted H.ReadFault = E.ReadFault
+halted H.WriteFault = E.WriteFault
+halted H.OutOfMemory = E.OutOfMemory
+
+-- what becomes of it: it is over, or it stays
+abbrev pub IsHalted : RefRun → Halt → RefRun → Type 0
+IsHalted old (H.Final final) new = end_in new.control.task ≡ Some final
+IsHalted old _ new = new ≡ old

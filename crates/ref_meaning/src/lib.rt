@@ -1,0 +1,16 @@
+//! The reference, run: what a program does with an input, unit by unit (C17 5.1.2.3).
+#![tactic(auto)]
+
+mod call;
+mod control;
+mod entry;
+mod first;
+mod label;
+mod operand;
+mod outside;
+mod run;
+mod statement;
+#[cfg(test)]
+mod tests;
+
+pub use run::{RefEnd, RefRun};
