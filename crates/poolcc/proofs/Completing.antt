@@ -17,7 +17,7 @@ use Rattle.pcc_status.specs.declared.status.Status.{Status}
 use Rattle.pcc_status.specs.declared.status.Status.TheVariants as S
 use Rattle.pcc_status.specs.Said.{Said, after_failed_line}
 use Rattle.poolcc.specs.Compiled.{IsInteger, Compiles}
-use Rattle.poolcc.specs.Command.{Exec}
+use Rattle.poolcc.specs.Command.{Line, NoCommand, NoLine, Exec, Ref, Names}
 use Rattle.poolcc.specs.Complete.{told, RunsAs, RunsUnlessMemory}
 use Rattle.poolcc.specs.Exec.{source_limit, ExecGives}
 use Rattle.poolcc.proofs.Refusals.{not_refused}
@@ -100,8 +100,11 @@ module _ (text : List ℕ) (limits : MachineLimits) (steps : ℕ) (left base : L
       (compiles.program, compiles.integer, wrong.0, wrong.1)
 
 -- a line has one file
-pub same_file : (file other : List ℕ) (steps others : ℕ) → Exec file steps ≡ Exec other others → file ≡ other
-same_file file other steps others e = cc
+pub same_file : (file other : List ℕ) (line : Line) → Names line file → Names line other → file ≡ other
+same_file file other (Exec named steps) one two = sym one ∙ two
+same_file file other (Ref named steps) one two = sym one ∙ two
+same_file file other NoCommand one two = absurd one
+same_file file other NoLine one two = absurd one
 
 pub neither : {P Q : Type 0} → (P → ⊥) → (Q → ⊥) → P ⊎ Q → ⊥
 neither no_p no_q (inl p) = no_p p

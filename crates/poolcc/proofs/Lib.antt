@@ -10,3 +10,5 @@ pub mod Refusals
 pub mod Refusing
 pub mod Sizes
 pub mod TreeSizes
+pub mod Referring
+pub mod RefCompleting

@@ -1,5 +1,5 @@
 -- A text has at most one refusal, and none where it is accepted.
-use Rattle.std.proofs.Common.{◌≡◌, ℕ, List, Option, Some, None, sym, ap, ◌∙◌, refl}
+use Rattle.std.proofs.Common.{◌≡◌, ℕ, List, Option, Some, None, sym, ap, ◌∙◌, refl, subst}
 use Rattle.run_theory.specs.declared.ends.Pos.{Pos}
 use Rattle.c_syntax.specs.Trees
 use Rattle.c_ast.specs.Syntax.{ProgramTree}
@@ -20,8 +20,8 @@ use Rattle.pcc_status.specs.declared.status.LimitKind.TheVariants as M
 use Rattle.pcc_status.specs.declared.status.Refusal.{Refusal}
 use Rattle.pcc_status.specs.declared.status.Refusal.TheVariants as R
 use Rattle.poolcc.specs.declared.text.Stop.TheVariants as stops
-use Rattle.poolcc.specs.Compiled.{ReadsAs, IsInteger}
-use Rattle.poolcc.specs.Refused.{fault_of, IsLexical, IsSyntactic, IsRefused, limit_named, later, stopped_at, first_violated, stop_of}
+use Rattle.poolcc.specs.Compiled.{ReadsAs, IsAccepted, IsInteger}
+use Rattle.poolcc.specs.Refused.{fault_of, IsLexical, IsSyntactic, IsRefused, IsLate, limit_named, later, stopped_at, first_violated, stop_of}
 use Rattle.poolcc.proofs.Misplacing.{one_syntactic}
 
 -- the refusal of a program that was read, if it has one
@@ -130,3 +130,23 @@ no_reason text program refusal integer (of_program whole reads is) =
 
 pub not_refused : (text : List ℕ) (program : ProgramTree) (refusal : Refusal) → IsInteger text program → IsRefused text refusal → ⊥
 not_refused text program refusal integer refused = no_reason text program refusal integer (reason text refusal refused)
+
+-- what is accepted is refused for later, or not at all
+late_only : (place : Option Pos) (refusal : Refusal) → of_later place ≡ Some refusal → (IsLate refusal → ⊥) → ⊥
+late_only None refusal is at_once = cc
+late_only (Some place) refusal is at_once =
+    let same : R.Later place ≡ refusal = cc in
+    at_once (subst IsLate same tt)
+
+whole_refusal : (text : List ℕ) (program : Trees.ProgramTree) → IsAccepted text program → refusal_of program ≡ of_later (later program)
+whole_refusal text program accepted =
+    ap (λ all. of_rules (least all) (limit_of program) (later program)) accepted.typed ∙ ap (λ first. of_limits first (later program)) accepted.within
+
+no_reason_at_once : (text : List ℕ) (program : Trees.ProgramTree) (refusal : Refusal) → IsAccepted text program → (IsLate refusal → ⊥) → Reason text refusal → ⊥
+no_reason_at_once text program _ accepted at_once (lexical a) = not_read a accepted.reads
+no_reason_at_once text program _ accepted at_once (syntactic a) = a.unread program accepted.reads.reads
+no_reason_at_once text program refusal accepted at_once (of_program whole reads is) =
+    late_only (later program) refusal (sym (whole_refusal text program accepted) ∙ (sym (ap refusal_of (accepted.reads.only whole reads.reads)) ∙ is)) at_once
+
+pub accepted_not_refused : (text : List ℕ) (program : Trees.ProgramTree) (refusal : Refusal) → IsAccepted text program → IsRefused text refusal → (IsLate refusal → ⊥) → ⊥
+accepted_not_refused text program refusal accepted refused at_once = no_reason_at_once text program refusal accepted at_once (reason text refusal refused)

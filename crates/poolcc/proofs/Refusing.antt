@@ -13,7 +13,6 @@ use Rattle.image_form.specs.Form.{Form}
 use Rattle.pcc_status.specs.declared.status.LexKind.{LexKind}
 use Rattle.pcc_status.specs.declared.status.LexKind.TheVariants as K
 use Rattle.pcc_status.specs.declared.status.Refusal.{Refusal}
-use Rattle.pcc_status.specs.declared.status.Refusal.TheVariants as R
 use Rattle.pcc_status.specs.declared.status.Status.{Status}
 use Rattle.pcc_status.specs.declared.status.Status.TheVariants as S
 use Rattle.poolcc.specs.Compiled.{Compiles}

@@ -1,16 +1,23 @@
 -- Command lines: the program's name, a command, and what the command takes.
-use Rattle.std.specs.Prelude.{ℕ, ◌^◌, Bool, false, ◌&&◌, ◌==◌, nat_lt, nat_le, List, [], ◌∷◌, Option, Some, None, length, codes, if◌then◌else◌}
+use Rattle.std.specs.Prelude.{◌≡◌, ℕ, ◌^◌, Bool, false, ◌&&◌, ◌==◌, nat_lt, nat_le, List, [], ◌∷◌, Option, Some, None, length, codes, if◌then◌else◌}
 use Rattle.std.specs.List.{list_all}
 use Rattle.std.specs.Char.{digit_value}
 use Rattle.std.specs.Str.{bytes_eq}
 use Rattle.std.specs.Str.Parse.{digits_value, without_leading_plus}
 
--- what the words say: no command, a command with words that are no line of it, or to compile a file and run it for so
--- many steps at most
+-- what the words say: no command, a command with words that are no line of it, to compile a file and run it for so many
+-- steps at most, or to run what it means for so many units at most
 pub data Line : Type 0 where
   NoCommand : Line
   NoLine : Line
   Exec : (file : List ℕ) (steps : ℕ) → Line
+  Ref : (file : List ℕ) (steps : ℕ) → Line
+
+-- the line is of this file
+abbrev pub Names : Line → List ℕ → Type 0
+Names (Exec file steps) name = file ≡ name
+Names (Ref file steps) name = file ≡ name
+Names line name = ⊥
 
 -- how many steps a run has where no limit is given
 abbrev pub default_steps : ℕ
@@ -32,22 +39,27 @@ steps_of word =
     let steps : ℕ = digits_value 10 digits in
     if is_numeral digits && nat_le 1 steps && nat_le steps (2 ^ 62) then Some steps else None
 
-abbrev pub limited : List ℕ → Option ℕ → Line
-limited file None = NoLine
-limited file (Some steps) = Exec file steps
+abbrev pub limited : (ℕ → Line) → Option ℕ → Line
+limited run None = NoLine
+limited run (Some steps) = run steps
 
 -- what stands behind the file: nothing, or --steps and a number
-abbrev pub options_line : List ℕ → List (List ℕ) → Line
-options_line file [] = Exec file default_steps
-options_line file (option ∷ []) = NoLine
-options_line file (option ∷ number ∷ []) = if bytes_eq option (codes "--steps") then limited file (steps_of number) else NoLine
-options_line file (option ∷ number ∷ word ∷ words) = NoLine
+abbrev pub options_line : (ℕ → Line) → List (List ℕ) → Line
+options_line run [] = run default_steps
+options_line run (option ∷ []) = NoLine
+options_line run (option ∷ number ∷ []) = if bytes_eq option (codes "--steps") then limited run (steps_of number) else NoLine
+options_line run (option ∷ number ∷ word ∷ words) = NoLine
 
-abbrev pub exec_line : List (List ℕ) → Line
-exec_line [] = NoLine
-exec_line (file ∷ options) = if is_option file then NoLine else options_line file options
+-- what stands behind a command: a file, and its options
+abbrev pub file_line : (List ℕ → ℕ → Line) → List (List ℕ) → Line
+file_line run [] = NoLine
+file_line run (file ∷ options) = if is_option file then NoLine else options_line (run file) options
+
+abbrev pub command_line : List ℕ → List (List ℕ) → Line
+command_line command words =
+    if bytes_eq command (codes "exec") then file_line Exec words else if bytes_eq command (codes "ref") then file_line Ref words else NoCommand
 
 abbrev pub line_of : List (List ℕ) → Line
 line_of [] = NoCommand
 line_of (name ∷ []) = NoCommand
-line_of (name ∷ command ∷ words) = if bytes_eq command (codes "exec") then exec_line words else NoCommand
+line_of (name ∷ command ∷ words) = command_line command words

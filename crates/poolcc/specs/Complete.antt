@@ -26,6 +26,15 @@ pub record RunsAs (text : List ℕ) (limits : MachineLimits) (steps : ℕ) (inpu
   pub ends : status ≡ told (mach form.functions input steps)
   pub output : written ≡ Some (base ++ output_of (trace_of (mach form.functions input steps)))
 
+-- The status and the output, behind the base, are those of this answer of the program itself.
+pub record IsToldOf (answer : Answer) (base : List ℕ) (status : Status) (written : Option (List ℕ)) : Type 0 where
+  pub ends : status ≡ told answer
+  pub output : written ≡ Some (base ++ output_of (trace_of answer))
+
+-- that, or memory ran out
+abbrev pub IsToldUnlessMemory : Answer → List ℕ → Status → Option (List ℕ) → Type 0
+IsToldUnlessMemory answer base status written = (status ≡ S.OutOfMemory) ⊎ IsToldOf answer base status written
+
 -- that, or memory ran out
 abbrev pub RunsUnlessMemory : List ℕ → MachineLimits → ℕ → List ℕ → List ℕ → Status → Option (List ℕ) → Type 0
 RunsUnlessMemory text limits steps input base status written = (status ≡ S.OutOfMemory) ⊎ RunsAs text limits steps input base status written

@@ -1,6 +1,5 @@
--- What `exec` answers, and what a whole command does.
+-- What `exec` answers.
 use Rattle.std.specs.Prelude.{◌≡◌, ℕ, ◌<◌, ◌≤◌, ◌⊎◌, List, Option, Some, length}
-use Rattle.pcc_outside.specs.Outside.{Told, Missing, Holds}
 use Rattle.pool_isa.specs.Machine.{initial}
 use Rattle.image_form.specs.declared.image.MachineLimits.{MachineLimits}
 use Rattle.image_form.specs.Form.{Form}
@@ -9,8 +8,6 @@ use Rattle.machine.specs.declared.ends.RunEnd.TheVariants as E
 use Rattle.machine.specs.Run.{RunGives}
 use Rattle.pcc_status.specs.declared.status.Status.{Status}
 use Rattle.pcc_status.specs.declared.status.Status.TheVariants as S
-use Rattle.pcc_status.specs.declared.status.UsageKind.TheVariants as U
-use Rattle.poolcc.specs.Command.{Line, NoCommand, NoLine, Exec}
 use Rattle.poolcc.specs.Compiled.{Compiles}
 use Rattle.poolcc.specs.Refused.{IsRefused}
 
@@ -59,11 +56,3 @@ IsUsage status = ⊥
 -- the slab limit and the index limit that hold where none are given
 abbrev pub default_limits : MachineLimits
 default_limits = record { slabs = 65536; index = 4294967295 }
-
--- What a command line comes to, before its line on the error output, by what is told of each file, of the input and of
--- the output.
-pub record Answers (line : Line) (contents : List ℕ → Told) (left written left' written' : Option (List ℕ)) (answer : Status) : Type 0 where
-  pub no_command : line ≡ NoCommand → (answer ≡ S.Usage U.Command) × (left' ≡ left) × (written' ≡ written)
-  pub no_line : line ≡ NoLine → (answer ≡ S.Usage U.Words) × (left' ≡ left) × (written' ≡ written)
-  pub exec : (file : List ℕ) (steps : ℕ) (text input base : List ℕ) → line ≡ Exec file steps → contents file ≡ Holds text → left ≡ Some input → written ≡ Some base → ExecGives text default_limits steps input base answer left' written'
-  pub missing : (file : List ℕ) (steps : ℕ) → line ≡ Exec file steps → contents file ≡ Missing → ((answer ≡ S.ReadFault) ⊎ (answer ≡ S.OutOfMemory)) × (left' ≡ left) × (written' ≡ written)

@@ -115,6 +115,16 @@ IsRefused text (R.Graph count) = ⊥
 IsRefused text (R.Pools function count) = ⊥
 IsRefused text (R.Later place) = IsLater text place
 
+-- the refusal is for later, where the text is accepted
+abbrev pub IsLate : Refusal → Type 0
+IsLate (R.Later place) = Unit {0}
+IsLate refusal = ⊥
+
+-- it isn't for later
+abbrev pub IsAtOnce : code.Stop → Type 0
+IsAtOnce (stops.Refused refusal) = IsLate refusal → ⊥
+IsAtOnce stops.OutOfMemory = Unit {0}
+
 -- why a text has no image: it is refused, or memory ran out
 abbrev pub IsStop : List ℕ → code.Stop → Type 0
 IsStop text (stops.Refused refusal) = IsRefused text refusal

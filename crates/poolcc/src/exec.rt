@@ -16,7 +16,7 @@ use pcc_status::Status;
 use std::alloc::Global;
 
 /// The most bytes of a source.
-const SOURCE_LIMIT: u64 = 1_048_576;
+pub(crate) const SOURCE_LIMIT: u64 = 1_048_576;
 
 /// The limits of an image where none are given.
 const LIMITS: MachineLimits = MachineLimits {

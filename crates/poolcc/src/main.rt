@@ -4,6 +4,7 @@
 mod command;
 mod compile;
 mod exec;
+mod reference;
 #[cfg(test)]
 mod tests;
 mod text;
@@ -14,6 +15,7 @@ pub use compile::{compile, link};
 pub use exec::exec;
 use pcc_outside::{HostFiles, StdSink, StdSource};
 use pcc_status::Status;
+pub use reference::ref_file;
 use std::process::ExitCode;
 use std::{env, io};
 pub use text::{Stop, image_of, parse};

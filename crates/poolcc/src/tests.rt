@@ -3,7 +3,7 @@
 use crate::poolcc;
 use pcc_outside::{MemFiles, MemSink, MemSource};
 use pcc_status::{LexKind, Refusal, Status, SyntaxKind, TypeRule, UsageKind};
-use run_theory::Pos;
+use run_theory::{Pos, UbKind};
 use std::alloc::{AllocError, Global};
 use std::collections::BTreeMap;
 use std::test::Fail;
@@ -76,6 +76,16 @@ fn exec(alloc: Global, text: &str, input: &[u8], failing: Failing) -> Result<Did
     command(
         alloc,
         &["poolcc", "exec", "a.c"],
+        text.as_bytes(),
+        input,
+        failing,
+    )
+}
+
+fn reference(alloc: Global, text: &str, input: &[u8], failing: Failing) -> Result<Did, AllocError> {
+    command(
+        alloc,
+        &["poolcc", "ref", "a.c"],
         text.as_bytes(),
         input,
         failing,
@@ -1151,5 +1161,201 @@ fn sources_at_their_limit_run(rt: HostRuntime) -> Result<(), Fail> {
     let did = command(alloc, &["poolcc", "exec", "a.c"], &long, b"", NONE)?;
     assert_eq!(rt; did.status, Status::SourceTooLong);
     assert_eq!(rt; did.err.as_slice(), b"poolcc: source too long\n".as_slice());
+    Ok(())
+}
+
+// Lists of integers from 1 up.
+const LISTS: &str = "struct n { int v; struct n *next; };
+struct n *makelist(int k) { struct n *h = NULL; while (k > 0) { struct n *p = malloc(sizeof(struct n)); p->v = k; p->next = h; h = p; k = k - 1; } return h; }
+";
+
+// Programs over lists, and what they write. Each ends with 0.
+#[test]
+fn programs_over_lists_mean_what_they_write(rt: HostRuntime) -> Result<(), Fail> {
+    let alloc = rt.alloc();
+    let rows: [(&str, &[u8]); 5] = [
+        (
+            "int main(void) { struct n *l = makelist(3); while (l != NULL) { putchar('0' + l->v); l = l->next; } return 0; }",
+            b"123",
+        ),
+        (
+            "int main(void) { struct n *a = makelist(2); struct n *b = makelist(3); putchar('0' + a->v); putchar('0' + b->next->v); return 0; }",
+            b"12",
+        ),
+        (
+            "struct n *g; int main(void) { g = makelist(2); putchar('0' + g->next->v); return 0; }",
+            b"2",
+        ),
+        (
+            "int sum(struct n *l) { int s = 0; while (l != NULL) { s = s + l->v; l = l->next; } return s; } int main(void) { struct n h; struct n *a = makelist(3); h.v = 1; h.next = makelist(2); putchar('0' + sum(a)); putchar('0' + sum(&h)); return 0; }",
+            b"64",
+        ),
+        (
+            "struct n *one(int k) { return makelist(k); } struct n *none(int k) { return NULL; } struct n *(*tab[2])(int) = { one, none }; int main(void) { struct n *a = tab[0](2); struct n *b = tab[1](2); putchar(a != NULL ? 'a' : '-'); putchar(b == NULL ? 'b' : '-'); return 0; }",
+            b"ab",
+        ),
+    ];
+    for (text, out) in rows {
+        let mut whole = String::from_str(alloc, LISTS)?;
+        whole.push_str(text)?;
+        let did = reference(alloc, whole.as_str(), b"", NONE)?;
+        assert_eq!(rt; did.status, Status::Program(0), "{text}");
+        assert_eq!(rt; did.out.as_slice(), out, "{text}");
+        assert_eq!(rt; did.err.len(), 0);
+    }
+    Ok(())
+}
+
+#[test]
+fn programs_mean_how_they_end(rt: HostRuntime) -> Result<(), Fail> {
+    let alloc = rt.alloc();
+    let rows: [(&str, &[u8], &[u8], Status); 13] = [
+        ("int main(void){return 0;}", b"", b"", Status::Program(0)),
+        (
+            "int main(void) { int c; while ((c = getchar()) != EOF) putchar(c); return 7; }",
+            b"ab\n",
+            b"ab\n",
+            Status::Program(7),
+        ),
+        (
+            "int main(void) { return 263; }",
+            b"",
+            b"",
+            Status::Program(7),
+        ),
+        (
+            "int main(void) { return -249; }",
+            b"",
+            b"",
+            Status::Program(7),
+        ),
+        (
+            "int main(void) { return 4294967295u + 1u; }",
+            b"",
+            b"",
+            Status::Program(0),
+        ),
+        (
+            "struct a { int x; }; struct b { long y; long z; }; struct c { void *p; struct c *next; }; struct c *add(struct c *l, void *p) { struct c *q = malloc(sizeof(struct c)); q->p = p; q->next = l; return q; } int main(void) { struct a *a = malloc(sizeof(struct a)); struct b *b = malloc(sizeof(struct b)); struct c *l = NULL; a->x = 65; b->y = 66; l = add(l, a); l = add(l, b); putchar(((struct b *)l->p)->y); putchar(((struct a *)l->next->p)->x); return 0; }",
+            b"",
+            b"BA",
+            Status::Program(0),
+        ),
+        (
+            "struct n { int v; struct n *next; }; int main(void) { int i = 0; while (i < 4) { struct n *p = malloc(sizeof(struct n)); p->v = i; p->next = NULL; putchar('0' + p->v); free(p); i = i + 1; } return 0; }",
+            b"",
+            b"0123",
+            Status::Program(0),
+        ),
+        (
+            "int main(void) { free(NULL); if (malloc(0) == NULL) putchar('y'); return 0; }",
+            b"",
+            b"y",
+            Status::Program(0),
+        ),
+        (
+            "int f(int k) { if (k == 0) return 0; return f(k - 1); } int main(void) { return f(9998); }",
+            b"",
+            b"",
+            Status::Program(0),
+        ),
+        (
+            "int f(int k) { if (k == 0) return 0; return f(k - 1); } int main(void) { return f(9999); }",
+            b"",
+            b"",
+            Status::Depth,
+        ),
+        (
+            "int main(void) { return 1 + ; }",
+            b"",
+            b"",
+            Status::Refused(Refusal::Syntax(
+                SyntaxKind::At,
+                Pos {
+                    line: 1,
+                    column: 29,
+                },
+            )),
+        ),
+        (
+            "int main(void) { return 0x; }",
+            b"",
+            b"",
+            Status::Refused(Refusal::Lex(
+                LexKind::BadLiteral,
+                Pos {
+                    line: 1,
+                    column: 25,
+                },
+            )),
+        ),
+        (
+            "",
+            b"",
+            b"",
+            Status::Refused(Refusal::TypeRule(TypeRule::T01, Pos { line: 1, column: 1 })),
+        ),
+    ];
+    for (text, input, out, status) in rows {
+        let did = reference(alloc, text, input, NONE)?;
+        assert_eq!(rt; did.status, status, "{text}");
+        assert_eq!(rt; did.out.as_slice(), out, "{text}");
+    }
+    Ok(())
+}
+
+#[test]
+fn what_is_undefined_has_its_kind_and_place(rt: HostRuntime) -> Result<(), Fail> {
+    let alloc = rt.alloc();
+    let rows = [
+        ("int main(void) { int x; return x; }", UbKind::U04, 32),
+        (
+            "int main(void) { int *p = malloc(sizeof(int)); *p = 5; free(p); return *p; }",
+            UbKind::U06,
+            72,
+        ),
+        (
+            "int main(void) { return (-2147483647-1)/-1; }",
+            UbKind::U01,
+            25,
+        ),
+        (
+            "int main(void) { int x; int y; return &x + 1 == &y; }",
+            UbKind::U09,
+            39,
+        ),
+    ];
+    for (text, kind, column) in rows {
+        let did = reference(alloc, text, b"", NONE)?;
+        let place = Pos { line: 1, column };
+        assert_eq!(rt; did.status, Status::Undefined(kind, place), "{text}");
+        assert_eq!(rt; did.out.len(), 0);
+    }
+    Ok(())
+}
+
+#[test]
+fn faults_and_limits_end_a_reference(rt: HostRuntime) -> Result<(), Fail> {
+    let alloc = rt.alloc();
+    let forever = "int main(void) { while (1) ; }";
+    let line = ["poolcc", "ref", "a.c", "--steps", "1000"];
+    let did = command(alloc, &line, forever.as_bytes(), b"", NONE)?;
+    assert_eq!(rt; did.status, Status::StepsSpent);
+    assert_eq!(rt; did.out.len(), 0);
+    let second = Failing { out: 2, ..NONE };
+    let text = "int main(void) { putchar('a'); putchar('b'); return 0; }";
+    let did = reference(alloc, text, b"", second)?;
+    assert_eq!(rt; did.status, Status::WriteFault);
+    assert_eq!(rt; did.out.as_slice(), b"a".as_slice());
+    let first = Failing { input: 1, ..NONE };
+    let text = "int main(void) { putchar('a'); return getchar(); }";
+    let did = reference(alloc, text, b"xy", first)?;
+    assert_eq!(rt; did.status, Status::ReadFault);
+    assert_eq!(rt; did.out.as_slice(), b"a".as_slice());
+    assert_eq!(rt; did.left, 2);
+    let did = command(alloc, &["poolcc", "ref", "b.c"], b"", b"", NONE)?;
+    assert_eq!(rt; did.status, Status::ReadFault);
+    let did = command(alloc, &["poolcc", "ref"], b"", b"", NONE)?;
+    assert_eq!(rt; did.status, Status::Usage(UsageKind::Words));
     Ok(())
 }

@@ -2,6 +2,9 @@
 
 ghost use Rattle.std.specs.Prelude.{◌≡◌, ◌≤◌, ◌^◌, ℕ, List, length, IfOk, IfErr};
 ghost use Rattle.run_theory.specs.Places.{first_place};
+ghost use Rattle.c_syntax.specs.Trees as whole;
+ghost use Rattle.c_rules.specs.Elaborated as elaborated;
+ghost use Rattle.c_typed.specs.DefinitionViews.{program_of as typed_program_of, ProgramStands};
 ghost use Rattle.c_ast.specs.Syntax as integer;
 ghost use Rattle.c_ast.specs.Typed.{typed_program, program_size};
 ghost use Rattle.c_token.specs.Leaves.{Leaf, leaves_of};
@@ -12,7 +15,7 @@ ghost use Rattle.pool_isa.specs.Ranges.{IsWithin};
 ghost use Rattle.image_form.specs.Form.{form_of, IsImage, ImageOf};
 ghost use Rattle.poolcc.specs.Compiled.{ReadsAs, IsAccepted, IsNarrowed, IsInteger, Compiles};
 ghost use Rattle.poolcc.specs.Exec.{source_limit};
-ghost use Rattle.poolcc.specs.Refused.{IsStop, limit_named, stop_of};
+ghost use Rattle.poolcc.specs.Refused.{IsStop, IsAtOnce, limit_named, stop_of};
 
 use crate::compile::compile;
 use c_ast::TypedProgram;
@@ -40,6 +43,7 @@ fn divide(alloc: Global, text: &[u8]) -> Result<Vec<Token>, Stop>
     ensures found { IfOk result (λ v. Divides first_place text.now (leaves_of v.items)) }
     ensures only { IfOk result (λ v. (leaves : List Leaf) → Divides first_place text.now leaves → leaves_of v.items ≡ leaves) }
     ensures stop { IfErr result (IsStop text.now) }
+    ensures at_once { IfErr result IsAtOnce }
 {
     match tokens(alloc, text) {
         Ok(tokens) => Ok(tokens),
@@ -49,7 +53,8 @@ fn divide(alloc: Global, text: &[u8]) -> Result<Vec<Token>, Stop>
 
 // What a text comes to for a fault of the lexer.
 fn stop_of(error: LexErr) -> Stop
-    ensures { result ≡ stop_of error }
+    ensures is { result ≡ stop_of error }
+    ensures at_once { IsAtOnce result }
 {
     match error {
         LexErr::BadByte(place) => Stop::Refused(Refusal::Lex(LexKind::BadByte, place)),
@@ -66,6 +71,7 @@ pub fn parse(alloc: Global, text: &[u8]) -> Result<Program, Stop>
     requires { length text.now ≤ source_limit }
     ensures found { IfOk result (λ program. ReadsAs text.now (program_tree program)) }
     ensures stop { IfErr result (IsStop text.now) }
+    ensures at_once { IfErr result IsAtOnce }
 {
     let tokens = match divide(alloc, text) {
         Ok(tokens) => tokens,
@@ -81,17 +87,15 @@ pub fn parse(alloc: Global, text: &[u8]) -> Result<Program, Stop>
     }
 }
 
-/// The program of an accepted text within the source limit: one that violates no type rule and exceeds no limit.
-pub fn accept(alloc: Global, text: &[u8]) -> Result<Program, Stop>
-    requires { length text.now ≤ source_limit }
-    ensures found { IfOk result (λ program. IsAccepted text.now (program_tree program)) }
-    ensures stop { IfErr result (IsStop text.now) }
+/// The typed tree of a program that violates no type rule and exceeds no limit.
+fn elaborate(alloc: Global, program: &Program) -> Result<c_typed::Program, Stop>
+    ensures accepted { (text : List ℕ) → ReadsAs text (program_tree program.now) → IfOk result (λ typed. IsAccepted text (program_tree program.now)) }
+    ensures typed { IfOk result (λ typed. typed_program_of typed ≡ elaborated.typed_of (program_tree program.now)) }
+    ensures stands { IfOk result ProgramStands }
+    ensures stop { (text : List ℕ) → ReadsAs text (program_tree program.now) → IfErr result (IsStop text) }
+    ensures at_once { IfErr result IsAtOnce }
 {
-    let program = match parse(alloc, text) {
-        Ok(program) => program,
-        Err(stop) => return Err(stop),
-    };
-    let typed = match c_types::check(alloc, &program) {
+    let typed = match c_types::check(alloc, program) {
         Ok(typed) => typed,
         Err(c_types::TypeErr::Rule(Violation { kind, place })) => {
             return Err(Stop::Refused(Refusal::TypeRule(kind, place)));
@@ -102,7 +106,41 @@ pub fn accept(alloc: Global, text: &[u8]) -> Result<Program, Stop>
         Some(LimitErr { which, count }) => {
             Err(Stop::Refused(Refusal::Limit(limit_kind(which), count)))
         }
-        None => Ok(program),
+        None => Ok(typed.program),
+    }
+}
+
+/// The program of an accepted text within the source limit: one that violates no type rule and exceeds no limit.
+pub fn accept(alloc: Global, text: &[u8]) -> Result<Program, Stop>
+    requires { length text.now ≤ source_limit }
+    ensures found { IfOk result (λ program. IsAccepted text.now (program_tree program)) }
+    ensures stop { IfErr result (IsStop text.now) }
+{
+    let program = match parse(alloc, text) {
+        Ok(program) => program,
+        Err(stop) => return Err(stop),
+    };
+    match elaborate(alloc, &program) {
+        Ok(_) => Ok(program),
+        Err(stop) => Err(stop),
+    }
+}
+
+/// The typed tree that an accepted text within the source limit has.
+pub fn typed_program(alloc: Global, text: &[u8]) -> Result<c_typed::Program, Stop>
+    requires { length text.now ≤ source_limit }
+    ensures found { IfOk result (λ typed. (program : whole.ProgramTree) × IsAccepted text.now program × (typed_program_of typed ≡ elaborated.typed_of program)) }
+    ensures stands { IfOk result ProgramStands }
+    ensures stop { IfErr result (IsStop text.now) }
+    ensures at_once { IfErr result IsAtOnce }
+{
+    let program = match parse(alloc, text) {
+        Ok(program) => program,
+        Err(stop) => return Err(stop),
+    };
+    match elaborate(alloc, &program) {
+        Ok(tree) => Ok(tree),
+        Err(stop) => Err(stop),
     }
 }
 

@@ -3,7 +3,7 @@
 ghost use Rattle.std.specs.Prelude.{◌≡◌, ℕ, ◌<◌, ◌≤◌, ◌⊎◌, List, Some, length, map, string_bytes};
 ghost use Rattle.pcc_outside.specs.Outside.{Rose};
 ghost use Rattle.pcc_status.specs.Said.{Said};
-ghost use Rattle.poolcc.specs.Command.{line_of, NoCommand, NoLine, Exec};
+ghost use Rattle.poolcc.specs.Command.{line_of, NoCommand, NoLine, Exec, Ref, Names};
 ghost use Rattle.run_theory.specs.Runs.{IsUndefined};
 ghost use Rattle.run_theory.specs.declared.ends.TrapKind.{TrapKind};
 ghost use Rattle.pcc_outside.specs.Outside.{Holds};
@@ -13,16 +13,21 @@ ghost use Rattle.pcc_status.specs.declared.status.LexKind.{LexKind};
 ghost use Rattle.pcc_status.specs.declared.status.Refusal.{Refusal};
 ghost use Rattle.pcc_status.specs.declared.status.Refusal.TheVariants as Refusal;
 ghost use Rattle.c_lexer.specs.Tokens.{Faults};
-ghost use Rattle.poolcc.specs.Refused.{fault_of, IsRefused};
+ghost use Rattle.poolcc.specs.Refused.{fault_of, IsRefused, IsLate};
 ghost use Rattle.c_ast.specs.Syntax.{ProgramTree};
 ghost use Rattle.c_ast.specs.Reference.{reference};
 ghost use Rattle.c_integer_types.specs.Typing.{typed_of};
-ghost use Rattle.poolcc.specs.Compiled.{IsInteger};
-ghost use Rattle.poolcc.specs.Complete.{RunsUnlessMemory};
-ghost use Rattle.poolcc.specs.Exec.{Answers, source_limit, default_limits};
+ghost use Rattle.poolcc.specs.Compiled.{IsAccepted, IsInteger};
+ghost use Rattle.c_syntax.specs.Trees as whole;
+ghost use Rattle.c_rules.specs.Elaborated as elaborated;
+ghost use Rattle.c_meaning.specs.First as meaning;
+ghost use Rattle.poolcc.specs.Answering.{Answers};
+ghost use Rattle.poolcc.specs.Complete.{RunsUnlessMemory, IsToldUnlessMemory};
+ghost use Rattle.poolcc.specs.Exec.{source_limit, default_limits};
 
 use crate::command::{Line, read_line};
 use crate::exec::exec;
+use crate::reference::ref_file;
 use pcc_outside::{Files, Sink, Source};
 use pcc_status::{Status, UsageKind, say};
 use std::alloc::Global;
@@ -44,9 +49,9 @@ pub fn poolcc<F: Files, I: Source, O: Sink, E: Sink>(
     // The cause of each answer that the text and the input don't give.
     ensures command_cause { result ≡ Status.Usage UsageKind.Command → line_of (map string_bytes words.now) ≡ NoCommand }
     ensures words_cause { result ≡ Status.Usage UsageKind.Words → line_of (map string_bytes words.now) ≡ NoLine }
-    ensures read_cause { result ≡ Status.ReadFault → (file : List ℕ) × (steps : ℕ) × (line_of (map string_bytes words.now) ≡ Exec file steps) × (Rose (F.faults files.old file) (F.faults files.new file) ⊎ Rose (I.faults input.old) (I.faults input.new)) }
+    ensures read_cause { result ≡ Status.ReadFault → (file : List ℕ) × Names (line_of (map string_bytes words.now)) file × (Rose (F.faults files.old file) (F.faults files.new file) ⊎ Rose (I.faults input.old) (I.faults input.new)) }
     ensures write_cause { result ≡ Status.WriteFault → Rose (O.faults out.old) (O.faults out.new) ⊎ Rose (E.faults err.old) (E.faults err.new) }
-    ensures long_cause { result ≡ Status.SourceTooLong → (file : List ℕ) × (steps : ℕ) × (line_of (map string_bytes words.now) ≡ Exec file steps) × (source_limit < F.reach files.new file) }
+    ensures long_cause { result ≡ Status.SourceTooLong → (file : List ℕ) × Names (line_of (map string_bytes words.now)) file × (source_limit < F.reach files.new file) }
     ensures trapped_cause { (kind : TrapKind) (file : List ℕ) (steps : ℕ) (text left base : List ℕ) → result ≡ Status.Trapped kind → line_of (map string_bytes words.now) ≡ Exec file steps
         → F.contents files.old file ≡ Holds text → I.left input.old ≡ Some left → O.written out.old ≡ Some base
         → (program : ProgramTree) × IsInteger text program × (n : ℕ) × IsUndefined (reference (typed_of program) left n) }
@@ -69,6 +74,17 @@ pub fn poolcc<F: Files, I: Source, O: Sink, E: Sink>(
         → (Rose (F.faults files.old file) (F.faults files.new file) → ⊥) → (Rose (I.faults input.old) (I.faults input.new) → ⊥) → (Rose (O.faults out.old) (O.faults out.new) → ⊥) → (Rose (E.faults err.old) (E.faults err.new) → ⊥)
         → IsRefused text refusal → (result ≡ Status.OutOfMemory) ⊎ (result ≡ Status.Refused refusal) }
 
+    // Where the text of `ref` is accepted and nothing outside fails, the answer and the output are those of its program with so
+    // many units, or memory ran out; where it is refused at once, the answer is that refusal.
+    ensures ref_complete { (file : List ℕ) (steps : ℕ) (text left base : List ℕ) (program : whole.ProgramTree) → line_of (map string_bytes words.now) ≡ Ref file steps
+        → F.contents files.old file ≡ Holds text → length text ≤ source_limit → I.left input.old ≡ Some left → O.written out.old ≡ Some base
+        → (Rose (F.faults files.old file) (F.faults files.new file) → ⊥) → (Rose (I.faults input.old) (I.faults input.new) → ⊥) → (Rose (O.faults out.old) (O.faults out.new) → ⊥) → (Rose (E.faults err.old) (E.faults err.new) → ⊥)
+        → IsAccepted text program → IsToldUnlessMemory (meaning.reference (elaborated.typed_of program) left steps) base result (O.written out.new) }
+    ensures ref_refused { (file : List ℕ) (steps : ℕ) (text left base : List ℕ) (refusal : Refusal) → line_of (map string_bytes words.now) ≡ Ref file steps
+        → F.contents files.old file ≡ Holds text → length text ≤ source_limit → I.left input.old ≡ Some left → O.written out.old ≡ Some base
+        → (Rose (F.faults files.old file) (F.faults files.new file) → ⊥) → (Rose (I.faults input.old) (I.faults input.new) → ⊥) → (Rose (O.faults out.old) (O.faults out.new) → ⊥) → (Rose (E.faults err.old) (E.faults err.new) → ⊥)
+        → IsRefused text refusal → (IsLate refusal → ⊥) → (result ≡ Status.OutOfMemory) ⊎ (result ≡ Status.Refused refusal) }
+
     // Counts of faults never fall.
     ensures files_counted { (name : List ℕ) → F.faults files.old name ≤ F.faults files.new name }
     ensures reads_counted { I.faults input.old ≤ I.faults input.new }
@@ -90,9 +106,9 @@ fn command<F: Files, I: Source, O: Sink>(
     ensures answers { Answers (line_of (map string_bytes words.now)) (F.contents files.old) (I.left input.old) (O.written out.old) (I.left input.new) (O.written out.new) result }
     ensures command_cause { result ≡ Status.Usage UsageKind.Command → line_of (map string_bytes words.now) ≡ NoCommand }
     ensures words_cause { result ≡ Status.Usage UsageKind.Words → line_of (map string_bytes words.now) ≡ NoLine }
-    ensures read_cause { result ≡ Status.ReadFault → (file : List ℕ) × (steps : ℕ) × (line_of (map string_bytes words.now) ≡ Exec file steps) × (Rose (F.faults files.old file) (F.faults files.new file) ⊎ Rose (I.faults input.old) (I.faults input.new)) }
+    ensures read_cause { result ≡ Status.ReadFault → (file : List ℕ) × Names (line_of (map string_bytes words.now)) file × (Rose (F.faults files.old file) (F.faults files.new file) ⊎ Rose (I.faults input.old) (I.faults input.new)) }
     ensures write_cause { result ≡ Status.WriteFault → Rose (O.faults out.old) (O.faults out.new) }
-    ensures long_cause { result ≡ Status.SourceTooLong → (file : List ℕ) × (steps : ℕ) × (line_of (map string_bytes words.now) ≡ Exec file steps) × (source_limit < F.reach files.new file) }
+    ensures long_cause { result ≡ Status.SourceTooLong → (file : List ℕ) × Names (line_of (map string_bytes words.now)) file × (source_limit < F.reach files.new file) }
     ensures files_counted { (name : List ℕ) → F.faults files.old name ≤ F.faults files.new name }
     ensures reads_counted { I.faults input.old ≤ I.faults input.new }
     ensures writes_counted { O.faults out.old ≤ O.faults out.new }
@@ -101,5 +117,6 @@ fn command<F: Files, I: Source, O: Sink>(
         Line::NoCommand => Status::Usage(UsageKind::Command),
         Line::NoLine => Status::Usage(UsageKind::Words),
         Line::Exec { file, steps } => exec(alloc, file, steps, files, input, out),
+        Line::Ref { file, steps } => ref_file(alloc, file, steps, files, input, out),
     }
 }

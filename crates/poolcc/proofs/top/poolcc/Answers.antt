@@ -1,12 +1,16 @@
-use Rattle.std.proofs.Common.{◌≡◌, ◌⊎◌, sym, ◌∙◌, subst}
+use Rattle.std.proofs.Common.{◌≡◌, ◌⊎◌, refl, sym, subst}
 use Rattle.pcc_outside.specs.Outside.{Rose}
 use Rattle.pcc_status.specs.declared.status.Status.{Status}
 use Rattle.pcc_status.specs.declared.status.Status.TheVariants as S
 use Rattle.pcc_status.specs.declared.status.Refusal.TheVariants as R
-use Rattle.poolcc.specs.Complete.{RunsUnlessMemory}
+use Rattle.c_rules.specs.Elaborated as elaborated
+use Rattle.c_meaning.specs.First as meaning
+use Rattle.poolcc.specs.Command.{Names}
+use Rattle.poolcc.specs.Complete.{RunsUnlessMemory, IsToldUnlessMemory}
 use Rattle.poolcc.specs.Exec.{ExecGives, default_limits}
 use Rattle.poolcc.proofs.Completing.{said_as_it_is, said_trap, completed, trapped, same_file, neither}
 use Rattle.poolcc.proofs.Refusing.{is_lexical, refuses}
+use Rattle.poolcc.proofs.RefCompleting.{ref_completed, ref_refuses}
 use Rattle.poolcc.proofs.top.poolcc.Goals as goal
 
 pub returns-clause-trapped_cause : goal.returns-clause-trapped_cause
@@ -24,8 +28,8 @@ returns-clause-complete g c = λ file steps text left base program line holds sh
     let same = said_as_it_is c.command-answer.result c.say.result _ _ _ _ c.say.ensures.said quiet_err in
     let no_read = λ (e : c.command-answer.result ≡ S.ReadFault).
     let cause = c.command-answer.ensures.read_cause e in
-    let one = same_file file cause.0 steps cause.1 (sym line ∙ cause.2) in
-    neither (λ rose. quiet_files (subst (λ name. Rose (g.F.Files.faults c.args.files.now name) (g.F.Files.faults c.command-answer.new.files name)) (sym one) rose)) quiet_input cause.3 in
+    let one = same_file file cause.0 _ (subst (λ l. Names l file) (sym line) refl) cause.1 in
+    neither (λ rose. quiet_files (subst (λ name. Rose (g.F.Files.faults c.args.files.now name) (g.F.Files.faults c.command-answer.new.files name)) (sym one) rose)) quiet_input cause.2 in
     let no_write = λ (e : c.command-answer.result ≡ S.WriteFault). quiet_out (c.command-answer.ensures.write_cause e) in
     subst (λ (status : Status). RunsUnlessMemory text default_limits steps left base status written') (sym same)
     (completed text default_limits steps left base left' written' program accepted short c.command-answer.result (c.command-answer.ensures.answers.exec file steps text left base line holds told wrote) no_read no_write)
@@ -37,8 +41,8 @@ returns-clause-refused g c = λ file steps text left base refusal line holds sho
     let same = said_as_it_is c.command-answer.result c.say.result _ _ _ _ c.say.ensures.said quiet_err in
     let no_read = λ (e : c.command-answer.result ≡ S.ReadFault).
     let cause = c.command-answer.ensures.read_cause e in
-    let one = same_file file cause.0 steps cause.1 (sym line ∙ cause.2) in
-    neither (λ rose. quiet_files (subst (λ name. Rose (g.F.Files.faults c.args.files.now name) (g.F.Files.faults c.command-answer.new.files name)) (sym one) rose)) quiet_input cause.3 in
+    let one = same_file file cause.0 _ (subst (λ l. Names l file) (sym line) refl) cause.1 in
+    neither (λ rose. quiet_files (subst (λ name. Rose (g.F.Files.faults c.args.files.now name) (g.F.Files.faults c.command-answer.new.files name)) (sym one) rose)) quiet_input cause.2 in
     let no_write = λ (e : c.command-answer.result ≡ S.WriteFault). quiet_out (c.command-answer.ensures.write_cause e) in
     subst (λ (status : Status). (status ≡ S.OutOfMemory) ⊎ (status ≡ S.Refused refusal)) (sym same)
     (refuses text default_limits steps left base left' written' refusal refused short c.command-answer.result (c.command-answer.ensures.answers.exec file steps text left base line holds told wrote) no_read no_write)
@@ -46,3 +50,29 @@ returns-clause-refused g c = λ file steps text left base refusal line holds sho
 pub returns-clause-lexical : goal.returns-clause-lexical
 returns-clause-lexical g c = λ file steps text left base kind place line holds short told wrote quiet_files quiet_input quiet_out quiet_err faults.
     returns-clause-refused g c file steps text left base (R.Lex kind place) line holds short told wrote quiet_files quiet_input quiet_out quiet_err (is_lexical text kind place faults)
+
+pub returns-clause-ref_complete : goal.returns-clause-ref_complete
+returns-clause-ref_complete g c = λ file steps text left base program line holds short told wrote quiet_files quiet_input quiet_out quiet_err accepted.
+    let left' = g.I.Source.left c.command-answer.new.input in
+    let written' = g.O.Sink.written c.command-answer.new.out in
+    let same = said_as_it_is c.command-answer.result c.say.result _ _ _ _ c.say.ensures.said quiet_err in
+    let no_read = λ (e : c.command-answer.result ≡ S.ReadFault).
+    let cause = c.command-answer.ensures.read_cause e in
+    let one = same_file file cause.0 _ (subst (λ l. Names l file) (sym line) refl) cause.1 in
+    neither (λ rose. quiet_files (subst (λ name. Rose (g.F.Files.faults c.args.files.now name) (g.F.Files.faults c.command-answer.new.files name)) (sym one) rose)) quiet_input cause.2 in
+    let no_write = λ (e : c.command-answer.result ≡ S.WriteFault). quiet_out (c.command-answer.ensures.write_cause e) in
+    subst (λ (status : Status). IsToldUnlessMemory (meaning.reference (elaborated.typed_of program) left steps) base status written') (sym same)
+    (ref_completed text steps left base left' written' short program accepted c.command-answer.result (c.command-answer.ensures.answers.ref file steps text left base line holds told wrote) no_read no_write)
+
+pub returns-clause-ref_refused : goal.returns-clause-ref_refused
+returns-clause-ref_refused g c = λ file steps text left base refusal line holds short told wrote quiet_files quiet_input quiet_out quiet_err refused at_once.
+    let left' = g.I.Source.left c.command-answer.new.input in
+    let written' = g.O.Sink.written c.command-answer.new.out in
+    let same = said_as_it_is c.command-answer.result c.say.result _ _ _ _ c.say.ensures.said quiet_err in
+    let no_read = λ (e : c.command-answer.result ≡ S.ReadFault).
+    let cause = c.command-answer.ensures.read_cause e in
+    let one = same_file file cause.0 _ (subst (λ l. Names l file) (sym line) refl) cause.1 in
+    neither (λ rose. quiet_files (subst (λ name. Rose (g.F.Files.faults c.args.files.now name) (g.F.Files.faults c.command-answer.new.files name)) (sym one) rose)) quiet_input cause.2 in
+    let no_write = λ (e : c.command-answer.result ≡ S.WriteFault). quiet_out (c.command-answer.ensures.write_cause e) in
+    subst (λ (status : Status). (status ≡ S.OutOfMemory) ⊎ (status ≡ S.Refused refusal)) (sym same)
+    (ref_refuses text steps left base left' written' short refusal refused at_once c.command-answer.result (c.command-answer.ensures.answers.ref file steps text left base line holds told wrote) no_read no_write)
