@@ -22,6 +22,7 @@ ghost use Rattle.ref_meaning.specs.Items.{IsBlock, block_of, start_of, ItemIs, C
 ghost use Rattle.ref_meaning.specs.Moving.{Moves, IsKept, IsSame, Becomes};
 
 use crate::control::{Control, Frame, Given, Node, Stage, Task, Way};
+use crate::label::case_item;
 use crate::run::{Halt, RefRun};
 use c_typed::{BlockItem, ForStart, LocalDef, Stmt, SwitchItem, Value};
 use ref_store::{Place, Scalar};
@@ -43,16 +44,6 @@ fn inner_item(stmt: &Stmt, number: usize) -> Option<&BlockItem>
 {
     match stmt {
         Stmt::Block(items) => items.get(number),
-        _ => None,
-    }
-}
-
-/// An item of a `switch`, by its number.
-fn case_item(stmt: &Stmt, number: usize) -> Option<&SwitchItem>
-    ensures { (table : Interned) → StmtStands table stmt.now → CaseItemIs table number (case_items_of (stmt_in table stmt.now)) result }
-{
-    match stmt {
-        Stmt::Switch { items, .. } => items.get(number),
         _ => None,
     }
 }

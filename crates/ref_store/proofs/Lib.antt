@@ -15,3 +15,4 @@ pub mod FirstObjects
 pub mod FirstStore
 pub mod FirstTags
 pub mod Comparing
+pub mod Wanting

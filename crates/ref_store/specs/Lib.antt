@@ -1,4 +1,5 @@
 pub mod Views
 pub mod Holding
+pub mod Wanting
 pub mod Beginning
 pub mod Firsts

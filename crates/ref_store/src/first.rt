@@ -1,7 +1,8 @@
 // The store before a program runs (C17 5.1.2, 6.7.9 paragraph 10).
 
-ghost use Rattle.std.specs.Prelude.{◌≡◌, ℕ, List, [], Option, Some, length, IfOk, OnOk};
+ghost use Rattle.std.specs.Prelude.{◌≡◌, ℕ, List, [], Option, Some, length, IfOk, IfErr, OnOk};
 ghost use Rattle.c_typed.specs.Types as types;
+ghost use Rattle.c_typed.specs.Values as typed_values;
 ghost use Rattle.c_typed.specs.Table.{Interned, Stands, type_in, structs_in};
 ghost use Rattle.c_typed.specs.DefinitionViews.{program_of, first_of, literal_of, scalar_of, ProgramStands, GlobalsStand};
 ghost use Rattle.c_typed.specs.DefinitionViews as views;
@@ -14,6 +15,7 @@ ghost use Rattle.c_meaning.specs.First.{around_of, first_state};
 ghost use Rattle.ref_store.specs.declared.object.Content.TheVariants as C;
 ghost use Rattle.ref_store.specs.Views.{name_of, row_in, place_in, scalar_in, PlaceStands, ScalarStands};
 ghost use Rattle.ref_store.specs.Holding.{At, AllHeld, ContentIs, IsUndisturbed};
+ghost use Rattle.ref_store.specs.Wanting.{Overflows, WalkOverflows, IsUnfound, PointsUnfound, OutOnly};
 ghost use Rattle.ref_store.specs.Beginning.{IsUnfilled, unfilled, unfilled_objects};
 ghost use Rattle.ref_store.specs.Firsts.{Has, unfilled_of, with_new, static_row, array_row, characters_row, with_first, with_text, with_given, IsFirst, AreFirsts, AreCharacters};
 
@@ -34,6 +36,7 @@ const GREATEST_SIZE: u64 = 1 << 62;
 fn within_literal(row: Row, part: Part) -> Result<Row, Stop>
     ensures means { (table : Interned) (around : Around) (name : meaning.Name) (bytes : List ℕ) → row_in table row ≡ characters_row bytes → IfOk result (λ found. first_of_row name (row_in table found) ≡ rules.stepped around (object_place name (literal_type bytes)) part) }
     ensures stands { (table : Interned) → Stands table row.c_type → IfOk result (λ found. Stands table found.c_type) }
+    ensures want { (table : Interned) (around : Around) (name : meaning.Name) (bytes : List ℕ) → row_in table row ≡ characters_row bytes → IfErr result (OutOnly (Overflows around (rules.stepped around (object_place name (literal_type bytes)) part))) }
 {
     match part {
         Part::Elements { index } => {
@@ -47,7 +50,9 @@ fn within_literal(row: Row, part: Part) -> Result<Row, Stop>
 }
 
 impl<'a> Store<'a> {
-    /// The store before a program runs: its variables outside functions, and its literals.
+    /// The store before a program runs: its variables outside functions, and its literals. Memory also runs out where an
+    /// offset in a first value does not fit in 64 bits, and where one points to a literal as a whole, an array whose type is
+    /// not in the table.
     pub fn new(alloc: Global, program: &'a Program) -> Result<Store<'a>, AllocError>
         requires { ProgramStands program.now }
         ensures stands { (input : List ℕ) (units : ℕ) → IfOk result (λ store. At (around_of (program_of program.now)) store 0 (first_state (program_of program.now) input units)) }
@@ -305,6 +310,7 @@ impl<'a> Store<'a> {
         requires { IsUnfilled (program_of program.now) self.now }
         ensures means { IfOk result (λ scalar. scalar_in self.now.types.now scalar ≡ rules.first_scalar (program_of program.now) (scalar_of value.now)) }
         ensures stands { IfOk result (ScalarStands self.now.types.now) }
+        ensures want { IfErr result (OutOnly (PointsUnfound (program_of program.now) (scalar_of value.now))) }
     {
         match value {
             typed::Scalar::Integer(value) => Ok(Scalar::Integer(*value)),
@@ -328,6 +334,7 @@ impl<'a> Store<'a> {
         requires { IsUnfilled (program_of program.now) self.now }
         ensures means { IfOk result (λ place. place_in self.now.types.now place ≡ rules.first_place (program_of program.now) (record { name = views.name_of root.now; steps = parts.now; index = index })) }
         ensures stands { IfOk result (PlaceStands self.now.types.now) }
+        ensures want { IfErr result (OutOnly (IsUnfound (program_of program.now) (record { name = views.name_of root.now; steps = parts.now; index = index }))) }
     {
         match root {
             Static::Variable(name) => {
@@ -368,6 +375,7 @@ impl<'a> Store<'a> {
         requires { IsUnfilled (program_of program.now) self.now }
         ensures means { IfOk result (λ found. place_in self.now.types.now found ≡ rules.walked (around_of (program_of program.now)) (object_place (meaning.Text place) (rules.static_type (program_of program.now) (meaning.Text place))) parts.now index) }
         ensures stands { IfOk result (PlaceStands self.now.types.now) }
+        ensures want { IfErr result (OutOnly (IsUnfound (program_of program.now) (record { name = typed_values.Text place; steps = parts.now; index = index }))) }
     {
         let name = Name::Text(place);
         let root = self.root(program, name);
@@ -406,6 +414,7 @@ impl<'a> Store<'a> {
         requires { PlaceStands self.now.types.now place }
         ensures found { (around : Around) → around.structs ≡ structs_in self.now.types.now → IfOk result (λ found. place_in self.now.types.now found ≡ rules.walked around (place_in self.now.types.now place.entry) parts.now index) }
         ensures stands { IfOk result (PlaceStands self.now.types.now) }
+        ensures want { (around : Around) → around.structs ≡ structs_in self.now.types.now → IfErr result (OutOnly (WalkOverflows around (place_in self.now.types.now place.entry) parts.now)) }
     {
         let mut reached = place;
         for part in parts {
@@ -419,6 +428,7 @@ impl<'a> Store<'a> {
         requires { PlaceStands self.now.types.now place }
         ensures found { (around : Around) → around.structs ≡ structs_in self.now.types.now → IfOk result (λ found. place_in self.now.types.now found ≡ rules.stepped around (place_in self.now.types.now place.entry) part) }
         ensures stands { IfOk result (PlaceStands self.now.types.now) }
+        ensures want { (around : Around) → around.structs ≡ structs_in self.now.types.now → IfErr result (OutOnly (Overflows around (rules.stepped around (place_in self.now.types.now place.entry) part))) }
     {
         match part {
             Part::Member { index, number } => self.member_at(Place { index, ..place }, number),

@@ -1,6 +1,6 @@
 // What operators do with pointers (C17 6.3.2.3, 6.5.2, 6.5.3, 6.5.6, 6.5.8, 6.5.9).
 
-ghost use Rattle.std.specs.Prelude.{◌≡◌, ℕ, ◌/◌, ◌%◌, ◌==◌, if◌then◌else◌, neg_ℤ, Some, None, IfOk, IfErr};
+ghost use Rattle.std.specs.Prelude.{◌≡◌, ℕ, ◌/◌, ◌%◌, true, false, ◌==◌, if◌then◌else◌, neg_ℤ, Some, None, IfOk, IfErr};
 ghost use Rattle.c_typed.specs.Table.{Interned, Stands, type_in, structs_in};
 ghost use Rattle.c_rules.specs.Constants.{is_like_void};
 ghost use Rattle.c_meaning.specs.Values as values;
@@ -9,6 +9,7 @@ ghost use Rattle.c_meaning.specs.Pointers as meaning;
 ghost use Rattle.c_meaning.specs.Store.{Around, State, is_dead_pointer, with_objects};
 ghost use Rattle.ref_store.specs.Views.{row_in, place_in, scalar_in, PlaceStands, ScalarStands};
 ghost use Rattle.ref_store.specs.Holding.{At, IsStore, Gives, IsMoved};
+ghost use Rattle.ref_store.specs.Wanting.{EitherOverflows, GetsType, PointsUntyped, OutOnly};
 
 use crate::object::{Content, Elements};
 use crate::store::Store;
@@ -105,6 +106,7 @@ impl<'a> Store<'a> {
     pub fn accessed(&self, here: Pos, pointer: Scalar<'a>) -> Result<Place<'a>, Stop>
         ensures gives { (around : Around) (base : ℕ) → Gives around self.now self.now base (place_in self.now.types.now) (meaning.accessed here (scalar_in self.now.types.now pointer.entry)) result }
         ensures stands { ScalarStands self.now.types.now pointer.entry → IfOk result (PlaceStands self.now.types.now) }
+        ensures want { IfErr result (OutOnly ⊥) }
     {
         if self.is_dead_pointer(pointer) {
             return Err(Stop::Undefined(UbKind::U06, here));
@@ -129,6 +131,7 @@ impl<'a> Store<'a> {
     ) -> Result<Scalar<'a>, Stop>
         ensures gives { (around : Around) (base : ℕ) → Gives around self.now self.now base (scalar_in self.now.types.now) (meaning.added here (scalar_in self.now.types.now pointer.entry) (if is_minus then neg_ℤ number else number)) result }
         ensures stands { ScalarStands self.now.types.now pointer.entry → IfOk result (ScalarStands self.now.types.now) }
+        ensures want { IfErr result (OutOnly ⊥) }
     {
         if self.is_dead_pointer(pointer) {
             return Err(Stop::Undefined(UbKind::U06, here));
@@ -152,6 +155,7 @@ impl<'a> Store<'a> {
     pub fn element(&self, here: Pos, pointer: Scalar<'a>, number: i128) -> Result<Place<'a>, Stop>
         ensures gives { (around : Around) (base : ℕ) → Gives around self.now self.now base (place_in self.now.types.now) (meaning.element here (scalar_in self.now.types.now pointer.entry) number) result }
         ensures stands { ScalarStands self.now.types.now pointer.entry → IfOk result (PlaceStands self.now.types.now) }
+        ensures want { IfErr result (OutOnly ⊥) }
     {
         if self.is_dead_pointer(pointer) {
             return Err(Stop::Undefined(UbKind::U06, here));
@@ -193,6 +197,7 @@ impl<'a> Store<'a> {
         ensures stands { IfOk result (ScalarStands self.old.types.now) }
         ensures types { self.new.types ≡ self.old.types }
         ensures locals { self.new.locals ≡ self.old.locals }
+        ensures want { (around : Around) (base : ℕ) (state : State) → At around self.old base state → IfErr result (OutOnly (GetsType around (type_in self.old.types.now target) (state.objects (Heap number)))) }
     {
         let name = Name::Heap(number);
         let row = match self.objects.get(&name) {
@@ -238,6 +243,7 @@ impl<'a> Store<'a> {
         ensures stands { IfOk result (ScalarStands self.old.types.now) }
         ensures types { self.new.types ≡ self.old.types }
         ensures locals { self.new.locals ≡ self.old.locals }
+        ensures want { (around : Around) (base : ℕ) (state : State) → At around self.old base state → IfErr result (OutOnly ((is_like_void around.completed (type_in self.old.types.now target) ≡ false) × PointsUntyped around (type_in self.old.types.now target) state.objects (scalar_in self.old.types.now value.entry))) }
     {
         if self.is_dead_pointer(value) {
             return Err(Stop::Undefined(UbKind::U06, here));
@@ -261,6 +267,7 @@ impl<'a> Store<'a> {
     pub fn tested(&self, here: Pos, value: Scalar<'a>) -> Result<Scalar<'a>, Stop>
         ensures gives { (around : Around) (base : ℕ) → Gives around self.now self.now base (scalar_in self.now.types.now) (meaning.tested here (scalar_in self.now.types.now value.entry)) result }
         ensures stands { IfOk result (ScalarStands self.now.types.now) }
+        ensures want { IfErr result (OutOnly ⊥) }
     {
         if self.is_dead_pointer(value) {
             return Err(Stop::Undefined(UbKind::U06, here));
@@ -274,6 +281,7 @@ impl<'a> Store<'a> {
         requires b { ScalarStands self.now.types.now b }
         ensures found { (around : Around) → around.structs ≡ structs_in self.now.types.now → IfOk result (λ same. same ≡ meaning.are_equal around (scalar_in self.now.types.now a.entry) (scalar_in self.now.types.now b.entry)) }
         ensures only { IfErr result (λ e. e ≡ Stop.OutOfMemory) }
+        ensures want { (around : Around) → around.structs ≡ structs_in self.now.types.now → IfErr result (λ e. EitherOverflows around (scalar_in self.now.types.now a.entry) (scalar_in self.now.types.now b.entry)) }
     {
         if !(a.is_into_object() && b.is_into_object()) {
             return Ok(same_function(a, b));
@@ -296,6 +304,7 @@ impl<'a> Store<'a> {
         requires b { ScalarStands self.now.types.now b }
         ensures gives { (around : Around) (base : ℕ) → Gives around self.now self.now base (scalar_in self.now.types.now) (meaning.compared_pointers around relation here (scalar_in self.now.types.now a.entry) (scalar_in self.now.types.now b.entry)) result }
         ensures stands { IfOk result (ScalarStands self.now.types.now) }
+        ensures want { (around : Around) (base : ℕ) (state : State) → At around self.now base state → IfErr result (OutOnly ((is_dead_pointer state.objects (scalar_in self.now.types.now a.entry) ≡ false) × (is_dead_pointer state.objects (scalar_in self.now.types.now b.entry) ≡ false) × (meaning.is_equality relation ≡ true) × EitherOverflows around (scalar_in self.now.types.now a.entry) (scalar_in self.now.types.now b.entry))) }
     {
         if self.is_dead_pointer(a) || self.is_dead_pointer(b) {
             return Err(Stop::Undefined(UbKind::U06, here));
@@ -348,6 +357,7 @@ impl<'a> Store<'a> {
         requires b { ScalarStands self.now.types.now b }
         ensures gives { (around : Around) (base : ℕ) → Gives around self.now self.now base (scalar_in self.now.types.now) (meaning.difference here (scalar_in self.now.types.now a.entry) (scalar_in self.now.types.now b.entry)) result }
         ensures stands { IfOk result (ScalarStands self.now.types.now) }
+        ensures want { IfErr result (OutOnly ⊥) }
     {
         if self.is_dead_pointer(a) || self.is_dead_pointer(b) {
             return Err(Stop::Undefined(UbKind::U06, here));

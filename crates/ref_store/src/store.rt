@@ -1,6 +1,6 @@
 // The store: objects, locals, and the numbers that are given next.
 
-ghost use Rattle.std.specs.Prelude.{◌≡◌, ℕ, ◌≤◌, ◌-◌, [], ◌∷◌, ◌++◌, length, take, Some, Ok, IfOk, IfErr, OnOk, OnErr};
+ghost use Rattle.std.specs.Prelude.{◌≡◌, ℕ, false, ◌≤◌, ◌-◌, [], ◌∷◌, ◌++◌, length, take, Some, Ok, IfOk, IfErr, OnOk, OnErr};
 ghost use Rattle.c_typed.specs.Table.{Stands, type_in, structs_in};
 ghost use Rattle.c_meaning.specs.Values as values;
 ghost use Rattle.c_meaning.specs.Store as meaning;
@@ -11,6 +11,7 @@ ghost use Rattle.c_meaning.specs.Meaning as rules;
 ghost use Rattle.ref_store.specs.declared.value.Stop.TheVariants as Stops;
 ghost use Rattle.ref_store.specs.Views.{name_of, place_in, scalar_in, PlaceStands, ScalarStands};
 ghost use Rattle.ref_store.specs.Holding.{ContentIs, HeldIs, At, Gives, Comes, new_local_of};
+ghost use Rattle.ref_store.specs.Wanting.{HasOffsets, Overflows, OutOnly};
 
 use crate::object::{Content, Elements};
 use crate::value::{Name, Place, Row, Scalar, Stop};
@@ -77,6 +78,7 @@ impl<'a> Store<'a> {
         requires { PlaceStands self.now.types.now place }
         ensures found { (around : Around) → around.structs ≡ structs_in self.now.types.now → IfOk result (λ offset. offset ≡ meaning.offset_of around (place_in self.now.types.now place.entry)) }
         ensures only { IfErr result (λ e. e ≡ Stop.OutOfMemory) }
+        ensures want { (around : Around) → around.structs ≡ structs_in self.now.types.now → IfErr result (λ e. Overflows around (place_in self.now.types.now place.entry)) }
     {
         let size = self.types.size_of(place.row.c_type);
         let Some(within) = place.index.checked_mul(size) else {
@@ -94,6 +96,7 @@ impl<'a> Store<'a> {
         ensures found { (around : Around) → around.structs ≡ structs_in self.now.types.now → IfOk result (λ member. place_in self.now.types.now member ≡ meaning.member_at around (place_in self.now.types.now place.entry) number) }
         ensures stands { IfOk result (PlaceStands self.now.types.now) }
         ensures only { IfErr result (λ e. e ≡ Stop.OutOfMemory) }
+        ensures want { (around : Around) → around.structs ≡ structs_in self.now.types.now → IfErr result (λ e. Overflows around (meaning.member_at around (place_in self.now.types.now place.entry) number)) }
     {
         let Some(member) = self.types.member_place(place.row.c_type, number as usize) else {
             return Ok(Place::first(place.name, Row::NOTHING));
@@ -119,6 +122,7 @@ impl<'a> Store<'a> {
         ensures found { (around : Around) → around.structs ≡ structs_in self.now.types.now → IfOk result (λ first. place_in self.now.types.now first ≡ meaning.decayed around (place_in self.now.types.now place.entry)) }
         ensures stands { IfOk result (PlaceStands self.now.types.now) }
         ensures only { IfErr result (λ e. e ≡ Stop.OutOfMemory) }
+        ensures want { (around : Around) → around.structs ≡ structs_in self.now.types.now → IfErr result (λ e. Overflows around (place_in self.now.types.now place.entry)) }
     {
         let start = self.offset(place)?;
         let row = match self.types.shape(place.row.c_type) {
@@ -153,6 +157,7 @@ impl<'a> Store<'a> {
         requires { PlaceStands self.now.types.now place }
         ensures found { (around : Around) (held : values.Content) → around.structs ≡ structs_in self.now.types.now → ContentIs self.now.types.now (Some content.now) held → IfOk result (λ value. HeldIs self.now.types.now value (meaning.scalar_at around held (place_in self.now.types.now place.entry))) }
         ensures only { IfErr result (λ e. e ≡ Stop.OutOfMemory) }
+        ensures want { (around : Around) (held : values.Content) → around.structs ≡ structs_in self.now.types.now → ContentIs self.now.types.now (Some content.now) held → IfErr result (λ e. HasOffsets held × Overflows around (place_in self.now.types.now place.entry)) }
     {
         let Content::Elements(elements) = content else {
             return Ok(None);
@@ -174,6 +179,7 @@ impl<'a> Store<'a> {
         requires { PlaceStands self.now.types.now place }
         ensures gives { (around : Around) (base : ℕ) → Gives around self.now self.now base (scalar_in self.now.types.now) (pointers.read around here (place_in self.now.types.now place.entry)) result }
         ensures stands { (around : Around) (base : ℕ) (state : State) → At around self.now base state → IfOk result (ScalarStands self.now.types.now) }
+        ensures want { (around : Around) (base : ℕ) (state : State) → At around self.now base state → IfErr result (OutOnly (HasOffsets (state.objects (name_of place.entry.name)) × Overflows around (place_in self.now.types.now place.entry))) }
     {
         let Some(content) = self.objects.get(&place.name) else {
             return Err(Stop::Undefined(UbKind::U06, here));
@@ -191,6 +197,7 @@ impl<'a> Store<'a> {
         ensures gives { (around : Around) (base : ℕ) → Gives around self.old self.new base (λ done. scalar_in self.old.types.now value.entry) (pointers.write around here (place_in self.old.types.now place.entry) (scalar_in self.old.types.now value.entry)) result }
         ensures types { self.new.types ≡ self.old.types }
         ensures locals { self.new.locals ≡ self.old.locals }
+        ensures want { (around : Around) (base : ℕ) (state : State) → At around self.old base state → IfErr result (OutOnly (is_dead (state.objects (name_of place.entry.name)) ≡ false)) }
     {
         if self.is_dead(place.name) {
             return Err(Stop::Undefined(UbKind::U06, here));
@@ -269,6 +276,7 @@ impl<'a> Store<'a> {
         ensures stands { IfOk result (ScalarStands self.old.types.now) }
         ensures types { self.new.types ≡ self.old.types }
         ensures locals { self.new.locals ≡ self.old.locals }
+        ensures want { IfErr result (OutOnly (1 ≤ library.natural_of size)) }
     {
         if size <= 0 {
             return Ok(Scalar::Null);
@@ -291,6 +299,7 @@ impl<'a> Store<'a> {
         requires { ScalarStands self.now.types.now value }
         ensures found { (around : Around) (base : ℕ) (state : State) → At around self.now base state → IfOk result (λ is. is ≡ library.is_unfreeable around state.objects (scalar_in self.now.types.now value.entry)) }
         ensures only { IfErr result (λ e. e ≡ Stop.OutOfMemory) }
+        ensures want { (around : Around) (base : ℕ) (state : State) → At around self.now base state → IfErr result (λ e. (meaning.is_dead_pointer state.objects (scalar_in self.now.types.now value.entry) ≡ false) × Overflows around (values.place_of (scalar_in self.now.types.now value.entry))) }
     {
         match value {
             Scalar::Raw(number) => Ok(self.is_dead(Name::Heap(number))),
@@ -313,6 +322,7 @@ impl<'a> Store<'a> {
         ensures gives { (around : Around) (base : ℕ) → Gives around self.old self.new base (λ done. values.NullValue) (library.freed around here (scalar_in self.old.types.now value.entry)) result }
         ensures types { self.new.types ≡ self.old.types }
         ensures locals { self.new.locals ≡ self.old.locals }
+        ensures want { (around : Around) (base : ℕ) (state : State) → At around self.old base state → IfErr result (OutOnly ((meaning.is_dead_pointer state.objects (scalar_in self.old.types.now value.entry) ≡ false) × Overflows around (values.place_of (scalar_in self.old.types.now value.entry)))) }
     {
         if value.is_null() {
             return Ok(());

@@ -3,6 +3,7 @@ use Rattle.c_meaning.specs.Values.{Place}
 use Rattle.c_meaning.specs.Pointers.{truth, truth_of_equality}
 use Rattle.ref_store.specs.Views.{scalar_in}
 use Rattle.ref_store.proofs.Comparing.{or-first, or-second, or-neither, compared-dead, equality-beside, order-beside, equality-comes, order-comes, truth-of-unlike, truth-of-like, compared-as}
+use Rattle.ref_store.proofs.Wanting.{out_where, handed_on}
 use Rattle.ref_store.proofs.store.Store.compared.Goals as goal
 use Rattle.ref_store.proofs.store.Store.compared.Goals.{then-is_dead_pointer-via-then-is_dead_pointer, then-is_dead_pointer-via-else-is_dead_pointer+then-is_dead_pointer-2, then-eq, else-eq}
 
@@ -57,3 +58,10 @@ returns-clause-gives c = λ around base state at.
 
 pub returns-clause-stands : goal.returns-clause-stands
 returns-clause-stands c = c.truth-2.ensures.stands c.args.self.now.types.now
+
+pub returns-in_err-same-clause-want : goal.returns-in_err-same-clause-want
+returns-in_err-same-clause-want c = λ around base state at.
+    handed_on _ c.in_err-same.field-0.0 c.from_residual.result
+    (out_where _ c.in_err-same.field-0.0
+    (sym (c.if-is_dead_pointer.ensures around base state at), sym (c.if-is_dead_pointer-2.ensures around base state at), sym c.if-is_equality.ensures, c.in_err-same.ensures.want around at.structs))
+    c.from_residual.ensures.1

@@ -1,8 +1,10 @@
-use Rattle.std.proofs.Common.{◌≡◌, ℕ, not, ◌||◌, ◌==◌, sym, ap, ◌∙◌}
-use Rattle.c_meaning.specs.Values.{Place, Heap, PointerValue}
-use Rattle.c_meaning.specs.Store.{Around, Objects, is_dead, offset_of}
+use Rattle.std.proofs.Common.{◌≡◌, ℕ, not, ◌||◌, ◌==◌, sym, ap, subst, ◌∙◌}
+use Rattle.c_meaning.specs.Values.{Place, Heap, PointerValue, place_of}
+use Rattle.c_meaning.specs.Store.{Around, Objects, is_dead, is_dead_pointer, offset_of}
 use Rattle.c_meaning.specs.Library.{is_heap, is_unfreeable}
 use Rattle.ref_store.specs.Views.{name_of, place_in, scalar_in}
+use Rattle.ref_store.specs.Wanting.{Overflows}
+use Rattle.ref_store.proofs.Wanting.{errors}
 use Rattle.ref_store.proofs.store.Store.is_unfreeable.Goals as goal
 
 of_allocation : (around : Around) (objects : Objects) (place : Place) (number : ℕ) → place.name ≡ Heap number → is_unfreeable around objects (PointerValue place) ≡ is_dead (objects place.name) || not (offset_of around place == 0)
@@ -28,3 +30,11 @@ returns-in_ok-offset-in-Pointer-clause-found c = λ around base state at.
     ∙ (of_allocation around state.objects place c.in-Heap.field-0 (ap name_of c.in-Heap.is)
     ∙ (ap (λ dead. dead || not (offset_of around place == 0)) (sym (c.is_dead-in-Pointer.ensures around base state at) ∙ c.if-is_dead.false)
     ∙ ap (λ offset. not (offset == 0)) (sym (c.in_ok-offset-in-Pointer.ensures.found around at.structs)))))
+
+pub returns-in_err-offset-in-Pointer-clause-want : goal.returns-in_err-offset-in-Pointer-clause-want
+returns-in_err-offset-in-Pointer-clause-want c = λ around base state at.
+    let table = c.args.self.now.types.now in
+    errors _ c.from_residual.result (λ stop. (
+      ap (λ v. is_dead_pointer state.objects (scalar_in table v)) c.in-Pointer.is ∙ (sym (c.is_dead-in-Pointer.ensures around base state at) ∙ c.if-is_dead.false),
+      subst (λ v. Overflows around (place_of (scalar_in table v))) (sym c.in-Pointer.is) (c.in_err-offset-in-Pointer.ensures.want around at.structs),
+    ))

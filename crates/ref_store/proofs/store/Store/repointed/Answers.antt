@@ -5,6 +5,7 @@ use Rattle.ref_store.specs.Views.{place_in, scalar_in}
 use Rattle.ref_store.specs.Holding.{left}
 use Rattle.ref_store.proofs.Giving.{comes-same}
 use Rattle.ref_store.proofs.Allocations.{typed, repointed-dead, repointed-void, repointed-typed, repointed-other, repointed-same, gives-as}
+use Rattle.ref_store.proofs.Wanting.{out_so, if_error, points_untyped}
 use Rattle.ref_store.proofs.store.Store.repointed.Goals as goal
 
 pub returns-then-is_dead_pointer-clause-gives : goal.returns-then-is_dead_pointer-clause-gives
@@ -51,3 +52,14 @@ returns-else-not-same-clause-gives c = λ around base state at.
     (repointed-same around c.args.here target value state
     (sym (c.is_dead_pointer.ensures around base state at) ∙ c.if-is_dead_pointer.false) (sym (c.is_like_void.ensures around base state at) ∙ c.if-is_like_void.false)
     (place_in table c.in-Pointer.place) (ap (scalar_in table) c.in-Pointer.is) (sym c.same.ensures ∙ c.if-not-same.false)) at
+
+pub returns-in-Raw-clause-want : goal.returns-in-Raw-clause-want
+returns-in-Raw-clause-want c = λ around base state at.
+    let table = c.args.self.now.types.now in
+    let target = type_in table c.args.target in
+    if_error _ _ c.of_allocation.result
+    (λ stop. out_so _ _ stop (λ gets. (
+      sym (c.is_like_void.ensures around base state at) ∙ c.if-is_like_void.false,
+      points_untyped around target state.objects (scalar_in table c.args.value) c.in-Raw.number (ap (scalar_in table) c.in-Raw.is) gets,
+    )))
+    (c.of_allocation.ensures.want around base state at)

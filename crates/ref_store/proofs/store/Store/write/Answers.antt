@@ -21,6 +21,7 @@ use Rattle.ref_store.proofs.Giving.{unless-fails, unless-holds, undefined-here}
 use Rattle.ref_store.proofs.Names.{get_name}
 use Rattle.ref_store.proofs.Updating.{Changes, at_changed, at_kept, unheard}
 use Rattle.ref_store.proofs.Writing.{quiet_access}
+use Rattle.ref_store.proofs.Wanting.{out_where, errors}
 use Rattle.ref_store.proofs.store.Store.write.Goals as goal
 
 abbrev stores : Around → V.Place → V.Scalar → V.Content → Eval V.Scalar
@@ -90,3 +91,9 @@ returns-in_default-clause-gives c = λ around base state at.
     let content = state.objects (name_of c.args.place.name) in
     absurd (alive_is_there self.types.now content (sym (c.is_dead.ensures around base state at) ∙ c.if-is_dead.false)
     (there self.types.now self.objects c.args.place.name None content c.in_default.ensures.value (at.objects c.args.place.name)))
+
+pub returns-in_err-offset-clause-want : goal.returns-in_err-offset-clause-want
+returns-in_err-offset-clause-want c = λ around base state at. errors _ c.from_residual.result (λ stop. out_where _ stop (sym (c.is_dead.ensures around base state at) ∙ c.if-is_dead.false))
+
+pub returns-in_err-hold-clause-want : goal.returns-in_err-hold-clause-want
+returns-in_err-hold-clause-want c = λ around base state at. errors _ c.from_residual-in_err-hold.result (λ stop. out_where _ stop (sym (c.is_dead.ensures around base state at) ∙ c.if-is_dead.false))

@@ -1,0 +1,51 @@
+-- Where memory runs out.
+use Rattle.std.proofs.Common.{◌≡◌, ℕ, Option, Some, None, Result, Ok, Err, IfErr, IsErrAnd, refl, sym, subst, arith}
+use Rattle.c_typed.specs.Types.{CType, Void, Integer, Pointer, Array, Struct, Function}
+use Rattle.c_meaning.specs.Values.{Heap, Place, Scalar, RawPointer, whole_row}
+use Rattle.c_meaning.specs.Store.{Around, Objects, offset_of, inner_row, decayed}
+use Rattle.c_meaning.specs.First.{or_void}
+use Rattle.ref_store.specs.declared.value.Stop.{Stop}
+use Rattle.ref_store.specs.declared.value.Stop.TheVariants as T
+use Rattle.ref_store.specs.Beginning.{unfilled}
+use Rattle.ref_store.specs.Firsts.{static_row}
+use Rattle.ref_store.specs.Wanting.{OutOnly, Overflows, GetsType, PointsUntyped}
+
+pub out_where : (P : Type 0) (stop : Stop) → P → OutOnly P stop
+out_where P (T.Undefined kind place) p = tt
+out_where P T.OutOfMemory p = p
+
+pub out_so : (P Q : Type 0) (stop : Stop) → (P → Q) → OutOnly P stop → OutOnly Q stop
+out_so P Q (T.Undefined kind place) so p = tt
+out_so P Q T.OutOfMemory so p = so p
+
+pub if_error : {A : Type 0} (P Q : Stop → Type 0) (result : Result A Stop) → ((stop : Stop) → P stop → Q stop) → IfErr result P → IfErr result Q
+if_error P Q (Ok value) so p = tt
+if_error P Q (Err stop) so p = so stop p
+
+-- an error that is handed on
+pub handed_on : {A : Type 0} (P : Stop → Type 0) (stop : Stop) (result : Result A Stop) → P stop → IsErrAnd result (λ e. e ≡ stop) → IfErr result P
+handed_on P stop (Ok value) p is = tt
+handed_on P stop (Err other) p is = subst P (sym is) p
+
+pub errors : {A : Type 0} (P : Stop → Type 0) (result : Result A Stop) → ((stop : Stop) → P stop) → IfErr result P
+errors P (Ok value) all = tt
+errors P (Err stop) all = all stop
+
+inner_start : (offset : ℕ) (c_type : CType) → (inner_row offset c_type).start ≡ offset
+inner_start offset Void = refl
+inner_start offset (Integer int_type) = refl
+inner_start offset (Pointer target) = refl
+inner_start offset (Array element length) = refl
+inner_start offset (Struct tag) = refl
+inner_start offset (Function result parameters) = refl
+
+pub decayed_overflows : (around : Around) (place : Place) → Overflows around place → Overflows around (decayed around place)
+decayed_overflows around place over = omega (arith, over, inner_start (offset_of around place) place.row.c_type)
+
+pub points_untyped : (around : Around) (target : CType) (objects : Objects) (value : Scalar) (number : ℕ) → value ≡ RawPointer number → GetsType around target (objects (Heap number)) → PointsUntyped around target objects value
+points_untyped around target objects value number is gets = subst (PointsUntyped around target objects) (sym is) gets
+
+-- a variable without first values is one object
+pub variable_row : (c_type : Option CType) → static_row (unfilled c_type) ≡ whole_row (or_void c_type) 1
+variable_row (Some c_type) = refl
+variable_row None = refl
