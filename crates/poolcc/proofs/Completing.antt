@@ -1,6 +1,6 @@
 -- What follows from a command's answer: that it is the machine's where nothing outside fails, and that a trap shows that
 -- the program goes wrong.
-use Rattle.std.proofs.Common.{◌≡◌, ℕ, ◌≤◌, ◌⊎◌, inl, inr, List, ◌++◌, Option, Some, length, sym, ap, ◌∙◌, refl, arith}
+use Rattle.std.proofs.Common.{◌≡◌, ℕ, ◌≤◌, ◌⊎◌, inl, inr, List, ◌++◌, Option, Some, length, sym, ap, ◌∙◌, refl, subst, arith}
 use Rattle.run_theory.specs.Runs.{Trace, output_of, Final, Ended, DepthReached, HeapExhausted, IndexExhausted, Trapped, Over, trace_of, IsUndefined}
 use Rattle.run_theory.specs.declared.ends.TrapKind.{TrapKind}
 use Rattle.run_theory.proofs.Following.{follows_trapped}
@@ -17,7 +17,8 @@ use Rattle.pcc_status.specs.declared.status.Status.{Status}
 use Rattle.pcc_status.specs.declared.status.Status.TheVariants as S
 use Rattle.pcc_status.specs.Said.{Said, after_failed_line}
 use Rattle.poolcc.specs.Compiled.{IsInteger, Compiles}
-use Rattle.poolcc.specs.Command.{Line, NoCommand, NoLine, Exec, Ref, Names}
+use Rattle.pcc_words.specs.Line.{Line, NoCommand, NoLine, Build, Exec, Run, Ref}
+use Rattle.poolcc.specs.Command.{Names}
 use Rattle.poolcc.specs.Complete.{told, RunsAs, RunsUnlessMemory}
 use Rattle.poolcc.specs.Exec.{source_limit, ExecGives}
 use Rattle.poolcc.proofs.Refusals.{not_refused}
@@ -100,12 +101,19 @@ module _ (text : List ℕ) (limits : MachineLimits) (steps : ℕ) (left base : L
       (compiles.program, compiles.integer, wrong.0, wrong.1)
 
 -- a line has one file
-pub same_file : (file other : List ℕ) (line : Line) → Names line file → Names line other → file ≡ other
-same_file file other (Exec named steps) one two = sym one ∙ two
+same_file : (file other : List ℕ) (line : Line) → Names line file → Names line other → file ≡ other
+same_file file other (Build named limits) one two = sym one ∙ two
+same_file file other (Exec named limits steps) one two = sym one ∙ two
+same_file file other (Run named steps) one two = sym one ∙ two
 same_file file other (Ref named steps) one two = sym one ∙ two
 same_file file other NoCommand one two = absurd one
 same_file file other NoLine one two = absurd one
 
-pub neither : {P Q : Type 0} → (P → ⊥) → (Q → ⊥) → P ⊎ Q → ⊥
+neither : {P Q : Type 0} → (P → ⊥) → (Q → ⊥) → P ⊎ Q → ⊥
 neither no_p no_q (inl p) = no_p p
 neither no_p no_q (inr q) = no_q q
+
+-- no read failed where neither the file nor the input did
+pub no_read_fault : (line : Line) (file : List ℕ) (before after : List ℕ → ℕ) (reads reads' : ℕ) → Names line file → (Rose (before file) (after file) → ⊥) → (Rose reads reads' → ⊥) → (named : List ℕ) × Names line named × (Rose (before named) (after named) ⊎ Rose reads reads') → ⊥
+no_read_fault line file before after reads reads' names quiet_file quiet_input cause =
+    neither (λ rose. quiet_file (subst (λ name. Rose (before name) (after name)) (sym (same_file file cause.0 line names cause.1)) rose)) quiet_input cause.2

@@ -3,7 +3,6 @@ pub mod Executing
 pub mod Misplacing
 pub mod NarrowedSizes
 pub mod NodeCounts
-pub mod Numerals
 pub mod Pipeline
 pub mod Reading
 pub mod Refusals
@@ -12,3 +11,6 @@ pub mod Sizes
 pub mod TreeSizes
 pub mod Referring
 pub mod RefCompleting
+pub mod Building
+pub mod ImageRunning
+pub mod Commanding

@@ -3,6 +3,7 @@ use Rattle.std.specs.Prelude.{◌≡◌, ℕ, ◌⊎◌, List, ◌++◌, Option,
 use Rattle.run_theory.specs.Runs.{output_of, Ended, DepthReached, Undefined, HeapExhausted, IndexExhausted, Trapped, Answer, Going, Over, trace_of}
 use Rattle.image_form.specs.declared.image.MachineLimits.{MachineLimits}
 use Rattle.image_form.specs.Form.{Form}
+use Rattle.image_form.specs.Faults.{IsBadAt}
 use Rattle.pool_isa.specs.Machine.{mach}
 use Rattle.pcc_status.specs.declared.status.Status.{Status}
 use Rattle.pcc_status.specs.declared.status.Status.TheVariants as S
@@ -38,3 +39,18 @@ IsToldUnlessMemory answer base status written = (status ≡ S.OutOfMemory) ⊎ I
 -- that, or memory ran out
 abbrev pub RunsUnlessMemory : List ℕ → MachineLimits → ℕ → List ℕ → List ℕ → Status → Option (List ℕ) → Type 0
 RunsUnlessMemory text limits steps input base status written = (status ≡ S.OutOfMemory) ⊎ RunsAs text limits steps input base status written
+
+-- The text was compiled, and this is done: the output is the bytes of its image, behind the base.
+pub record IsBuilt (text : List ℕ) (limits : MachineLimits) (base : List ℕ) (status : Status) (written : Option (List ℕ)) : Type 0 where
+  pub form : Form
+  pub compiles : Compiles text limits form
+  pub ends : status ≡ S.Done
+  pub output : written ≡ Some (base ++ compiles.encoded)
+
+-- that, or memory ran out
+abbrev pub IsBuiltUnlessMemory : List ℕ → MachineLimits → List ℕ → Status → Option (List ℕ) → Type 0
+IsBuiltUnlessMemory text limits base status written = (status ≡ S.OutOfMemory) ⊎ IsBuilt text limits base status written
+
+-- the status names the first byte with which no image goes on, or memory ran out
+abbrev pub IsBadUnlessMemory : List ℕ → Status → Type 0
+IsBadUnlessMemory bytes status = (status ≡ S.OutOfMemory) ⊎ ((place : ℕ) × IsBadAt bytes place × (status ≡ S.BadImage place))

@@ -52,7 +52,3 @@ ExecGives text limits steps left base (S.Usage kind) left' written' = ⊥
 abbrev pub IsUsage : Status → Type 0
 IsUsage (S.Usage kind) = Unit {0}
 IsUsage status = ⊥
-
--- the slab limit and the index limit that hold where none are given
-abbrev pub default_limits : MachineLimits
-default_limits = record { slabs = 65536; index = 4294967295 }

@@ -1,8 +1,10 @@
 pub mod Answering
+pub mod Build
 pub mod Command
 pub mod Compiled
 pub mod Complete
 pub mod Exec
+pub mod ImageRun
 pub mod Ref
 pub mod Refused
 pub mod Seen

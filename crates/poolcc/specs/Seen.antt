@@ -1,26 +1,16 @@
--- What the code's command line says, and what a run's answer becomes.
-use Rattle.std.specs.Prelude.{ℕ, List, Option, Some, None}
+-- What a run's answer becomes.
+use Rattle.image_form.specs.declared.image.MachineLimits.{MachineLimits}
+use Rattle.pool_isa.specs.Ranges.{IsWithin}
 use Rattle.machine.specs.declared.ends.RunEnd.{RunEnd}
 use Rattle.machine.specs.declared.ends.RunEnd.TheVariants as E
 use Rattle.pcc_status.specs.declared.status.Status.{Status}
 use Rattle.pcc_status.specs.declared.status.Status.TheVariants as S
 use Rattle.ref_meaning.specs.declared.run.RefEnd.{RefEnd}
 use Rattle.ref_meaning.specs.declared.run.RefEnd.TheVariants as R
-use Rattle.poolcc.specs.declared.command.Line as code
-use Rattle.poolcc.specs.declared.command.Target as target
-use Rattle.poolcc.specs.declared.command.Line.TheVariants as L
-use Rattle.poolcc.specs.Command.{Line, NoCommand, NoLine, Exec, Ref}
 
-abbrev pub line_seen : code.Line → Line
-line_seen L.NoCommand = NoCommand
-line_seen L.NoLine = NoLine
-line_seen (L.Exec file steps) = Exec file.now steps
-line_seen (L.Ref file steps) = Ref file.now steps
-
--- a file and steps that were read, where a command's line has them
-abbrev pub target_seen : (List ℕ → ℕ → Line) → Option target.Target → Line
-target_seen run None = NoLine
-target_seen run (Some found) = run found.file.now found.steps
+-- limits that an image may have
+abbrev pub AreInRange : MachineLimits → Type 0
+AreInRange limits = IsWithin 1 1048576 limits.slabs × IsWithin 1 4294967295 limits.index
 
 -- the answer of the machine's run as the answer of the command
 abbrev pub status_seen : RunEnd → Status

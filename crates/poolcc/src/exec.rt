@@ -5,8 +5,8 @@ ghost use Rattle.pcc_outside.specs.Outside.{Rose, Missing, Holds};
 ghost use Rattle.pool_isa.specs.Machine.{initial};
 ghost use Rattle.image_form.specs.Form.{form_of};
 ghost use Rattle.machine.specs.Run.{RunGives};
-ghost use Rattle.poolcc.specs.Exec.{ExecGives, IsUsage, default_limits, source_limit};
-ghost use Rattle.poolcc.specs.Seen.{status_seen};
+ghost use Rattle.poolcc.specs.Exec.{ExecGives, IsUsage, source_limit};
+ghost use Rattle.poolcc.specs.Seen.{AreInRange, status_seen};
 
 use crate::text::{Stop, image_of};
 use image_form::{Image, MachineLimits};
@@ -18,34 +18,31 @@ use std::alloc::Global;
 /// The most bytes of a source.
 pub(crate) const SOURCE_LIMIT: u64 = 1_048_576;
 
-/// The limits of an image where none are given.
-const LIMITS: MachineLimits = MachineLimits {
-    slabs: 65_536,
-    index: u32::MAX,
-};
-
-/// Compiles a file, and runs its image on the input for at most so many steps.
+/// Compiles a file within limits, and runs its image on the input for at most so many steps.
 pub fn exec<F: Files, I: Source, O: Sink>(
     alloc: Global,
     file: &str,
+    limits: MachineLimits,
     steps: u64,
     files: &mut F,
     input: &mut I,
     out: &mut O,
 ) -> Status
+    requires { AreInRange limits }
     ensures gives { (text left base : List ℕ) → F.contents files.old file.now ≡ Holds text → I.left input.old ≡ Some left → O.written out.old ≡ Some base
-        → ExecGives text default_limits steps left base result (I.left input.new) (O.written out.new) }
+        → ExecGives text limits steps left base result (I.left input.new) (O.written out.new) }
     ensures missing { F.contents files.old file.now ≡ Missing → ((result ≡ Status.ReadFault) ⊎ (result ≡ Status.OutOfMemory)) × (I.left input.new ≡ I.left input.old) × (O.written out.new ≡ O.written out.old) }
     ensures read_cause { result ≡ Status.ReadFault → Rose (F.faults files.old file.now) (F.faults files.new file.now) ⊎ Rose (I.faults input.old) (I.faults input.new) }
     ensures write_cause { result ≡ Status.WriteFault → Rose (O.faults out.old) (O.faults out.new) }
     ensures long_cause { result ≡ Status.SourceTooLong → source_limit < F.reach files.new file.now }
+    ensures no_image { result ≢ Status.ImageTooLong }
     ensures well_formed { IsUsage result → ⊥ }
     ensures files_counted { (name : List ℕ) → F.faults files.old name ≤ F.faults files.new name }
     ensures reads_counted { I.faults input.old ≤ I.faults input.new }
     ensures writes_counted { O.faults out.old ≤ O.faults out.new }
 {
     match read_all(alloc, files, file, SOURCE_LIMIT) {
-        Ok(text) => run_text(alloc, &text, steps, input, out),
+        Ok(text) => run_text(alloc, &text, limits, steps, input, out),
         Err(ReadErr::Failed) => Status::ReadFault,
         Err(ReadErr::TooLong) => Status::SourceTooLong,
         Err(ReadErr::OutOfMemory) => Status::OutOfMemory,
@@ -56,29 +53,32 @@ pub fn exec<F: Files, I: Source, O: Sink>(
 fn run_text<I: Source, O: Sink>(
     alloc: Global,
     text: &[u8],
+    limits: MachineLimits,
     steps: u64,
     input: &mut I,
     out: &mut O,
 ) -> Status
-    requires { length text.now ≤ source_limit }
+    requires short { length text.now ≤ source_limit }
+    requires limits { AreInRange limits }
     ensures gives { (left base : List ℕ) → I.left input.old ≡ Some left → O.written out.old ≡ Some base
-        → ExecGives text.now default_limits steps left base result (I.left input.new) (O.written out.new) }
+        → ExecGives text.now limits steps left base result (I.left input.new) (O.written out.new) }
     ensures read_cause { result ≡ Status.ReadFault → Rose (I.faults input.old) (I.faults input.new) }
     ensures write_cause { result ≡ Status.WriteFault → Rose (O.faults out.old) (O.faults out.new) }
     ensures short { result ≢ Status.SourceTooLong }
+    ensures no_image { result ≢ Status.ImageTooLong }
     ensures well_formed { IsUsage result → ⊥ }
     ensures reads_counted { I.faults input.old ≤ I.faults input.new }
     ensures writes_counted { O.faults out.old ≤ O.faults out.new }
 {
-    match image_of(alloc, text, LIMITS) {
+    match image_of(alloc, text, limits) {
         Ok(image) => status_of(run_image(alloc, &image, steps, input, out)),
         Err(Stop::Refused(refusal)) => Status::Refused(refusal),
         Err(Stop::OutOfMemory) => Status::OutOfMemory,
     }
 }
 
-// Runs an image from its first step.
-fn run_image<I: Source, O: Sink>(
+/// Runs an image from its first step.
+pub(crate) fn run_image<I: Source, O: Sink>(
     alloc: Global,
     image: &Image,
     steps: u64,
@@ -92,15 +92,17 @@ fn run_image<I: Source, O: Sink>(
     ensures reads_counted { I.faults input.old ≤ I.faults input.new }
     ensures writes_counted { O.faults out.old ≤ O.faults out.new }
 {
-    let Ok(machine) = Machine::load(alloc, image, LIMITS) else {
+    let Ok(machine) = Machine::load(alloc, image, image.limits) else {
         return RunEnd::OutOfMemory;
     };
     machine.run(input, out, steps)
 }
 
-// The answer of a run as the answer of the command.
-fn status_of(end: RunEnd) -> Status
+/// The answer of a run as the answer of a command.
+pub(crate) fn status_of(end: RunEnd) -> Status
     ensures same { result ≡ status_seen end }
+    ensures no_source { result ≢ Status.SourceTooLong }
+    ensures no_image { result ≢ Status.ImageTooLong }
     ensures well_formed { IsUsage result → ⊥ }
 {
     match end {

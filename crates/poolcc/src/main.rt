@@ -1,18 +1,20 @@
-//! The program `poolcc`: compiles a C text to an image for its own machine, and runs it.
+//! The program `poolcc`: compiles a C text to an image for its own machine, and runs images.
 #![tactic(auto)]
 
-mod command;
+mod build;
 mod compile;
 mod exec;
+mod image_run;
 mod reference;
 #[cfg(test)]
 mod tests;
 mod text;
 mod top;
 
-pub use command::{Line, read_line};
+pub use build::build_file;
 pub use compile::{compile, link};
 pub use exec::exec;
+pub use image_run::run_file;
 use pcc_outside::{HostFiles, StdSink, StdSource};
 use pcc_status::Status;
 pub use reference::ref_file;

@@ -31,6 +31,7 @@ pub fn ref_file<F: Files, I: Source, O: Sink>(
     ensures read_cause { result ≡ Status.ReadFault → Rose (F.faults files.old file.now) (F.faults files.new file.now) ⊎ Rose (I.faults input.old) (I.faults input.new) }
     ensures write_cause { result ≡ Status.WriteFault → Rose (O.faults out.old) (O.faults out.new) }
     ensures long_cause { result ≡ Status.SourceTooLong → source_limit < F.reach files.new file.now }
+    ensures no_image { result ≢ Status.ImageTooLong }
     ensures well_formed { IsUsage result → ⊥ }
     ensures files_counted { (name : List ℕ) → F.faults files.old name ≤ F.faults files.new name }
     ensures reads_counted { I.faults input.old ≤ I.faults input.new }
@@ -58,6 +59,7 @@ fn ref_text<I: Source, O: Sink>(
     ensures read_cause { result ≡ Status.ReadFault → Rose (I.faults input.old) (I.faults input.new) }
     ensures write_cause { result ≡ Status.WriteFault → Rose (O.faults out.old) (O.faults out.new) }
     ensures short { result ≢ Status.SourceTooLong }
+    ensures no_image { result ≢ Status.ImageTooLong }
     ensures well_formed { IsUsage result → ⊥ }
     ensures reads_counted { I.faults input.old ≤ I.faults input.new }
     ensures writes_counted { O.faults out.old ≤ O.faults out.new }
@@ -93,6 +95,7 @@ fn ref_program<I: Source, O: Sink>(
 // The answer of a run as the answer of the command.
 fn status_of(end: RefEnd) -> Status
     ensures same { result ≡ end_seen end }
+    ensures no_image { result ≢ Status.ImageTooLong }
     ensures well_formed { IsUsage result → ⊥ }
 {
     match end {

@@ -3,7 +3,7 @@
 use crate::poolcc;
 use pcc_outside::{MemFiles, MemSink, MemSource};
 use pcc_status::{LexKind, Refusal, Status, SyntaxKind, TypeRule, UsageKind};
-use run_theory::{Pos, UbKind};
+use run_theory::{Pos, TrapKind, UbKind};
 use std::alloc::{AllocError, Global};
 use std::collections::BTreeMap;
 use std::test::Fail;
@@ -1357,5 +1357,167 @@ fn faults_and_limits_end_a_reference(rt: HostRuntime) -> Result<(), Fail> {
     assert_eq!(rt; did.status, Status::ReadFault);
     let did = command(alloc, &["poolcc", "ref"], b"", b"", NONE)?;
     assert_eq!(rt; did.status, Status::Usage(UsageKind::Words));
+    Ok(())
+}
+
+// The image of a start that puts 7 and exits with it.
+const SEVEN: [u8; 25] = [
+    0x50, 0x41, 0x49, 0x4d, 0x01, 0x80, 0x80, 0x04, 0xff, 0xff, 0xff, 0xff, 0x0f, 0x00, 0x00, 0x00,
+    0x01, 0x00, 0x00, 0x01, 0x00, 0x02, 0x01, 0x07, 0x27,
+];
+
+#[test]
+fn images_are_built_and_run(rt: HostRuntime) -> Result<(), Fail> {
+    let alloc = rt.alloc();
+    let text = "int main(void) { return 263; }";
+    let build = ["poolcc", "build", "a.c"];
+    let run = ["poolcc", "run", "a.c"];
+    let did = command(alloc, &build, text.as_bytes(), b"x", NONE)?;
+    assert_eq!(rt; did.status, Status::Done);
+    assert_eq!(rt; did.err.len(), 0);
+    assert_eq!(rt; did.left, 1);
+    assert_eq!(rt; did.out.as_slice().starts_with(&SEVEN[..14]), true);
+    let ran = command(alloc, &run, did.out.as_slice(), b"", NONE)?;
+    assert_eq!(rt; ran.status, Status::Program(7));
+    assert_eq!(rt; ran.out.len(), 0);
+    let copies = "int main(void) { int c; while ((c = getchar()) != EOF) putchar(c); return 7; }";
+    let did = command(alloc, &build, copies.as_bytes(), b"", NONE)?;
+    let ran = command(alloc, &run, did.out.as_slice(), b"ab", NONE)?;
+    assert_eq!(rt; ran.status, Status::Program(7));
+    assert_eq!(rt; ran.out.as_slice(), b"ab".as_slice());
+    let limited = [
+        "poolcc", "build", "a.c", "--index", "2", "--slabs", "1048576",
+    ];
+    let did = command(alloc, &limited, text.as_bytes(), b"", NONE)?;
+    assert_eq!(rt; did.status, Status::Done);
+    let limits: &[u8] = &[0x50, 0x41, 0x49, 0x4d, 0x01, 0x80, 0x80, 0x40, 0x02];
+    assert_eq!(rt; did.out.as_slice().starts_with(limits), true);
+    let failing = Failing { out: 3, ..NONE };
+    let did = command(alloc, &build, text.as_bytes(), b"", failing)?;
+    assert_eq!(rt; did.status, Status::WriteFault);
+    assert_eq!(rt; did.out.as_slice(), b"PA".as_slice());
+    let did = command(alloc, &build, b"int main(void) { return 08; }", b"", NONE)?;
+    assert_eq!(rt;
+        did.status,
+        Status::Refused(Refusal::Lex(
+            LexKind::BadLiteral,
+            Pos {
+                line: 1,
+                column: 25
+            }
+        ))
+    );
+    assert_eq!(rt; did.out.len(), 0);
+    let failing = Failing { file: 1, ..NONE };
+    let did = command(alloc, &build, text.as_bytes(), b"", failing)?;
+    assert_eq!(rt; did.status, Status::ReadFault);
+    assert_eq!(rt; did.out.len(), 0);
+    Ok(())
+}
+
+#[test]
+fn bytes_are_run_as_an_image(rt: HostRuntime) -> Result<(), Fail> {
+    let alloc = rt.alloc();
+    let rows: [(usize, &[u8], &[&str], Status); 9] = [
+        (25, &[], &[], Status::Program(7)),
+        (24, &[], &[], Status::BadImage(24)),
+        (25, &[0x00], &[], Status::BadImage(25)),
+        (23, &[0x87, 0x00, 0x27], &[], Status::BadImage(24)),
+        (
+            17,
+            &[0x00, 0x00, 0x01, 0x00, 0x01, 0x20, 0x00],
+            &["--steps", "5"],
+            Status::StepsSpent,
+        ),
+        (
+            17,
+            &[0x00, 0x00, 0x01, 0x00, 0x01, 0x27],
+            &[],
+            Status::Trapped(TrapKind::StackEmpty),
+        ),
+        (
+            17,
+            &[0x00, 0x00, 0x01, 0x00, 0x01, 0x20, 0x01],
+            &[],
+            Status::BadImage(23),
+        ),
+        (0, &[], &[], Status::BadImage(0)),
+        (5, &[0x00], &[], Status::BadImage(5)),
+    ];
+    for (front, rest, options, status) in rows {
+        let mut bytes = Vec::from_slice(alloc, &SEVEN[..front])?;
+        bytes.extend_from_slice(rest)?;
+        let mut line = Vec::new(alloc);
+        line.extend_from_slice(&["poolcc", "run", "a.c"])?;
+        line.extend_from_slice(options)?;
+        let did = command(alloc, &line, bytes.as_slice(), b"x", NONE)?;
+        assert_eq!(rt; did.status, status);
+        assert_eq!(rt; did.out.len(), 0);
+        assert_eq!(rt; did.left, 1);
+    }
+    let did = command(alloc, &["poolcc", "run", "b.c"], b"", b"", NONE)?;
+    assert_eq!(rt; did.status, Status::ReadFault);
+    let failing = Failing { file: 1, ..NONE };
+    let did = command(alloc, &["poolcc", "run", "a.c"], &SEVEN, b"", failing)?;
+    assert_eq!(rt; did.status, Status::ReadFault);
+    Ok(())
+}
+
+#[test]
+fn options_are_read(rt: HostRuntime) -> Result<(), Fail> {
+    let alloc = rt.alloc();
+    let text = "int main(void) { return 3; }";
+    let words = Status::Usage(UsageKind::Words);
+    let rows: [(&str, &[&str], Status); 19] = [
+        ("build", &["--slabs", "0"], words),
+        ("build", &["--slabs", "1", "--slabs", "1"], words),
+        ("build", &["--slabs", "1048577"], words),
+        ("build", &["--index", "0"], words),
+        ("build", &["--index", "4294967296"], words),
+        ("build", &["--index", "1", "--index", "1"], words),
+        ("build", &["--steps", "1"], words),
+        ("build", &["--slabs"], words),
+        ("build", &["--slabs", "1", "--index"], words),
+        (
+            "build",
+            &["--index", "4294967295", "--slabs", "+1"],
+            Status::Done,
+        ),
+        (
+            "exec",
+            &["--steps", "100", "--slabs", "1", "--index", "1"],
+            Status::Program(3),
+        ),
+        (
+            "exec",
+            &["--index", "1", "--steps", "7", "--slabs", "1"],
+            Status::StepsSpent,
+        ),
+        (
+            "exec",
+            &["--slabs", "1", "--steps", "7", "--slabs", "1"],
+            words,
+        ),
+        ("exec", &["--slabs", "0", "--steps", "7"], words),
+        ("run", &["--slabs", "1"], words),
+        ("run", &["--index", "1"], words),
+        ("run", &["--steps", "0"], words),
+        ("ref", &["--slabs", "1"], words),
+        ("ref", &["--steps", "9", "--index", "1"], words),
+    ];
+    for (name, options, status) in rows {
+        let mut line = Vec::new(alloc);
+        line.extend_from_slice(&["poolcc", name, "a.c"])?;
+        line.extend_from_slice(options)?;
+        let did = command(alloc, &line, text.as_bytes(), b"", NONE)?;
+        assert_eq!(rt; did.status, status);
+    }
+    for name in ["build", "run"] {
+        let did = command(alloc, &["poolcc", name], text.as_bytes(), b"", NONE)?;
+        assert_eq!(rt; did.status, words);
+        let line = ["poolcc", name, "--steps", "9"];
+        let did = command(alloc, &line, text.as_bytes(), b"", NONE)?;
+        assert_eq!(rt; did.status, words);
+    }
     Ok(())
 }

@@ -3,7 +3,10 @@
 ghost use Rattle.std.specs.Prelude.{◌≡◌, ℕ, ◌<◌, ◌≤◌, ◌⊎◌, List, Some, length, map, string_bytes};
 ghost use Rattle.pcc_outside.specs.Outside.{Rose};
 ghost use Rattle.pcc_status.specs.Said.{Said};
-ghost use Rattle.poolcc.specs.Command.{line_of, NoCommand, NoLine, Exec, Ref, Names};
+ghost use Rattle.pcc_words.specs.Line.{Limits as SaidLimits, line_of, NoCommand, NoLine, Build, Exec, Run, Ref};
+ghost use Rattle.pcc_words.specs.Seen.{AreLimits, limits_seen};
+ghost use Rattle.poolcc.specs.Command.{Names, machine_limits};
+ghost use Rattle.poolcc.specs.Seen.{AreInRange};
 ghost use Rattle.run_theory.specs.Runs.{IsUndefined};
 ghost use Rattle.run_theory.specs.declared.ends.TrapKind.{TrapKind};
 ghost use Rattle.pcc_outside.specs.Outside.{Holds};
@@ -22,18 +25,24 @@ ghost use Rattle.c_syntax.specs.Trees as whole;
 ghost use Rattle.c_rules.specs.Elaborated as elaborated;
 ghost use Rattle.c_meaning.specs.First as meaning;
 ghost use Rattle.poolcc.specs.Answering.{Answers};
-ghost use Rattle.poolcc.specs.Complete.{RunsUnlessMemory, IsToldUnlessMemory};
-ghost use Rattle.poolcc.specs.Exec.{source_limit, default_limits};
+ghost use Rattle.poolcc.specs.Complete.{RunsUnlessMemory, IsToldUnlessMemory, IsBuiltUnlessMemory, IsBadUnlessMemory};
+ghost use Rattle.poolcc.specs.Exec.{source_limit};
+ghost use Rattle.poolcc.specs.ImageRun.{image_limit};
+ghost use Rattle.image_form.specs.Form.{Form, ImageOf, IsImageBytes};
+ghost use Rattle.pool_isa.specs.Machine.{mach};
 
-use crate::command::{Line, read_line};
+use crate::build::build_file;
 use crate::exec::exec;
+use crate::image_run::run_file;
 use crate::reference::ref_file;
+use image_form::MachineLimits;
 use pcc_outside::{Files, Sink, Source};
 use pcc_status::{Status, UsageKind, say};
+use pcc_words::{Limits, Line, read_line};
 use std::alloc::Global;
 
 /// Does what a command line says, the program's name first: reads the named file from `files`, and the program's
-/// input from `input`; writes the program's output to `out`, and to `err` one line for every answer but success.
+/// input from `input`; writes the program's output or the image to `out`, and to `err` one line for every answer but success.
 pub fn poolcc<F: Files, I: Source, O: Sink, E: Sink>(
     alloc: Global,
     words: &[String],
@@ -52,24 +61,25 @@ pub fn poolcc<F: Files, I: Source, O: Sink, E: Sink>(
     ensures read_cause { result ≡ Status.ReadFault → (file : List ℕ) × Names (line_of (map string_bytes words.now)) file × (Rose (F.faults files.old file) (F.faults files.new file) ⊎ Rose (I.faults input.old) (I.faults input.new)) }
     ensures write_cause { result ≡ Status.WriteFault → Rose (O.faults out.old) (O.faults out.new) ⊎ Rose (E.faults err.old) (E.faults err.new) }
     ensures long_cause { result ≡ Status.SourceTooLong → (file : List ℕ) × Names (line_of (map string_bytes words.now)) file × (source_limit < F.reach files.new file) }
-    ensures trapped_cause { (kind : TrapKind) (file : List ℕ) (steps : ℕ) (text left base : List ℕ) → result ≡ Status.Trapped kind → line_of (map string_bytes words.now) ≡ Exec file steps
+    ensures image_long_cause { result ≡ Status.ImageTooLong → (file : List ℕ) × Names (line_of (map string_bytes words.now)) file × (image_limit < F.reach files.new file) }
+    ensures trapped_cause { (kind : TrapKind) (file : List ℕ) (limits : SaidLimits) (steps : ℕ) (text left base : List ℕ) → result ≡ Status.Trapped kind → line_of (map string_bytes words.now) ≡ Exec file limits steps
         → F.contents files.old file ≡ Holds text → I.left input.old ≡ Some left → O.written out.old ≡ Some base
         → (program : ProgramTree) × IsInteger text program × (n : ℕ) × IsUndefined (reference (typed_of program) left n) }
 
     // Where the text is accepted and nothing outside fails, the answer is what the machine gives, or memory ran out.
-    ensures complete { (file : List ℕ) (steps : ℕ) (text left base : List ℕ) (program : ProgramTree) → line_of (map string_bytes words.now) ≡ Exec file steps
+    ensures complete { (file : List ℕ) (limits : SaidLimits) (steps : ℕ) (text left base : List ℕ) (program : ProgramTree) → line_of (map string_bytes words.now) ≡ Exec file limits steps
         → F.contents files.old file ≡ Holds text → length text ≤ source_limit → I.left input.old ≡ Some left → O.written out.old ≡ Some base
         → (Rose (F.faults files.old file) (F.faults files.new file) → ⊥) → (Rose (I.faults input.old) (I.faults input.new) → ⊥) → (Rose (O.faults out.old) (O.faults out.new) → ⊥) → (Rose (E.faults err.old) (E.faults err.new) → ⊥)
-        → IsInteger text program → RunsUnlessMemory text default_limits steps left base result (O.written out.new) }
+        → IsInteger text program → RunsUnlessMemory text (machine_limits limits) steps left base result (O.written out.new) }
 
     // Where the text has a fault and nothing outside fails, the answer is the fault's kind and place, or memory ran out.
-    ensures lexical { (file : List ℕ) (steps : ℕ) (text left base : List ℕ) (kind : LexKind) (place : Pos) → line_of (map string_bytes words.now) ≡ Exec file steps
+    ensures lexical { (file : List ℕ) (limits : SaidLimits) (steps : ℕ) (text left base : List ℕ) (kind : LexKind) (place : Pos) → line_of (map string_bytes words.now) ≡ Exec file limits steps
         → F.contents files.old file ≡ Holds text → length text ≤ source_limit → I.left input.old ≡ Some left → O.written out.old ≡ Some base
         → (Rose (F.faults files.old file) (F.faults files.new file) → ⊥) → (Rose (I.faults input.old) (I.faults input.new) → ⊥) → (Rose (O.faults out.old) (O.faults out.new) → ⊥) → (Rose (E.faults err.old) (E.faults err.new) → ⊥)
         → Faults first_place text (fault_of kind place) → (result ≡ Status.OutOfMemory) ⊎ (result ≡ Status.Refused (Refusal.Lex kind place)) }
 
     // Where the text is refused and nothing outside fails, the answer is that refusal, or memory ran out.
-    ensures refused { (file : List ℕ) (steps : ℕ) (text left base : List ℕ) (refusal : Refusal) → line_of (map string_bytes words.now) ≡ Exec file steps
+    ensures refused { (file : List ℕ) (limits : SaidLimits) (steps : ℕ) (text left base : List ℕ) (refusal : Refusal) → line_of (map string_bytes words.now) ≡ Exec file limits steps
         → F.contents files.old file ≡ Holds text → length text ≤ source_limit → I.left input.old ≡ Some left → O.written out.old ≡ Some base
         → (Rose (F.faults files.old file) (F.faults files.new file) → ⊥) → (Rose (I.faults input.old) (I.faults input.new) → ⊥) → (Rose (O.faults out.old) (O.faults out.new) → ⊥) → (Rose (E.faults err.old) (E.faults err.new) → ⊥)
         → IsRefused text refusal → (result ≡ Status.OutOfMemory) ⊎ (result ≡ Status.Refused refusal) }
@@ -84,6 +94,28 @@ pub fn poolcc<F: Files, I: Source, O: Sink, E: Sink>(
         → F.contents files.old file ≡ Holds text → length text ≤ source_limit → I.left input.old ≡ Some left → O.written out.old ≡ Some base
         → (Rose (F.faults files.old file) (F.faults files.new file) → ⊥) → (Rose (I.faults input.old) (I.faults input.new) → ⊥) → (Rose (O.faults out.old) (O.faults out.new) → ⊥) → (Rose (E.faults err.old) (E.faults err.new) → ⊥)
         → IsRefused text refusal → (IsLate refusal → ⊥) → (result ≡ Status.OutOfMemory) ⊎ (result ≡ Status.Refused refusal) }
+
+    // Where the text of `build` is accepted and nothing outside fails, the bytes of its image are written, or memory ran out;
+    // where it is refused, the answer is that refusal.
+    ensures build_complete { (file : List ℕ) (limits : SaidLimits) (text base : List ℕ) (program : ProgramTree) → line_of (map string_bytes words.now) ≡ Build file limits
+        → F.contents files.old file ≡ Holds text → length text ≤ source_limit → O.written out.old ≡ Some base
+        → (Rose (F.faults files.old file) (F.faults files.new file) → ⊥) → (Rose (I.faults input.old) (I.faults input.new) → ⊥) → (Rose (O.faults out.old) (O.faults out.new) → ⊥) → (Rose (E.faults err.old) (E.faults err.new) → ⊥)
+        → IsInteger text program → IsBuiltUnlessMemory text (machine_limits limits) base result (O.written out.new) }
+    ensures build_refused { (file : List ℕ) (limits : SaidLimits) (text base : List ℕ) (refusal : Refusal) → line_of (map string_bytes words.now) ≡ Build file limits
+        → F.contents files.old file ≡ Holds text → length text ≤ source_limit → O.written out.old ≡ Some base
+        → (Rose (F.faults files.old file) (F.faults files.new file) → ⊥) → (Rose (I.faults input.old) (I.faults input.new) → ⊥) → (Rose (O.faults out.old) (O.faults out.new) → ⊥) → (Rose (E.faults err.old) (E.faults err.new) → ⊥)
+        → IsRefused text refusal → (result ≡ Status.OutOfMemory) ⊎ (result ≡ Status.Refused refusal) }
+
+    // Where the bytes of `run` are an image and nothing outside fails, the answer and the output are those of the machine within
+    // the steps, or memory ran out; where they are none, the answer is the place of the first byte with which no image goes on.
+    ensures run_complete { (file : List ℕ) (steps : ℕ) (bytes left base : List ℕ) (form : Form) → line_of (map string_bytes words.now) ≡ Run file steps
+        → F.contents files.old file ≡ Holds bytes → length bytes ≤ image_limit → I.left input.old ≡ Some left → O.written out.old ≡ Some base
+        → (Rose (F.faults files.old file) (F.faults files.new file) → ⊥) → (Rose (I.faults input.old) (I.faults input.new) → ⊥) → (Rose (O.faults out.old) (O.faults out.new) → ⊥) → (Rose (E.faults err.old) (E.faults err.new) → ⊥)
+        → ImageOf bytes form → IsToldUnlessMemory (mach form.functions left steps) base result (O.written out.new) }
+    ensures run_bad { (file : List ℕ) (steps : ℕ) (bytes left base : List ℕ) → line_of (map string_bytes words.now) ≡ Run file steps
+        → F.contents files.old file ≡ Holds bytes → length bytes ≤ image_limit → I.left input.old ≡ Some left → O.written out.old ≡ Some base
+        → (Rose (F.faults files.old file) (F.faults files.new file) → ⊥) → (Rose (I.faults input.old) (I.faults input.new) → ⊥) → (Rose (O.faults out.old) (O.faults out.new) → ⊥) → (Rose (E.faults err.old) (E.faults err.new) → ⊥)
+        → (IsImageBytes bytes → ⊥) → IsBadUnlessMemory bytes result }
 
     // Counts of faults never fall.
     ensures files_counted { (name : List ℕ) → F.faults files.old name ≤ F.faults files.new name }
@@ -109,14 +141,36 @@ fn command<F: Files, I: Source, O: Sink>(
     ensures read_cause { result ≡ Status.ReadFault → (file : List ℕ) × Names (line_of (map string_bytes words.now)) file × (Rose (F.faults files.old file) (F.faults files.new file) ⊎ Rose (I.faults input.old) (I.faults input.new)) }
     ensures write_cause { result ≡ Status.WriteFault → Rose (O.faults out.old) (O.faults out.new) }
     ensures long_cause { result ≡ Status.SourceTooLong → (file : List ℕ) × Names (line_of (map string_bytes words.now)) file × (source_limit < F.reach files.new file) }
+    ensures image_long_cause { result ≡ Status.ImageTooLong → (file : List ℕ) × Names (line_of (map string_bytes words.now)) file × (image_limit < F.reach files.new file) }
     ensures files_counted { (name : List ℕ) → F.faults files.old name ≤ F.faults files.new name }
     ensures reads_counted { I.faults input.old ≤ I.faults input.new }
     ensures writes_counted { O.faults out.old ≤ O.faults out.new }
 {
-    match read_line(words) {
+    let Ok(line) = read_line(alloc, words) else {
+        return Status::OutOfMemory;
+    };
+    match line {
         Line::NoCommand => Status::Usage(UsageKind::Command),
         Line::NoLine => Status::Usage(UsageKind::Words),
-        Line::Exec { file, steps } => exec(alloc, file, steps, files, input, out),
+        Line::Build { file, limits } => build_file(alloc, file, limits_of(limits), files, out),
+        Line::Exec {
+            file,
+            limits,
+            steps,
+        } => exec(alloc, file, limits_of(limits), steps, files, input, out),
+        Line::Run { file, steps } => run_file(alloc, file, steps, files, input, out),
         Line::Ref { file, steps } => ref_file(alloc, file, steps, files, input, out),
+    }
+}
+
+// The limits that the image of a line holds.
+fn limits_of(limits: Limits) -> MachineLimits
+    requires { AreLimits limits }
+    ensures is { result ≡ machine_limits (limits_seen limits) }
+    ensures range { AreInRange result }
+{
+    MachineLimits {
+        slabs: limits.slabs,
+        index: limits.index,
     }
 }

@@ -1,0 +1,12 @@
+pub mod FoundLine
+pub mod NumberReads
+pub mod NumberRule
+pub mod Ranges
+pub mod WordApp
+pub mod WordLine
+pub mod WordLooks
+pub mod WordNumbers
+pub mod WordRules
+pub mod WordTexts
+pub mod WordTurns
+pub mod WordWalk

@@ -1,0 +1,4 @@
+pub mod Clap
+pub mod Found
+pub mod Line
+pub mod Seen

@@ -1,0 +1,77 @@
+//! The commands of `poolcc`, as `clap` knows them.
+ghost use Rattle.std.specs.Prelude.{◌≡◌, ◌∷◌, [], IfOk, codes};
+ghost use Rattle.clap.specs.Words.{app_of, new_app, with_rule};
+ghost use Rattle.pcc_words.specs.Line.{Index, Slabs, Steps};
+ghost use Rattle.pcc_words.specs.Clap.{IsLocal, app, file_rule, leaf, number_rule, setting_rule};
+
+use clap::builder::ValueParser;
+use clap::{Arg, Command};
+use std::alloc::{AllocError, Global};
+
+/// The most slabs that the memory of a program may have.
+const MOST_SLABS: u64 = 1_048_576;
+
+/// The greatest index of an object.
+const MOST_INDEX: u64 = 4_294_967_295;
+
+/// The most steps that a run may be given.
+const MOST_STEPS: u64 = 1 << 62;
+
+/// The program with its commands.
+pub(crate) fn poolcc<'a>(alloc: Global) -> Result<Command<'a>, AllocError>
+    ensures { IfOk result (λ command. app_of command ≡ app) }
+{
+    let build = with_limits(alloc, of_file(alloc, "build")?)?;
+    let exec = with_steps(alloc, with_limits(alloc, of_file(alloc, "exec")?)?)?;
+    let run = with_steps(alloc, of_file(alloc, "run")?)?;
+    let reference = with_steps(alloc, of_file(alloc, "ref")?)?;
+    Command::new(alloc, "poolcc")
+        .subcommand_required(true)
+        .disable_help_flag(true)
+        .disable_help_subcommand(true)
+        .subcommand(build)?
+        .subcommand(exec)?
+        .subcommand(run)?
+        .subcommand(reference)
+}
+
+// A command that takes a file.
+fn of_file<'a>(alloc: Global, name: &'a str) -> Result<Command<'a>, AllocError>
+    ensures { IfOk result (λ command. IsLocal command
+        × (app_of command ≡ with_rule (new_app name.entry.now) file_rule)) }
+{
+    let file = Arg::new(alloc, "file").required(true);
+    Command::new(alloc, name).arg(file)
+}
+
+fn with_limits<'a>(alloc: Global, command: Command<'a>) -> Result<Command<'a>, AllocError>
+    ensures { IfOk result (λ after. (IsLocal command.entry → IsLocal after)
+        × (app_of after ≡ with_rule (with_rule (app_of command.entry) (setting_rule Slabs))
+        (setting_rule Index))) }
+{
+    let command = with_number(alloc, command, "slabs", MOST_SLABS)?;
+    with_number(alloc, command, "index", MOST_INDEX)
+}
+
+fn with_steps<'a>(alloc: Global, command: Command<'a>) -> Result<Command<'a>, AllocError>
+    ensures { IfOk result (λ after. (IsLocal command.entry → IsLocal after)
+        × (app_of after ≡ with_rule (app_of command.entry) (setting_rule Steps))) }
+{
+    with_number(alloc, command, "steps", MOST_STEPS)
+}
+
+// The command with an option `--name`, whose value is a number from 1 on.
+fn with_number<'a>(
+    alloc: Global,
+    command: Command<'a>,
+    name: &'a str,
+    most: u64,
+) -> Result<Command<'a>, AllocError>
+    ensures { IfOk result (λ after. (IsLocal command.entry → IsLocal after)
+        × (app_of after ≡ with_rule (app_of command.entry) (number_rule name.entry.now most))) }
+{
+    let number = Arg::new(alloc, name)
+        .long(name)
+        .value_parser(ValueParser::unsigned(1, most));
+    command.arg(number)
+}
