@@ -1418,43 +1418,38 @@ fn images_are_built_and_run(rt: HostRuntime) -> Result<(), Fail> {
 #[test]
 fn bytes_are_run_as_an_image(rt: HostRuntime) -> Result<(), Fail> {
     let alloc = rt.alloc();
-    let rows: [(usize, &[u8], &[&str], Status); 9] = [
-        (25, &[], &[], Status::Program(7)),
-        (24, &[], &[], Status::BadImage(24)),
-        (25, &[0x00], &[], Status::BadImage(25)),
-        (23, &[0x87, 0x00, 0x27], &[], Status::BadImage(24)),
-        (
-            17,
-            &[0x00, 0x00, 0x01, 0x00, 0x01, 0x20, 0x00],
-            &["--steps", "5"],
-            Status::StepsSpent,
-        ),
+    let rows: [(usize, &[u8], Status); 8] = [
+        (25, &[], Status::Program(7)),
+        (24, &[], Status::BadImage(24)),
+        (25, &[0x00], Status::BadImage(25)),
+        (23, &[0x87, 0x00, 0x27], Status::BadImage(24)),
         (
             17,
             &[0x00, 0x00, 0x01, 0x00, 0x01, 0x27],
-            &[],
             Status::Trapped(TrapKind::StackEmpty),
         ),
         (
             17,
             &[0x00, 0x00, 0x01, 0x00, 0x01, 0x20, 0x01],
-            &[],
             Status::BadImage(23),
         ),
-        (0, &[], &[], Status::BadImage(0)),
-        (5, &[0x00], &[], Status::BadImage(5)),
+        (0, &[], Status::BadImage(0)),
+        (5, &[0x00], Status::BadImage(5)),
     ];
-    for (front, rest, options, status) in rows {
+    for (front, rest, status) in rows {
         let mut bytes = Vec::from_slice(alloc, &SEVEN[..front])?;
         bytes.extend_from_slice(rest)?;
-        let mut line = Vec::new(alloc);
-        line.extend_from_slice(&["poolcc", "run", "a.c"])?;
-        line.extend_from_slice(options)?;
+        let line = ["poolcc", "run", "a.c"];
         let did = command(alloc, &line, bytes.as_slice(), b"x", NONE)?;
         assert_eq!(rt; did.status, status);
         assert_eq!(rt; did.out.len(), 0);
         assert_eq!(rt; did.left, 1);
     }
+    let mut forever = Vec::from_slice(alloc, &SEVEN[..17])?;
+    forever.extend_from_slice(&[0x00, 0x00, 0x01, 0x00, 0x01, 0x20, 0x00])?;
+    let line = ["poolcc", "run", "a.c", "--steps", "5"];
+    let did = command(alloc, &line, forever.as_slice(), b"x", NONE)?;
+    assert_eq!(rt; did.status, Status::StepsSpent);
     let did = command(alloc, &["poolcc", "run", "b.c"], b"", b"", NONE)?;
     assert_eq!(rt; did.status, Status::ReadFault);
     let failing = Failing { file: 1, ..NONE };

@@ -3,6 +3,9 @@
 //! digits.
 #![tactic(auto)]
 
+ghost use Rattle.std.specs.Prelude.{◌≤◌, length};
+ghost use Rattle.c_typed.specs.DefinitionViews.{ProgramStands};
+
 use c_lexer::{LexErr, tokens};
 use c_limits::check_limits;
 use c_reader::{SyntaxErr, read};
@@ -27,7 +30,9 @@ struct Ran {
 }
 
 // Runs a program on no input.
-fn run(alloc: Global, program: &c_typed::Program) -> Result<Ran, AllocError> {
+fn run(alloc: Global, program: &c_typed::Program) -> Result<Ran, AllocError>
+    requires { ProgramStands program.now }
+{
     let mut run = RefRun::new(alloc, program)?;
     let mut input = MemSource::new(Vec::new(alloc), Vec::new(alloc), 1);
     let mut out = MemSink::new(alloc, 1 << 20, Vec::new(alloc), 1)?;
@@ -67,14 +72,18 @@ fn answer_program<W: Write>(
     alloc: Global,
     program: &c_typed::Program,
     out: &mut W,
-) -> io::Result<()> {
+) -> io::Result<()>
+    requires { ProgramStands program.now }
+{
     let ran = run(alloc, program)?;
     write_end(ran.end, out)?;
     writeln!(out, ", {} units, {}", ran.units, ran.out)
 }
 
 // The answer to a text.
-fn answer<W: Write>(alloc: Global, text: &[u8], out: &mut W) -> io::Result<()> {
+fn answer<W: Write>(alloc: Global, text: &[u8], out: &mut W) -> io::Result<()>
+    requires { length text.now ≤ 1048576 }
+{
     let tokens = match tokens(alloc, text) {
         Ok(tokens) => tokens,
         Err(error) => return write_fault(error, out),
