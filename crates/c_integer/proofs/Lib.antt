@@ -1,2 +1,2 @@
-pub mod Blocks
-pub mod Shapes
+pub mod Loops
+pub mod Rows

@@ -1,2 +1,1 @@
-pub mod Narrowing
-pub mod Stopping
+pub mod Outside

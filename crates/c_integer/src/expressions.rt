@@ -1,26 +1,39 @@
 // Expressions (C17 6.5).
 
-ghost use Rattle.std.specs.Prelude.{◌≡◌, IfOk, IfErr};
-ghost use Rattle.c_ast.specs.Syntax as tree;
-ghost use Rattle.c_syntax.specs.Trees as trees;
-ghost use Rattle.c_syntax.specs.declared.operator.AssignOperator.TheVariants as assign;
-ghost use Rattle.c_syntax.specs.Views.{name_tree, expr_tree, arguments_of as arguments_tree};
-ghost use Rattle.c_integer.specs.Narrowing.{place_of, constant_of, library_call, arguments_of, expr_of};
-ghost use Rattle.c_integer.specs.Stopping.{Stops};
+ghost use Rattle.std.specs.Prelude.{◌≡◌, [], ◌∷◌};
+ghost use Rattle.c_syntax.specs.declared.expr.Parameter.{out-Parameter};
+ghost use Rattle.c_syntax.specs.Views.{expr_tree, value_tree, arguments_of, type_tree, optional_of, declarator_tree, direct_tree, suffixes_of, parameters_of};
+ghost use Rattle.c_integer.specs.Outside.{first_of, is_compiled, called_name, place_of, is_plain_type, moves, is_pointer, outside_expr, outside_arguments, outside_type, outside_optional, outside_lengths, outside_direct, outside_suffixes, outside_parameters, outside_value};
 
-use crate::names::narrow_variable;
-use crate::narrow_err::NarrowErr;
-use crate::operators::{narrow_binary, narrow_unary};
-use c_num::IntType;
-use c_syntax::{AssignOperator, Expr, Name, PrefixOperator};
+use crate::names::is_main;
+use c_syntax::{
+    BinaryOperator, Declarator, Direct, Expr, Parameter, PrefixOperator, SimpleKind, Suffix,
+    TypeName,
+};
 use run_theory::Pos;
-use std::alloc::Global;
 
-/// The constants of type `int` are below this.
-const INT_END: u64 = 1 << 31;
+/// The functions that are compiled.
+const COMPILED: [&[u8]; 3] = [b"getchar", b"putchar", b"exit"];
+
+fn is_compiled(name: &[u8]) -> bool
+    ensures { result ≡ is_compiled name.now }
+{
+    COMPILED.contains(&name)
+}
+
+/// The name of a called function, if it is called by name.
+fn called_name(function: &Expr) -> &[u8]
+    ensures { result.now ≡ called_name (expr_tree function.now) }
+{
+    match function {
+        Expr::Named(name) => name.bytes.as_slice(),
+        Expr::Parenthesized { inner, .. } => called_name(inner),
+        _ => b"".as_slice(),
+    }
+}
 
 /// The place of an expression's first token.
-pub(crate) fn place_of(expr: &Expr) -> Pos
+fn place_of(expr: &Expr) -> Pos
     ensures { result ≡ place_of (expr_tree expr.now) }
 {
     match expr {
@@ -47,150 +60,225 @@ pub(crate) fn place_of(expr: &Expr) -> Pos
     }
 }
 
-/// The expression of the integer language that an expression is.
+/// Whether a type is an integer type or void.
+fn is_plain_type(type_name: &TypeName) -> bool
+    ensures { result ≡ is_plain_type (type_tree type_name.now) }
+{
+    type_name.declarator.is_none() && !matches!(type_name.simple.kind, SimpleKind::Struct(_))
+}
+
+/// Whether an expression's type is neither integer nor void.
+fn is_pointer(hidden: bool, expr: &Expr) -> bool
+    ensures { result ≡ is_pointer hidden (expr_tree expr.now) }
+{
+    match expr {
+        Expr::Named(name) => !hidden && is_main(name),
+        Expr::Literal { .. } => true,
+        Expr::Null { .. } => true,
+        Expr::Parenthesized { inner, .. } => is_pointer(hidden, inner),
+        Expr::Call { function, .. } => called_name(function) == b"malloc".as_slice(),
+        Expr::Prefix { operator, .. } => matches!(operator, PrefixOperator::Address),
+        Expr::Cast { type_name, .. } => !is_plain_type(type_name),
+        Expr::Binary {
+            operator,
+            left,
+            right,
+        } => match operator {
+            BinaryOperator::Add => is_pointer(hidden, left) || is_pointer(hidden, right),
+            BinaryOperator::Subtract => is_pointer(hidden, left) && !is_pointer(hidden, right),
+            _ => false,
+        },
+        Expr::Conditional {
+            then,
+            otherwise,
+            ..
+        } => is_pointer(hidden, then) || is_pointer(hidden, otherwise),
+        _ => false,
+    }
+}
+
+/// The first node of an expression that is outside.
 #[cycle(expr)]
-pub(crate) fn narrow_expr(alloc: Global, expr: &Expr) -> Result<c_ast::Expr, NarrowErr>
-    ensures ok { IfOk result (λ narrow. expr_of (expr_tree expr.now) ≡ Ok (tree.expr_tree narrow)) }
-    ensures err { IfErr result (Stops (expr_of (expr_tree expr.now))) }
+pub(crate) fn outside_expr(hidden: bool, expr: &Expr) -> Option<Pos>
+    ensures { result ≡ outside_expr hidden (expr_tree expr.now) }
 {
     match expr {
         Expr::Named(name) => {
-            let place = name.place;
-            let name = narrow_variable(alloc, name)?;
-            Ok(c_ast::Expr::Variable { name, place })
+            if is_pointer(hidden, expr) {
+                return Some(name.place);
+            }
+            None
         }
-        Expr::Integer {
-            value,
-            int_type,
-            place,
-        } => narrow_constant(*value, *int_type, *place),
-        Expr::Character { byte, place } => Ok(c_ast::Expr::Character {
-            byte: *byte,
-            place: *place,
-        }),
-        Expr::EndOfFile { place } => Ok(c_ast::Expr::EndOfFile { place: *place }),
+        Expr::Integer { .. } => None,
+        Expr::Character { .. } => None,
+        Expr::Literal { place, .. } => Some(*place),
+        Expr::Null { place } => Some(*place),
+        Expr::EndOfFile { .. } => None,
         Expr::Parenthesized { place, inner } => {
-            let place = *place;
-            let inner = Box::new(alloc, narrow_expr(alloc, inner)?)?;
-            Ok(c_ast::Expr::Parenthesized { place, inner })
+            if is_pointer(hidden, inner) {
+                return Some(*place);
+            }
+            outside_expr(hidden, inner)
         }
+        Expr::Index { array, .. } => Some(place_of(array)),
         Expr::Call {
             function,
             arguments,
             ..
         } => {
-            let Expr::Named(name) = &**function else {
-                return Err(NarrowErr::Later(place_of(function)));
-            };
-            narrow_call(alloc, name, arguments)
+            if !is_compiled(called_name(function)) {
+                return Some(place_of(function));
+            }
+            outside_arguments(hidden, arguments.as_slice())
         }
+        Expr::Member { object, .. } => Some(place_of(object)),
+        Expr::PointerMember { pointer, .. } => Some(place_of(pointer)),
+        Expr::PostIncrement { operand } => outside_expr(hidden, operand),
+        Expr::PostDecrement { operand } => outside_expr(hidden, operand),
         Expr::Prefix {
             operator,
             place,
             operand,
-        } => narrow_prefix(alloc, *operator, *place, operand),
-        Expr::Binary {
-            operator,
-            left,
-            right,
-        } => {
-            let Some(operator) = narrow_binary(*operator) else {
-                return Err(NarrowErr::Later(place_of(left)));
-            };
-            let left = Box::new(alloc, narrow_expr(alloc, left)?)?;
-            let right = Box::new(alloc, narrow_expr(alloc, right)?)?;
-            Ok(c_ast::Expr::Binary {
-                operator,
-                left,
-                right,
-            })
-        }
-        Expr::Assign {
-            operator,
-            object,
-            value,
-        } => {
-            let AssignOperator::Assign = operator else {
-                return Err(NarrowErr::Later(place_of(object)));
-            };
-            let Expr::Named(name) = &**object else {
-                return Err(NarrowErr::Later(place_of(object)));
-            };
-            narrow_assignment(alloc, name, value)
-        }
-        _ => Err(NarrowErr::Later(place_of(expr))),
-    }
-}
-
-/// A call of `getchar` or `putchar`.
-#[cycle(expr)]
-fn narrow_call(alloc: Global, name: &Name, arguments: &[Expr]) -> Result<c_ast::Expr, NarrowErr>
-    ensures ok { IfOk result (λ narrow. library_call (name_tree name.now) (arguments_of (arguments_tree arguments.now)) ≡ Ok (tree.expr_tree narrow)) }
-    ensures err { IfErr result (Stops (library_call (name_tree name.now) (arguments_of (arguments_tree arguments.now)))) }
-{
-    let place = name.place;
-    let name = name.bytes.as_slice();
-    match arguments {
-        [] => {
-            if name != b"getchar".as_slice() {
-                return Err(NarrowErr::Later(place));
-            }
-            Ok(c_ast::Expr::GetChar { place })
-        }
-        [value] => {
-            if name != b"putchar".as_slice() {
-                return Err(NarrowErr::Later(place));
-            }
-            let value = Box::new(alloc, narrow_expr(alloc, value)?)?;
-            Ok(c_ast::Expr::PutChar { place, value })
-        }
-        _ => Err(NarrowErr::Later(place)),
-    }
-}
-
-/// An operator before its operand.
-#[cycle(expr)]
-fn narrow_prefix(
-    alloc: Global,
-    operator: PrefixOperator,
-    place: Pos,
-    operand: &Expr,
-) -> Result<c_ast::Expr, NarrowErr>
-    ensures ok { IfOk result (λ narrow. expr_of (trees.Prefix operator place (expr_tree operand.now)) ≡ Ok (tree.expr_tree narrow)) }
-    ensures err { IfErr result (Stops (expr_of (trees.Prefix operator place (expr_tree operand.now)))) }
-{
-    let Some(operator) = narrow_unary(operator) else {
-        return Err(NarrowErr::Later(place));
-    };
-    let operand = Box::new(alloc, narrow_expr(alloc, operand)?)?;
-    Ok(c_ast::Expr::Unary {
-        operator,
-        place,
-        operand,
-    })
-}
-
-/// An assignment to a variable.
-#[cycle(expr)]
-fn narrow_assignment(alloc: Global, variable: &Name, value: &Expr) -> Result<c_ast::Expr, NarrowErr>
-    ensures ok { IfOk result (λ narrow. expr_of (trees.Assign assign.Assign (trees.Named (name_tree variable.now)) (expr_tree value.now)) ≡ Ok (tree.expr_tree narrow)) }
-    ensures err { IfErr result (Stops (expr_of (trees.Assign assign.Assign (trees.Named (name_tree variable.now)) (expr_tree value.now)))) }
-{
-    let place = variable.place;
-    let name = narrow_variable(alloc, variable)?;
-    let value = Box::new(alloc, narrow_expr(alloc, value)?)?;
-    Ok(c_ast::Expr::Assign { name, place, value })
-}
-
-fn narrow_constant(value: u64, int_type: IntType, place: Pos) -> Result<c_ast::Expr, NarrowErr>
-    ensures ok { IfOk result (λ narrow. constant_of value int_type place ≡ Ok (tree.expr_tree narrow)) }
-    ensures err { IfErr result (Stops (constant_of value int_type place)) }
-{
-    match int_type {
-        IntType::Int if value < INT_END => Ok(c_ast::Expr::Decimal {
-            value: value as u32,
+        } => match operator {
+            PrefixOperator::Address => Some(*place),
+            _ => outside_expr(hidden, operand),
+        },
+        Expr::SizeofExpr { operand, .. } => outside_expr(hidden, operand),
+        Expr::SizeofType { type_name, .. } => outside_type(hidden, type_name),
+        Expr::Cast {
             place,
-        }),
-        _ => Err(NarrowErr::Later(place)),
+            type_name,
+            operand,
+        } => {
+            if !is_plain_type(type_name) {
+                return Some(*place);
+            }
+            outside_expr(hidden, operand)
+        }
+        Expr::Binary { left, right, .. } => {
+            if is_pointer(hidden, expr) {
+                return Some(place_of(left));
+            }
+            match outside_expr(hidden, left) {
+                None => outside_expr(hidden, right),
+                found => found,
+            }
+        }
+        Expr::Conditional {
+            condition,
+            then,
+            otherwise,
+        } => {
+            if is_pointer(hidden, expr) {
+                return Some(place_of(condition));
+            }
+            match outside_expr(hidden, condition) {
+                None => match outside_expr(hidden, then) {
+                    None => outside_expr(hidden, otherwise),
+                    found => found,
+                },
+                found => found,
+            }
+        }
+        Expr::Assign { object, value, .. } => match outside_expr(hidden, object) {
+            None => outside_expr(hidden, value),
+            found => found,
+        },
+    }
+}
+
+#[cycle(expr)]
+fn outside_arguments(hidden: bool, arguments: &[Expr]) -> Option<Pos>
+    ensures { result ≡ outside_arguments hidden (arguments_of arguments.now) }
+{
+    for argument in arguments {
+        if let Some(place) = outside_expr(hidden, argument) {
+            return Some(place);
+        }
+    }
+    None
+}
+
+/// The first node in the name of a type that is outside: one in the lengths of its arrays.
+#[cycle(expr)]
+fn outside_type(hidden: bool, type_name: &TypeName) -> Option<Pos>
+    ensures { result ≡ outside_type hidden (type_tree type_name.now) }
+{
+    outside_optional(hidden, &type_name.declarator)
+}
+
+#[cycle(expr)]
+fn outside_optional(hidden: bool, declarator: &Option<Declarator>) -> Option<Pos>
+    ensures { result ≡ outside_optional hidden (optional_of declarator.now) }
+{
+    match declarator {
+        Some(declarator) => outside_lengths(hidden, declarator),
+        None => None,
+    }
+}
+
+#[cycle(expr)]
+fn outside_lengths(hidden: bool, declarator: &Declarator) -> Option<Pos>
+    ensures { result ≡ outside_lengths hidden (declarator_tree declarator.now) }
+{
+    match outside_direct(hidden, &declarator.direct) {
+        None => outside_suffixes(hidden, declarator.suffixes.as_slice()),
+        found => found,
+    }
+}
+
+#[cycle(expr)]
+fn outside_direct(hidden: bool, direct: &Direct) -> Option<Pos>
+    ensures { result ≡ outside_direct hidden (direct_tree direct.now) }
+{
+    match direct {
+        Direct::Named(_) => None,
+        Direct::Nested(inner) => outside_lengths(hidden, inner),
+        Direct::Nothing => None,
+    }
+}
+
+#[cycle(expr)]
+fn outside_suffixes(hidden: bool, suffixes: &[Suffix]) -> Option<Pos>
+    ensures { result ≡ outside_suffixes hidden (suffixes_of suffixes.now) }
+{
+    for suffix in suffixes {
+        if let Some(place) = outside_suffix(hidden, suffix) {
+            return Some(place);
+        }
+    }
+    None
+}
+
+#[cycle(expr)]
+fn outside_suffix(hidden: bool, suffix: &Suffix) -> Option<Pos>
+    ensures { result ≡ outside_suffixes hidden (suffixes_of (suffix.now ∷ [])) }
+{
+    match suffix {
+        Suffix::Array(length) => outside_value(hidden, length),
+        Suffix::Function(parameters) => outside_parameters(hidden, parameters.as_slice()),
+    }
+}
+
+#[cycle(expr)]
+fn outside_parameters(hidden: bool, parameters: &[Parameter]) -> Option<Pos>
+    ensures { result ≡ outside_parameters hidden (parameters_of parameters.now) }
+{
+    for parameter in parameters {
+        if let Some(place) = outside_optional(hidden, &parameter.declarator) {
+            return Some(place);
+        }
+    }
+    None
+}
+
+/// The first node that is outside of an expression that may be left out.
+#[cycle(expr)]
+pub(crate) fn outside_value(hidden: bool, value: &Option<Expr>) -> Option<Pos>
+    ensures { result ≡ outside_value hidden (value_tree value.now) }
+{
+    match value {
+        Some(value) => outside_expr(hidden, value),
+        None => None,
     }
 }

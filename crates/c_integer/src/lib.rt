@@ -1,18 +1,15 @@
-//! The programs of the integer language, which is what is compiled so far, among those of the whole language.
+//! The place of what is not compiled yet.
 //!
-//! `specs/Narrowing.antt` says which program of the integer language a syntax tree is, or which node of it is first of
-//! another form.
+//! `specs/Outside.antt` says which nodes of a syntax tree are outside the compiled part of the language, and where the first
+//! of them stands.
 #![tactic(auto)]
 
 mod declarations;
 mod expressions;
 mod names;
-mod narrow_err;
-mod operators;
 mod program;
 mod statements;
 #[cfg(test)]
 mod tests;
 
-pub use narrow_err::NarrowErr;
-pub use program::narrow;
+pub use program::first_outside;

@@ -1,32 +1,24 @@
 // Names.
 
-ghost use Rattle.std.specs.Prelude.{◌≡◌, IfOk, IfErr, OnOk};
-ghost use Rattle.c_syntax.specs.Views.{name_tree};
-ghost use Rattle.c_integer.specs.Narrowing.{is_library_name, variable_of};
-ghost use Rattle.c_integer.specs.Stopping.{Stops};
+ghost use Rattle.std.specs.Prelude.{◌≡◌};
+ghost use Rattle.c_syntax.specs.Views.{name_tree, direct_tree, declarator_tree};
+ghost use Rattle.c_integer.specs.Outside.{is_main, declares_main};
 
-use crate::narrow_err::NarrowErr;
-use c_syntax::Name;
-use std::alloc::Global;
+use c_syntax::{Declarator, Direct, Name};
 
-/// The names of the library, which no variable has here.
-const LIBRARY_NAMES: [&[u8]; 5] = [b"malloc", b"free", b"exit", b"getchar", b"putchar"];
-
-fn is_library_name(name: &[u8]) -> bool
-    ensures { result ≡ is_library_name name.now }
+pub(crate) fn is_main(name: &Name) -> bool
+    ensures { result ≡ is_main (name_tree name.now) }
 {
-    LIBRARY_NAMES.contains(&name)
+    name.bytes.as_slice() == b"main".as_slice()
 }
 
-/// The name of a variable, as the trees of the integer language have it.
-pub(crate) fn narrow_variable(alloc: Global, name: &Name) -> Result<c_ast::Name, NarrowErr>
-    ensures ok { OnOk result (variable_of (name_tree name.now) ≡ Ok (name_tree name.now)) }
-    ensures same { IfOk result (λ variable. variable ≡ name.now.bytes) }
-    ensures err { IfErr result (Stops (variable_of (name_tree name.now))) }
+/// Whether a declarator declares the name `main`.
+pub(crate) fn declares_main(declarator: &Declarator) -> bool
+    ensures { result ≡ declares_main (declarator_tree declarator.now) }
 {
-    let bytes = name.bytes.as_slice();
-    if is_library_name(bytes) {
-        return Err(NarrowErr::Later(name.place));
+    match &declarator.direct {
+        Direct::Named(name) => is_main(name),
+        Direct::Nested(inner) => declares_main(inner),
+        Direct::Nothing => false,
     }
-    Ok(c_ast::Name::new(Vec::from_slice(alloc, bytes)?))
 }

@@ -1,104 +1,169 @@
 // Statements and blocks (C17 6.8).
 
-ghost use Rattle.std.specs.Prelude.{◌≡◌, IfOk, IfErr, OnOk};
-ghost use Rattle.c_ast.specs.Syntax as tree;
-ghost use Rattle.c_syntax.specs.Views.{stmt_tree, block_of as block_tree};
-ghost use Rattle.c_integer.specs.Narrowing.{stmt_of, block_of};
-ghost use Rattle.c_integer.specs.Stopping.{Stops, StopsBefore, Extends, item_of};
+ghost use Rattle.std.specs.Prelude.{◌≡◌, [], ◌∷◌};
+ghost use Rattle.c_syntax.specs.Views.{for_tree, stmt_tree, block_of, switch_of};
+ghost use Rattle.c_integer.specs.Outside.{outside_start, hidden_by_start, outside_stmt, outside_block, outside_switch, hidden_by_item};
 
-use crate::declarations::narrow_declaration;
-use crate::expressions::{narrow_expr, place_of};
-use crate::narrow_err::NarrowErr;
-use c_syntax::{BlockItem, Expr, Stmt};
-use std::alloc::Global;
+use crate::declarations::{hidden_behind, outside_declaration};
+use crate::expressions::{outside_expr, outside_value};
+use c_syntax::{BlockItem, ForFirst, Stmt, SwitchItem};
+use run_theory::Pos;
 
-/// The statement of the integer language that a statement is.
+/// What a `for` begins with.
+fn outside_start(hidden: bool, first: &ForFirst) -> Option<Pos>
+    ensures { result ≡ outside_start hidden (for_tree first.now) }
+{
+    match first {
+        ForFirst::Nothing => None,
+        ForFirst::Declaration(declaration) => outside_declaration(hidden, declaration),
+        ForFirst::Expression(value) => outside_expr(hidden, value),
+    }
+}
+
+/// Whether a local hides `main` in the rest of a `for`.
+fn hidden_by_start(hidden: bool, first: &ForFirst) -> bool
+    ensures { result ≡ hidden_by_start hidden (for_tree first.now) }
+{
+    match first {
+        ForFirst::Nothing => hidden,
+        ForFirst::Declaration(declaration) => {
+            hidden_behind(hidden, declaration.declarators.as_slice())
+        }
+        ForFirst::Expression(_) => hidden,
+    }
+}
+
+/// The first node of a statement that is outside.
 #[cycle(stmt)]
-fn narrow_stmt(alloc: Global, stmt: &Stmt) -> Result<c_ast::Stmt, NarrowErr>
-    ensures ok { IfOk result (λ narrow. stmt_of (stmt_tree stmt.now) ≡ Ok (tree.stmt_tree narrow)) }
-    ensures err { IfErr result (Stops (stmt_of (stmt_tree stmt.now))) }
+fn outside_stmt(hidden: bool, stmt: &Stmt) -> Option<Pos>
+    ensures { result ≡ outside_stmt hidden (stmt_tree stmt.now) }
 {
     match stmt {
-        Stmt::Block(block) => Ok(c_ast::Stmt::Block(narrow_block(alloc, &block.items)?)),
-        Stmt::Empty { .. } => Ok(c_ast::Stmt::Empty),
-        Stmt::Expression(value) => Ok(c_ast::Stmt::Expression(narrow_expr(alloc, value)?)),
+        Stmt::Block(block) => outside_block(hidden, block.items.as_slice()),
+        Stmt::Empty { .. } => None,
+        Stmt::Expression(value) => outside_expr(hidden, value),
         Stmt::If {
             condition,
             then,
             ..
-        } => {
-            let condition = narrow_expr(alloc, condition)?;
-            let then = Box::new(alloc, narrow_stmt(alloc, then)?)?;
-            Ok(c_ast::Stmt::If { condition, then })
-        }
+        } => match outside_expr(hidden, condition) {
+            None => outside_stmt(hidden, then),
+            found => found,
+        },
         Stmt::IfElse {
             condition,
             then,
             otherwise,
             ..
-        } => {
-            let condition = narrow_expr(alloc, condition)?;
-            let then = Box::new(alloc, narrow_stmt(alloc, then)?)?;
-            let otherwise = Box::new(alloc, narrow_stmt(alloc, otherwise)?)?;
-            Ok(c_ast::Stmt::IfElse {
-                condition,
-                then,
-                otherwise,
-            })
-        }
+        } => match outside_expr(hidden, condition) {
+            None => match outside_stmt(hidden, then) {
+                None => outside_stmt(hidden, otherwise),
+                found => found,
+            },
+            found => found,
+        },
         Stmt::While {
             condition,
             body,
             ..
-        } => {
-            let condition = narrow_expr(alloc, condition)?;
-            let body = Box::new(alloc, narrow_stmt(alloc, body)?)?;
-            Ok(c_ast::Stmt::While { condition, body })
-        }
-        Stmt::Return {
-            value: Some(value),
+        } => match outside_expr(hidden, condition) {
+            None => outside_stmt(hidden, body),
+            found => found,
+        },
+        Stmt::Do {
+            body,
+            condition,
             ..
-        } => Ok(c_ast::Stmt::Return(narrow_expr(alloc, value)?)),
-        Stmt::Do { place, .. } => Err(NarrowErr::Later(*place)),
-        Stmt::For { place, .. } => Err(NarrowErr::Later(*place)),
-        Stmt::Switch { place, .. } => Err(NarrowErr::Later(*place)),
-        Stmt::Break { place } => Err(NarrowErr::Later(*place)),
-        Stmt::Continue { place } => Err(NarrowErr::Later(*place)),
-        Stmt::Return { place, value: None } => Err(NarrowErr::Later(*place)),
+        } => match outside_stmt(hidden, body) {
+            None => outside_expr(hidden, condition),
+            found => found,
+        },
+        Stmt::For {
+            first,
+            condition,
+            step,
+            body,
+            ..
+        } => {
+            if let Some(place) = outside_start(hidden, first) {
+                return Some(place);
+            }
+            let hidden = hidden_by_start(hidden, first);
+            match outside_value(hidden, condition) {
+                None => match outside_value(hidden, step) {
+                    None => outside_stmt(hidden, body),
+                    found => found,
+                },
+                found => found,
+            }
+        }
+        Stmt::Switch { value, items, .. } => match outside_expr(hidden, value) {
+            None => outside_switch(hidden, items.as_slice()),
+            found => found,
+        },
+        Stmt::Break { .. } => None,
+        Stmt::Continue { .. } => None,
+        Stmt::Return { value, .. } => outside_value(hidden, value),
     }
 }
 
-/// The items of a block, as those of the integer language.
+/// The first node of a block that is outside.
 #[cycle(stmt)]
-pub(crate) fn narrow_block(
-    alloc: Global,
-    items: &[BlockItem],
-) -> Result<Vec<c_ast::BlockItem>, NarrowErr>
-    ensures ok { IfOk result (λ narrow. block_of (block_tree items.now) ≡ Ok (tree.items_tree narrow.items)) }
-    ensures err { IfErr result (Stops (block_of (block_tree items.now))) }
+pub(crate) fn outside_block(hidden: bool, items: &[BlockItem]) -> Option<Pos>
+    ensures { result ≡ outside_block hidden (block_of items.now) }
 {
-    let mut narrow = Vec::new(alloc);
+    let mut hidden = hidden;
     for item in items {
-        narrow_item(alloc, item, &mut narrow)?;
+        if let Some(place) = outside_block_item(hidden, item) {
+            return Some(place);
+        }
+        hidden = hidden_by_item(hidden, item);
     }
-    Ok(narrow)
+    None
 }
 
-/// Adds what an item of a block is to those of the integer language.
 #[cycle(stmt)]
-fn narrow_item(
-    alloc: Global,
-    item: &BlockItem,
-    items: &mut Vec<c_ast::BlockItem>,
-) -> Result<(), NarrowErr>
-    ensures ok { OnOk result (Extends (item_of item.now) items.old.items items.new.items) }
-    ensures err { IfErr result (StopsBefore (item_of item.now)) }
+fn outside_block_item(hidden: bool, item: &BlockItem) -> Option<Pos>
+    ensures { result ≡ outside_block hidden (block_of (item.now ∷ [])) }
 {
     match item {
-        BlockItem::Declaration(declaration) => narrow_declaration(alloc, declaration, items),
-        BlockItem::Statement(stmt) => {
-            let stmt = narrow_stmt(alloc, stmt)?;
-            Ok(items.push(c_ast::BlockItem::Statement(stmt))?)
+        BlockItem::Declaration(declaration) => outside_declaration(hidden, declaration),
+        BlockItem::Statement(stmt) => outside_stmt(hidden, stmt),
+    }
+}
+
+/// Whether a local hides `main` behind an item of a block.
+fn hidden_by_item(hidden: bool, item: &BlockItem) -> bool
+    ensures { result ≡ hidden_by_item hidden item.now }
+{
+    match item {
+        BlockItem::Declaration(declaration) => {
+            hidden_behind(hidden, declaration.declarators.as_slice())
         }
+        BlockItem::Statement(_) => hidden,
+    }
+}
+
+/// The first node in the braces of a `switch` that is outside.
+#[cycle(stmt)]
+fn outside_switch(hidden: bool, items: &[SwitchItem]) -> Option<Pos>
+    ensures { result ≡ outside_switch hidden (switch_of items.now) }
+{
+    for item in items {
+        if let Some(place) = outside_switch_item(hidden, item) {
+            return Some(place);
+        }
+    }
+    None
+}
+
+#[cycle(stmt)]
+fn outside_switch_item(hidden: bool, item: &SwitchItem) -> Option<Pos>
+    ensures { result ≡ outside_switch hidden (switch_of (item.now ∷ [])) }
+{
+    match item {
+        SwitchItem::Case { value, .. } => outside_expr(hidden, value),
+        SwitchItem::Default { .. } => None,
+        SwitchItem::Statement(stmt) => outside_stmt(hidden, stmt),
     }
 }

@@ -46,35 +46,37 @@ fn returned(value: Expr, column: u32) -> BlockItem {
     })
 }
 
-// A variable `int` that is declared at column 18, behind so many stars.
-fn declared(
-    alloc: Global,
-    bytes: &[u8],
-    stars: usize,
-    column: u32,
-) -> Result<InitDeclarator, Fail> {
+// A variable of type `int` behind so many stars, whose words stand at column 18.
+fn declaration(alloc: Global, bytes: &[u8], stars: usize, column: u32) -> Result<BlockItem, Fail> {
     let declarator = Declarator {
         stars,
         direct: Direct::Named(name(alloc, bytes, column)?),
         suffixes: Vec::new(alloc),
     };
-    Ok(InitDeclarator {
+    let mut declarators = Vec::new(alloc);
+    declarators.push(InitDeclarator {
         declarator,
         init: None,
-    })
-}
-
-fn declaration(alloc: Global, declarator: InitDeclarator) -> Result<BlockItem, Fail> {
-    let mut declarators = Vec::new(alloc);
-    declarators.push(declarator)?;
+    })?;
     Ok(BlockItem::Declaration(Declaration {
         simple: int(18),
         declarators,
     }))
 }
 
-// `int main(void)` and its block, which begins at column 16
-fn main_item(alloc: Global, items: Vec<BlockItem>) -> Result<Item, Fail> {
+// A call of the function at column 25, with an argument at column 33.
+fn call(alloc: Global, function: &[u8]) -> Result<Expr, Fail> {
+    let mut arguments = Vec::new(alloc);
+    arguments.push(constant(3, 33))?;
+    Ok(Expr::Call {
+        function: Box::new(alloc, Expr::Named(name(alloc, function, 25)?))?,
+        open: at(32),
+        arguments,
+    })
+}
+
+// `int NAME(void)` and its block, which begins at column 16
+fn function(alloc: Global, bytes: &[u8], items: Vec<BlockItem>) -> Result<Item, Fail> {
     let mut parameters = Vec::new(alloc);
     parameters.push(Parameter {
         simple: words(SimpleKind::Void, 10),
@@ -86,7 +88,7 @@ fn main_item(alloc: Global, items: Vec<BlockItem>) -> Result<Item, Fail> {
         base: Base::Simple(int(1)),
         declarator: Declarator {
             stars: 0,
-            direct: Direct::Named(name(alloc, b"main".as_slice(), 5)?),
+            direct: Direct::Named(name(alloc, bytes, 5)?),
             suffixes,
         },
         body: Block {
@@ -96,91 +98,73 @@ fn main_item(alloc: Global, items: Vec<BlockItem>) -> Result<Item, Fail> {
     })
 }
 
-// What becomes of a program whose end stands at column 99: `ok`, or why it stops.
-fn answer(alloc: Global, item: Option<Item>) -> Result<String, Fail> {
-    let mut items = Vec::new(alloc);
-    if let Some(item) = item {
-        items.push(item)?;
-    }
-    let program = Program { items, end: at(99) };
-    match narrow(alloc, program) {
-        Ok(_) => Ok(String::from_str(alloc, "ok")?),
-        Err(err) => Ok(format!(in alloc; "{err}")?),
-    }
-}
-
-// What becomes of `int main(void) { item }`.
-fn in_main(alloc: Global, item: BlockItem) -> Result<String, Fail> {
+// What is outside in a program of one item.
+fn alone(alloc: Global, item: Item) -> Result<Option<Pos>, Fail> {
     let mut items = Vec::new(alloc);
     items.push(item)?;
-    let main = main_item(alloc, items)?;
-    answer(alloc, Some(main))
+    let program = Program { items, end: at(99) };
+    Ok(first_outside(&program))
+}
+
+// What is outside in `int main(void) { item }`.
+fn in_main(alloc: Global, item: BlockItem) -> Result<Option<Pos>, Fail> {
+    let mut items = Vec::new(alloc);
+    items.push(item)?;
+    let main = function(alloc, b"main".as_slice(), items)?;
+    alone(alloc, main)
 }
 
 #[test]
-fn programs_are_main_alone(rt: HostRuntime) -> Result<(), Fail> {
+fn main_alone_is_inside(rt: HostRuntime) -> Result<(), Fail> {
     let alloc = rt.alloc();
-    assert_eq!(rt; answer(alloc, None)?.as_str(), "no main at 1:99");
     let global = Item::Declaration {
         base: Base::Simple(int(1)),
         declarators: Vec::new(alloc),
     };
-    assert_eq!(rt;
-        answer(alloc, Some(global))?.as_str(),
-        "another form at 1:1"
-    );
+    assert_eq!(rt; alone(alloc, global)?, Some(at(1)));
+    let other = function(alloc, b"f".as_slice(), Vec::new(alloc))?;
+    assert_eq!(rt; alone(alloc, other)?, Some(at(1)));
     // int main(void) { return 0; }
-    let zero = returned(constant(0, 25), 18);
-    assert_eq!(rt; in_main(alloc, zero)?.as_str(), "ok");
+    assert_eq!(rt; in_main(alloc, returned(constant(0, 25), 18))?, None);
     Ok(())
 }
 
 #[test]
-fn declarations_are_of_int(rt: HostRuntime) -> Result<(), Fail> {
+fn variables_are_integers(rt: HostRuntime) -> Result<(), Fail> {
     let alloc = rt.alloc();
     // int main(void) { int p; }
-    let plain = declaration(alloc, declared(alloc, b"p".as_slice(), 0, 22)?)?;
-    assert_eq!(rt; in_main(alloc, plain)?.as_str(), "ok");
+    let plain = declaration(alloc, b"p".as_slice(), 0, 22)?;
+    assert_eq!(rt; in_main(alloc, plain)?, None);
     // int main(void) { int *p; }
-    let pointer = declaration(alloc, declared(alloc, b"p".as_slice(), 1, 23)?)?;
-    assert_eq!(rt; in_main(alloc, pointer)?.as_str(), "another form at 1:18");
-    // int main(void) { int exit; }
-    let library = declaration(alloc, declared(alloc, b"exit".as_slice(), 0, 22)?)?;
-    assert_eq!(rt; in_main(alloc, library)?.as_str(), "another form at 1:22");
+    let pointer = declaration(alloc, b"p".as_slice(), 1, 23)?;
+    assert_eq!(rt; in_main(alloc, pointer)?, Some(at(18)));
     Ok(())
 }
 
 #[test]
-fn other_forms_come_later(rt: HostRuntime) -> Result<(), Fail> {
+fn pointers_are_outside(rt: HostRuntime) -> Result<(), Fail> {
     let alloc = rt.alloc();
-    // int main(void) { return x[0]; }
-    let index = Expr::Index {
-        array: Box::new(alloc, Expr::Named(name(alloc, b"x".as_slice(), 25)?))?,
-        index: Box::new(alloc, constant(0, 27))?,
-    };
-    assert_eq!(rt;
-        in_main(alloc, returned(index, 18))?.as_str(),
-        "another form at 1:25"
-    );
-    // int main(void) { return 1 << 2; }
-    let shift = Expr::Binary {
-        operator: BinaryOperator::ShiftLeft,
+    // int main(void) { return exit(3); }
+    let exit = call(alloc, b"exit".as_slice())?;
+    assert_eq!(rt; in_main(alloc, returned(exit, 18))?, None);
+    // int main(void) { return malloc(3); }
+    let malloc = call(alloc, b"malloc".as_slice())?;
+    assert_eq!(rt; in_main(alloc, returned(malloc, 18))?, Some(at(25)));
+    // int main(void) { return 1 == NULL; }
+    let equal = Expr::Binary {
+        operator: BinaryOperator::Equal,
         left: Box::new(alloc, constant(1, 25))?,
-        right: Box::new(alloc, constant(2, 30))?,
+        right: Box::new(alloc, Expr::Null { place: at(30) })?,
     };
-    assert_eq!(rt;
-        in_main(alloc, returned(shift, 18))?.as_str(),
-        "another form at 1:25"
-    );
-    // int main(void) { for (;;) ; }
+    assert_eq!(rt; in_main(alloc, returned(equal, 18))?, Some(at(30)));
+    // int main(void) { for (;;) break; }
     let forever = Stmt::For {
         place: at(18),
         first: ForFirst::Nothing,
         condition: None,
         step: None,
-        body: Box::new(alloc, Stmt::Empty { place: at(27) })?,
+        body: Box::new(alloc, Stmt::Break { place: at(27) })?,
     };
-    let forever = BlockItem::Statement(forever);
-    assert_eq!(rt; in_main(alloc, forever)?.as_str(), "another form at 1:18");
+    assert_eq!(rt; in_main(alloc, BlockItem::Statement(forever))?, None);
     Ok(())
 }

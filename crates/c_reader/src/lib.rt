@@ -16,8 +16,6 @@ mod stars;
 mod statement;
 mod syntax_err;
 mod term;
-#[cfg(test)]
-mod tests;
 mod token;
 mod words;
 

@@ -11,7 +11,7 @@ use Rattle.pool_isa.proofs.Numbers.{same_number}
 use Rattle.image_form.specs.declared.image.ImageErr.{ImageErr}
 use Rattle.image_form.specs.declared.image.ImageErr.TheVariants.{Bad, OutOfMemory}
 use Rattle.image_form.specs.declared.image.MachineLimits.{MachineLimits}
-use Rattle.image_form.specs.declared.image.PoolKind.{PoolKind}
+use Rattle.slab_space.specs.declared.kind.PoolKind.{PoolKind}
 use Rattle.image_form.specs.declared.reading.Header.{Header}
 use Rattle.image_form.specs.Form.{Form, kind_bytes, function_bytes, counted, contents_bytes, image_bytes, IsContents, IsKind, IsImage, ImageOf}
 use Rattle.image_form.specs.Faults.{IsBadAt, IsBad}

@@ -9,8 +9,8 @@ use Rattle.pool_isa.specs.Ranges.{IsWithin}
 use Rattle.pool_isa.specs.Spelling.{StandsAt}
 use Rattle.pool_isa.proofs.Faults.{stands_then}
 use Rattle.pool_isa.proofs.Numbers.{number_bytes-small, same_number}
-use Rattle.image_form.specs.declared.image.PoolKind.{PoolKind}
-use Rattle.image_form.specs.declared.image.PoolKind.TheVariants.{Mixed, Homogeneous}
+use Rattle.slab_space.specs.declared.kind.PoolKind.{PoolKind}
+use Rattle.slab_space.specs.declared.kind.PoolKind.TheVariants.{Mixed, Homogeneous}
 use Rattle.image_form.specs.declared.image.ImageErr.{ImageErr}
 use Rattle.image_form.specs.Form.{kind_bytes, counted, IsKind}
 use Rattle.image_form.specs.Reading.{Spelled, Refuses, Finds, EachFrom, IsHomogeneous, homogeneous_bytes, IsSomeKinds, IsKinds, kinds_of, kinds_bytes}

@@ -6,8 +6,8 @@ use Rattle.pool_isa.specs.Number.{number_bytes}
 use Rattle.pool_isa.specs.Machine as machine
 use Rattle.pool_isa.specs.Ranges.{IsWithin, IsFunction}
 use Rattle.image_form.specs.declared.image.MachineLimits.{MachineLimits}
-use Rattle.image_form.specs.declared.image.PoolKind.{PoolKind}
-use Rattle.image_form.specs.declared.image.PoolKind.TheVariants.{Mixed, Homogeneous}
+use Rattle.slab_space.specs.declared.kind.PoolKind.{PoolKind}
+use Rattle.slab_space.specs.declared.kind.PoolKind.TheVariants.{Mixed, Homogeneous}
 use Rattle.image_form.specs.declared.image.Function.{Function}
 use Rattle.image_form.specs.declared.image.Image.{Image}
 
@@ -19,6 +19,10 @@ pub record Form : Type 0 where
   pub contents : List ℕ
   pub kinds : List PoolKind
   pub functions : List machine.Function
+
+-- what is run of an image
+abbrev pub code_of : Form → machine.Code
+code_of form = record { functions = form.functions; kinds = form.kinds; globals = form.globals; contents = form.contents }
 
 abbrev pub function_of : Function → machine.Function
 function_of function =

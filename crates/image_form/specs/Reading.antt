@@ -15,8 +15,8 @@ use Rattle.image_form.specs.declared.code.Reference.TheVariants.{Jump, JumpIfZer
 use Rattle.image_form.specs.declared.functions.Head.{Head}
 use Rattle.image_form.specs.declared.reading.Header.{Header}
 use Rattle.image_form.specs.declared.image.Function.{Function}
-use Rattle.image_form.specs.declared.image.PoolKind.{PoolKind}
-use Rattle.image_form.specs.declared.image.PoolKind.TheVariants.{Mixed, Homogeneous}
+use Rattle.slab_space.specs.declared.kind.PoolKind.{PoolKind}
+use Rattle.slab_space.specs.declared.kind.PoolKind.TheVariants.{Mixed, Homogeneous}
 use Rattle.image_form.specs.declared.image.ImageErr.{ImageErr}
 use Rattle.image_form.specs.declared.image.ImageErr.TheVariants.{Bad, OutOfMemory}
 use Rattle.image_form.specs.Form.{Form, function_of, function_bytes, kind_bytes, BeginsWithStart, EndsNonzero, IsKind}

@@ -1,6 +1,7 @@
 // What an image holds.
 
 use pool_isa::Instr;
+use slab_space::PoolKind;
 use thiserror::Error;
 
 /// The limits within which an image runs.
@@ -10,21 +11,6 @@ pub struct MachineLimits {
     pub slabs: u32,
     /// How many cells an indexed pool may have: 1 to 4,294,967,295.
     pub index: u32,
-}
-
-/// A kind of pool.
-#[derive(Clone, Copy, Debug, PartialEq, Eq)]
-pub enum PoolKind {
-    /// Objects of any size.
-    Mixed,
-    /// Cells of one size for objects of one size, which links may name by their number.
-    Homogeneous {
-        /// The object's size in the source, in bytes: 1 to 1,048,576.
-        source: u32,
-        /// The cell's size in bytes: a multiple of 4 up to 1,048,576.
-        cell: u32,
-        indexed: bool,
-    },
 }
 
 /// The globals: their first contents, then zeros up to the size in bytes.

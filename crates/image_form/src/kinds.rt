@@ -4,8 +4,9 @@ ghost use Rattle.std.specs.Prelude.{◌≤◌, length};
 ghost use Rattle.image_form.specs.Form.{kind_bytes, counted, IsKind};
 ghost use Rattle.image_form.specs.Reading.{Finds, IsHomogeneous, homogeneous_bytes, IsKinds, IsSomeKinds, kinds_of, kinds_bytes};
 
-use crate::image::{ImageErr, PoolKind};
+use crate::image::ImageErr;
 use crate::number::{number_within, small_number};
+use slab_space::PoolKind;
 use std::alloc::Global;
 
 // What follows the first byte of a kind with cells of one size.
@@ -26,8 +27,8 @@ fn homogeneous(bytes: &[u8], at: usize) -> Result<(PoolKind, usize), ImageErr>
         Err(fault) => return Err(fault),
     };
     let kind = PoolKind::Homogeneous {
-        source,
-        cell: 4 * words,
+        source: u64::from(source),
+        cell: u64::from(4 * words),
         indexed,
     };
     Ok((kind, at))

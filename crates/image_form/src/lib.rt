@@ -10,9 +10,10 @@ mod number;
 mod reading;
 mod writing;
 
-pub use image::{Function, Globals, Image, ImageErr, MachineLimits, PoolKind};
+pub use image::{Function, Globals, Image, ImageErr, MachineLimits};
 pub use laws::{no_image_begins_another, one_image};
 pub use reading::from_bytes;
+pub use slab_space::PoolKind;
 pub use writing::to_bytes;
 
 #[cfg(test)]

@@ -4,8 +4,9 @@ ghost use Rattle.std.specs.Prelude.{◌≡◌, ◌++◌, map, IfOk, OnOk};
 ghost use Rattle.pool_isa.specs.Instr.{spelling};
 ghost use Rattle.image_form.specs.Form.{form_of, function_of, function_bytes, kind_bytes, counted, header_bytes, contents_bytes, image_bytes};
 
-use crate::image::{Function, Image, PoolKind};
+use crate::image::{Function, Image};
 use pool_isa::{Instr, append, append_number};
+use slab_space::PoolKind;
 use std::alloc::{AllocError, Global};
 
 /// The bytes of an image.
@@ -59,8 +60,8 @@ fn append_kind(bytes: &mut Vec<u8>, kind: PoolKind) -> Result<(), AllocError>
             indexed,
         } => {
             bytes.push(1)?;
-            append_number(bytes, u64::from(source))?;
-            append_number(bytes, u64::from(cell / 4))?;
+            append_number(bytes, source)?;
+            append_number(bytes, cell / 4)?;
             bytes.push(u8::from(indexed))?;
         }
     }

@@ -2,9 +2,13 @@ pub mod Lists
 pub mod Frames
 pub mod Values
 pub mod Entry
+pub mod Accesses
+pub mod Calling
 pub mod Returning
 pub mod Written
+pub mod Pooling
 pub mod Performing
 pub mod Moves
 pub mod Running
+pub mod Reports
 pub mod Mach

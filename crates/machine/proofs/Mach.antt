@@ -1,19 +1,30 @@
 -- What a run that was carried out says of the machine's meaning.
-use Rattle.std.proofs.Common.{◌≡◌, ℕ, ◌≤◌, List, ◌++◌, Option, Some}
-use Rattle.run_theory.specs.Runs.{Trace, output_of, Final, Going, Over}
-use Rattle.pool_isa.specs.Machine.{Function, State, act, initial, mach}
+use Rattle.std.proofs.Common.{◌≡◌, ℕ, suc, ◌≤◌, List, ◌++◌, Option, Some, ap, ◌∙◌, arith}
+use Rattle.run_theory.specs.Runs.{Trace, output_of, Final, Going, Over, Halt}
+use Rattle.run_theory.specs.Moves.{then_move, moves}
+use Rattle.pool_isa.specs.Machine.{Code, Activation, Heap, State, act, initial, mach}
 use Rattle.machine.specs.Run.{HaltsAt, ComesTo, BreaksOff}
-use Rattle.machine.proofs.Moves.{over_from_halt, going_from_to}
+use Rattle.machine.proofs.Moves.{moves-suc, halted_stays, over_from_halt, going_from_to}
 
-module _ (functions : List Function) (input base : List ℕ) (steps : ℕ) (left written : Option (List ℕ)) where
+module _ (code : Code) (slabs index : ℕ) (input base : List ℕ) (steps : ℕ) (heap : Heap) (left written : Option (List ℕ)) where
+  -- where the run that halted stands still
+  stands_still : (final : Final) (made : ℕ) (h : HaltsAt code (initial code slabs index input) base steps final made heap left written) → moves (act code) steps (initial code slabs index input) ≡ Halt final h.last
+  stands_still final made h =
+      let first = initial code slabs index input in
+      let halts = moves-suc (act code) h.before first ∙ ap (then_move (act code)) h.comes ∙ h.halts in
+      halted_stays (act code) (suc h.before) steps first h.last final (omega (arith, h.count, h.within)) halts
+
   -- a run that is over
-  pub mach_over : (final : Final) → HaltsAt functions (initial functions input) base steps final left written → (trace : Trace) × (mach functions input steps ≡ Over final trace) × (written ≡ Some (base ++ output_of trace))
-  mach_over final h = (h.last.trace, over_from_halt (act functions) (λ (s : State). s.trace) steps (initial functions input) h.last final h.halts, h.left_at.1)
+  pub mach_over : (final : Final) (made : ℕ) → HaltsAt code (initial code slabs index input) base steps final made heap left written
+      → (trace : Trace) × (mach code slabs index input steps ≡ Over final trace) × (written ≡ Some (base ++ output_of trace))
+  mach_over final made h = (h.last.trace, over_from_halt (act code) (λ (s : State). s.trace) steps (initial code slabs index input) h.last final (stands_still final made h), h.left_at.1)
 
   -- a run that has come so far
-  pub mach_going : ComesTo functions (initial functions input) base steps left written → (trace : Trace) × (mach functions input steps ≡ Going trace) × (written ≡ Some (base ++ output_of trace))
-  mach_going h = (h.last.trace, going_from_to (act functions) (λ (s : State). s.trace) steps (initial functions input) h.last h.comes, h.left_at.1)
+  pub mach_going : (activations : List Activation) → ComesTo code (initial code slabs index input) base steps activations heap left written
+      → (trace : Trace) × (mach code slabs index input steps ≡ Going trace) × (written ≡ Some (base ++ output_of trace))
+  mach_going activations h = (h.last.trace, going_from_to (act code) (λ (s : State). s.trace) steps (initial code slabs index input) h.last h.comes, h.left_at.1)
 
   -- a run that was broken off
-  pub mach_broken : BreaksOff functions (initial functions input) base steps left written → (made : ℕ) × (trace : Trace) × (made ≤ steps) × (mach functions input made ≡ Going trace) × (written ≡ Some (base ++ output_of trace))
-  mach_broken h = (h.made, h.comes.last.trace, h.within, going_from_to (act functions) (λ (s : State). s.trace) h.made (initial functions input) h.comes.last h.comes.comes, h.comes.left_at.1)
+  pub mach_broken : (made : ℕ) (activations : List Activation) → BreaksOff code (initial code slabs index input) base steps made activations heap left written
+      → (made : ℕ) × (trace : Trace) × (made ≤ steps) × (mach code slabs index input made ≡ Going trace) × (written ≡ Some (base ++ output_of trace))
+  mach_broken made activations h = (made, h.comes.last.trace, h.within, going_from_to (act code) (λ (s : State). s.trace) made (initial code slabs index input) h.comes.last h.comes.comes, h.comes.left_at.1)

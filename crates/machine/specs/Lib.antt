@@ -1,2 +1,4 @@
 pub mod Steps
+pub mod Heaps
 pub mod Run
+pub mod Loaded

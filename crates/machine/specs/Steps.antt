@@ -1,24 +1,37 @@
 -- What one step of the machine does, and what holds of the activations throughout.
-use Rattle.std.specs.Prelude.{◌≡◌, ℕ, ◌+◌, ◌*◌, ◌^◌, ◌≤◌, List, [], ◌∷◌, ◌++◌, length, Option, Some}
+use Rattle.std.specs.Prelude.{◌≡◌, ℕ, ◌+◌, ◌*◌, ◌^◌, ◌≤◌, Bool, IsTrue, IsFalse, List, [], ◌∷◌, ◌++◌, length, option_map, Option, Some, None}
+use Rattle.byteorder.specs.Endian.{little_bytes, little_number}
 use Rattle.run_theory.specs.Runs as runs
 use Rattle.run_theory.specs.Runs.{Trace, output_of, Move, To, Halt, Final}
 use Rattle.pool_isa.specs.declared.instr.Instr.{Instr}
 use Rattle.pool_isa.specs.declared.instr.Instr.TheVariants as instrs
-use Rattle.pool_isa.specs.Machine.{Function, Activation, State, advanced, input_word, after_next, next_start, perform}
+use Rattle.pool_isa.specs.Machine.{Function, Code, Activation, Heap, History, State, bytes_at, with_bytes_at, heap_word, with_heap_word, advanced, input_word, after_next, next_start, perform}
+use Rattle.machine.specs.declared.ends.RunEnd.{RunEnd}
 use Rattle.machine.specs.declared.ends.RunEnd.TheVariants as ends
 use Rattle.machine.specs.declared.ends.Step.{Step}
 use Rattle.machine.specs.declared.ends.Step.TheVariants.{On, Over}
 
--- the state of these activations, with this input left and this trace
-abbrev pub state_of : List Activation → List ℕ → Trace → State
-state_of activations input trace = record { activations = activations; input = input; trace = trace }
+-- the state of these activations and this heap, with this history, this input left and this trace
+abbrev pub state_of : List Activation → Heap → History → List ℕ → Trace → State
+state_of activations heap history input trace = record { activations = activations; heap = heap; history = history; input = input; trace = trace }
 
 -- the left input and the written bytes, where a source and a sink tell them, are those of the state
 abbrev pub LeftAt : List ℕ → State → Option (List ℕ) → Option (List ℕ) → Type 0
 LeftAt base state left written = (left ≡ Some state.input) × (written ≡ Some (base ++ output_of state.trace))
 
--- The move that the machine's meaning makes from a state is the one that a step made, which touched neither input nor
--- output and left these activations. A step that lacked memory left those that there were.
+-- the end of a run that the machine's meaning has, too; the others break it off
+abbrev pub final_of : RunEnd → Option Final
+final_of (ends.Ended status) = Some (runs.Ended status)
+final_of ends.Depth = Some runs.DepthReached
+final_of ends.HeapExhausted = Some runs.HeapExhausted
+final_of ends.IndexExhausted = Some runs.IndexExhausted
+final_of (ends.Trapped kind) = Some (runs.Trapped kind)
+final_of _ = None
+
+-- ---- instructions of the innermost activation alone
+
+-- The move that the machine's meaning makes from a state is the one that a step made, which touched the activations alone. A
+-- step that lacked memory left those that there were.
 abbrev pub Makes : Move State → State → Step → List Activation → Type 0
 Makes move old On new = move ≡ To (record old { activations = new })
 Makes move old (Over (ends.Ended status)) new = move ≡ Halt (runs.Ended status) old
@@ -30,6 +43,31 @@ Makes move old (Over ends.OutOfMemory) new = new ≡ old.activations
 Makes move old (Over ends.StepsSpent) new = ⊥
 Makes move old (Over ends.ReadFault) new = ⊥
 Makes move old (Over ends.WriteFault) new = ⊥
+
+-- an instruction that concerns the innermost activation alone: neither its caller nor memory, pools, input or output
+abbrev pub IsAlone : Instr → Type 0
+IsAlone (instrs.Load type) = ⊥
+IsAlone (instrs.Store width) = ⊥
+IsAlone instrs.LoadLink = ⊥
+IsAlone instrs.StoreLink = ⊥
+IsAlone (instrs.Call callee) = ⊥
+IsAlone (instrs.CallIndirect signature) = ⊥
+IsAlone instrs.Return = ⊥
+IsAlone instrs.ReturnValue = ⊥
+IsAlone (instrs.PoolInit kind) = ⊥
+IsAlone instrs.PoolDestroy = ⊥
+IsAlone instrs.PoolAlloc = ⊥
+IsAlone instrs.PoolFree = ⊥
+IsAlone instrs.GetChar = ⊥
+IsAlone instrs.PutChar = ⊥
+IsAlone _ = Unit {0}
+
+-- An instruction that concerns the innermost activation alone was performed as the machine's meaning says, whatever else there is.
+abbrev pub PerformsAlone : Function → Instr → Activation → Step → Activation → Type 0
+PerformsAlone function instr old result new =
+    (code : Code) (callers : List Activation) (heap : Heap) (history : History) (input : List ℕ) (trace : Trace) → Makes (perform (Some instr) code function old callers (state_of (old ∷ callers) heap history input trace)) (state_of (old ∷ callers) heap history input trace) result (new ∷ callers)
+
+-- ---- instructions that touch neither input nor output
 
 -- the activations of a machine: there is always an innermost one
 pub record CallStack : Type 0 where
@@ -45,63 +83,116 @@ IsInside instrs.GetChar = ⊥
 IsInside instrs.PutChar = ⊥
 IsInside _ = Unit {0}
 
+-- an instruction on pools
+abbrev pub IsOfPools : Instr → Type 0
+IsOfPools (instrs.PoolInit kind) = Unit {0}
+IsOfPools instrs.PoolDestroy = Unit {0}
+IsOfPools instrs.PoolAlloc = Unit {0}
+IsOfPools instrs.PoolFree = Unit {0}
+IsOfPools _ = ⊥
+
+-- the first that there is
+abbrev pub first_of : {X : Type 0} → Option X → Option X → Option X
+first_of (Some x) other = Some x
+first_of None other = other
+
+-- the number in the bytes of a range that may be read
+abbrev pub fetched : List Activation → Heap → ℕ → ℕ → Option ℕ
+fetched activations heap address size = first_of (option_map (little_number size) (bytes_at activations address size)) (heap_word heap address size)
+
+-- what a write of the lowest bytes of a word leaves: in a frame, else in the heap; or the range may not be written
+abbrev pub PutsIn : Option (List Activation) → Option Heap → Bool → List Activation → Heap → List Activation → Heap → Type 0
+PutsIn (Some frames) changed result activations heap activations' heap' = IsTrue result × (activations' ≡ frames) × (heap' ≡ heap)
+PutsIn None (Some changed) result activations heap activations' heap' = IsTrue result × (activations' ≡ activations) × (heap' ≡ changed)
+PutsIn None None result activations heap activations' heap' = IsFalse result × (activations' ≡ activations) × (heap' ≡ heap)
+
+abbrev pub Puts : List Activation → Heap → ℕ → ℕ → ℕ → Bool → List Activation → Heap → Type 0
+Puts activations heap address size word result activations' heap' =
+    PutsIn (with_bytes_at activations address (little_bytes size word)) (with_heap_word heap address size word) result activations heap activations' heap'
+
+-- the machine goes on with these activations and this heap, and has neither read nor written
+pub record GoesInside (move : Move State) (old : State) (activations : List Activation) (heap : Heap) : Type 0 where
+  pub next : State
+  pub goes : move ≡ To next
+  pub frames : next.activations ≡ activations
+  pub heap_is : next.heap ≡ heap
+  pub input : next.input ≡ old.input
+  pub output : output_of next.trace ≡ output_of old.trace
+
+-- the machine halts, and its heap is as it was
+pub record HaltsInside (move : Move State) (final : Final) (old : State) (heap : Heap) : Type 0 where
+  pub halts : move ≡ Halt final old
+  pub heap_is : heap ≡ old.heap
+
+-- the step could not be made, and nothing has changed
+pub record StaysInside (old : State) (activations : List Activation) (heap : Heap) : Type 0 where
+  pub frames : activations ≡ old.activations
+  pub heap_is : heap ≡ old.heap
+
+-- The move from a state is the one that a step made, which touched neither input nor output.
+abbrev pub MakesInside : Move State → State → Step → List Activation → Heap → Type 0
+MakesInside move old On activations heap = GoesInside move old activations heap
+MakesInside move old (Over (ends.Ended status)) activations heap = HaltsInside move (runs.Ended status) old heap
+MakesInside move old (Over ends.Depth) activations heap = HaltsInside move runs.DepthReached old heap
+MakesInside move old (Over ends.HeapExhausted) activations heap = HaltsInside move runs.HeapExhausted old heap
+MakesInside move old (Over ends.IndexExhausted) activations heap = HaltsInside move runs.IndexExhausted old heap
+MakesInside move old (Over (ends.Trapped kind)) activations heap = HaltsInside move (runs.Trapped kind) old heap
+MakesInside move old (Over ends.OutOfMemory) activations heap = StaysInside old activations heap
+MakesInside move old (Over ends.StepsSpent) activations heap = ⊥
+MakesInside move old (Over ends.ReadFault) activations heap = ⊥
+MakesInside move old (Over ends.WriteFault) activations heap = ⊥
+
 -- An instruction, which touches neither input nor output, was performed as the machine's meaning says.
-abbrev pub Performs : List Function → Function → Instr → CallStack → Step → CallStack → Type 0
-Performs functions function instr old result new =
-    (input : List ℕ) (trace : Trace) → Makes (perform (Some instr) functions function old.innermost old.callers (state_of (activations_of old) input trace)) (state_of (activations_of old) input trace) result (activations_of new)
+abbrev pub Performs : Code → Function → Instr → CallStack → Heap → Step → CallStack → Heap → Type 0
+Performs code function instr old heap result new heap' =
+    (history : History) (input : List ℕ) (trace : Trace) → MakesInside (perform (Some instr) code function old.innermost old.callers (state_of (activations_of old) heap history input trace)) (state_of (activations_of old) heap history input trace) result (activations_of new) heap'
 
--- an instruction that concerns the innermost activation alone: neither its caller nor memory, input or output
-abbrev pub IsAlone : Instr → Type 0
-IsAlone (instrs.Load type) = ⊥
-IsAlone (instrs.Store width) = ⊥
-IsAlone (instrs.Call callee) = ⊥
-IsAlone instrs.Return = ⊥
-IsAlone instrs.ReturnValue = ⊥
-IsAlone instrs.GetChar = ⊥
-IsAlone instrs.PutChar = ⊥
-IsAlone _ = Unit {0}
+-- The same of an instruction that concerns the innermost activation and the pools, whatever callers there are.
+abbrev pub PerformsInPools : Code → Function → Instr → Activation → Heap → Step → Activation → Heap → Type 0
+PerformsInPools code function instr old heap result new heap' =
+    (callers : List Activation) → Performs code function instr (record { innermost = old; callers = callers }) heap result (record { innermost = new; callers = callers }) heap'
 
--- The same of an instruction that concerns the innermost activation alone, whatever callers there are.
-abbrev pub PerformsAlone : Function → Instr → Activation → Step → Activation → Type 0
-PerformsAlone function instr old result new =
-    (functions : List Function) (callers : List Activation) → Performs functions function instr (record { innermost = old; callers = callers }) result (record { innermost = new; callers = callers })
+-- ---- all instructions
 
 -- the machine halts there, with what is left and written
-pub record Halts (move : Move State) (final : Final) (base : List ℕ) (old : State) (left written : Option (List ℕ)) : Type 0 where
+pub record Halts (move : Move State) (final : Final) (base : List ℕ) (old : State) (heap : Heap) (left written : Option (List ℕ)) : Type 0 where
   pub halts : move ≡ Halt final old
+  pub heap_is : heap ≡ old.heap
   pub left_at : LeftAt base old left written
 
 -- the step could not be made, and nothing has changed
-pub record IsUndone (base : List ℕ) (old : State) (new : List Activation) (left written : Option (List ℕ)) : Type 0 where
-  pub same : new ≡ old.activations
+pub record IsUndone (base : List ℕ) (old : State) (activations : List Activation) (heap : Heap) (left written : Option (List ℕ)) : Type 0 where
+  pub frames : activations ≡ old.activations
+  pub heap_is : heap ≡ old.heap
   pub left_at : LeftAt base old left written
 
 -- the machine goes on there
-pub record GoesOn (move : Move State) (base : List ℕ) (new : List Activation) (left written : Option (List ℕ)) : Type 0 where
+pub record GoesOn (move : Move State) (base : List ℕ) (activations : List Activation) (heap : Heap) (left written : Option (List ℕ)) : Type 0 where
   pub next : State
   pub goes : move ≡ To next
-  pub same : next.activations ≡ new
+  pub frames : next.activations ≡ activations
+  pub heap_is : next.heap ≡ heap
   pub left_at : LeftAt base next left written
 
 -- The move from a state is the one that a step made, with what is left of the input and what is written after it. A step
 -- that failed or lacked memory left all as it was.
-abbrev pub Gives : Move State → List ℕ → State → Step → List Activation → Option (List ℕ) → Option (List ℕ) → Type 0
-Gives move base old On new left written = GoesOn move base new left written
-Gives move base old (Over (ends.Ended status)) new left written = Halts move (runs.Ended status) base old left written
-Gives move base old (Over ends.Depth) new left written = Halts move runs.DepthReached base old left written
-Gives move base old (Over ends.HeapExhausted) new left written = Halts move runs.HeapExhausted base old left written
-Gives move base old (Over ends.IndexExhausted) new left written = Halts move runs.IndexExhausted base old left written
-Gives move base old (Over (ends.Trapped kind)) new left written = Halts move (runs.Trapped kind) base old left written
-Gives move base old (Over ends.ReadFault) new left written = IsUndone base old new left written
-Gives move base old (Over ends.WriteFault) new left written = IsUndone base old new left written
-Gives move base old (Over ends.OutOfMemory) new left written = IsUndone base old new left written
-Gives move base old (Over ends.StepsSpent) new left written = ⊥
+abbrev pub Gives : Move State → List ℕ → State → Step → List Activation → Heap → Option (List ℕ) → Option (List ℕ) → Type 0
+Gives move base old On activations heap left written = GoesOn move base activations heap left written
+Gives move base old (Over (ends.Ended status)) activations heap left written = Halts move (runs.Ended status) base old heap left written
+Gives move base old (Over ends.Depth) activations heap left written = Halts move runs.DepthReached base old heap left written
+Gives move base old (Over ends.HeapExhausted) activations heap left written = Halts move runs.HeapExhausted base old heap left written
+Gives move base old (Over ends.IndexExhausted) activations heap left written = Halts move runs.IndexExhausted base old heap left written
+Gives move base old (Over (ends.Trapped kind)) activations heap left written = Halts move (runs.Trapped kind) base old heap left written
+Gives move base old (Over ends.ReadFault) activations heap left written = IsUndone base old activations heap left written
+Gives move base old (Over ends.WriteFault) activations heap left written = IsUndone base old activations heap left written
+Gives move base old (Over ends.OutOfMemory) activations heap left written = IsUndone base old activations heap left written
+Gives move base old (Over ends.StepsSpent) activations heap left written = ⊥
 
 -- An instruction was performed as the machine's meaning says: from what was left of the input and what was written
 -- before it, where they are told, to what is left and written after it.
-abbrev pub Does : List Function → Function → Instr → CallStack → Option (List ℕ) → Option (List ℕ) → Step → CallStack → Option (List ℕ) → Option (List ℕ) → Type 0
-Does functions function instr old left written result new left' written' =
-    (input base : List ℕ) (trace : Trace) → left ≡ Some input → written ≡ Some (base ++ output_of trace) → Gives (perform (Some instr) functions function old.innermost old.callers (state_of (activations_of old) input trace)) base (state_of (activations_of old) input trace) result (activations_of new) left' written'
+abbrev pub Does : Code → Function → Instr → CallStack → Heap → Option (List ℕ) → Option (List ℕ) → Step → CallStack → Heap → Option (List ℕ) → Option (List ℕ) → Type 0
+Does code function instr old heap left written result new heap' left' written' =
+    (history : History) (input base : List ℕ) (trace : Trace) → left ≡ Some input → written ≡ Some (base ++ output_of trace) → Gives (perform (Some instr) code function old.innermost old.callers (state_of (activations_of old) heap history input trace)) base (state_of (activations_of old) heap history input trace) result (activations_of new) heap' left' written'
 
 -- A step that reads has pushed the word of what was left, or it could not be made, and nothing has changed.
 abbrev pub PushesNext : Step → Activation → Option (List ℕ) → Activation → Option (List ℕ) → Type 0

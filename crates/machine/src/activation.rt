@@ -1,16 +1,23 @@
 // A function that was called and has not returned: its place, its operands and its frame.
 
-ghost use Rattle.std.specs.Prelude.{◌≡◌, ◌≢◌, ℕ, ◌+◌, ◌*◌, ◌-◌, ◌/◌, ◌%◌, ◌^◌, ◌<◌, ◌≤◌, List, [], ◌∷◌, ◌++◌, length, take, drop, reverse, replicate, Some, None, IfOk, OnOk, OnErr, IsTrue, ◌↔◌, MatchOption, if◌then◌else◌};
+ghost use Rattle.std.specs.Prelude.{◌≡◌, ◌≢◌, ℕ, suc, ◌+◌, ◌*◌, ◌-◌, ◌/◌, ◌%◌, ◌^◌, ◌<◌, ◌≤◌, List, [], ◌∷◌, ◌++◌, length, take, drop, reverse, replicate, Some, None, IfOk, IfSome, OnOk, OnErr, IsTrue, ◌↔◌, MatchOption, if◌then◌else◌};
 ghost use Rattle.std.specs.List.{flat_map};
 ghost use Rattle.std.specs.Option.{option_map};
 ghost use Rattle.byteorder.specs.Endian.{little_bytes, little_number};
 ghost use Rattle.pcc_outside.specs.Outside.{Rose};
-ghost use Rattle.pool_isa.specs.Machine.{advanced, covers, spliced, next_start};
+ghost use Rattle.image_form.specs.Form.{IsKind};
+ghost use Rattle.pool_isa.specs.Machine.{advanced, covers, site_of, spliced, next_start, with_new_pool};
+ghost use Rattle.machine.specs.Heaps.{heap_of};
 
 use crate::ends::{RunEnd, Step};
+use crate::heap::Heap;
 use crate::outside::next_word;
+use crate::words::number_in;
 use byteorder::{ByteOrder, LittleEndian};
+use image_form::PoolKind;
 use pcc_outside::Source;
+use pool_isa::Site;
+use pool_runtime::OutOfMemory;
 use std::alloc::{AllocError, Global};
 use std::marker::Model;
 
@@ -112,6 +119,16 @@ impl Activation {
         }
     }
 
+    /// The last three operands, in the order in which they were pushed.
+    pub(crate) fn last_three(&self) -> Option<(u64, u64, u64)>
+        ensures { MatchOption result (length self.now.operands < 3) (λ three. self.now.operands ≡ three.2 ∷ three.1 ∷ three.0 ∷ drop 3 self.now.operands) }
+    {
+        match self.operands.as_slice() {
+            [.., first, second, last] => Some((*first, *second, *last)),
+            _ => None,
+        }
+    }
+
     /// Pushes an operand, and goes to the next instruction.
     pub(crate) fn push(&mut self, word: u64) -> Result<(), AllocError>
         requires { self.old.place + 1 < 2 ^ 64 }
@@ -143,6 +160,34 @@ impl Activation {
             }
             Err(_) => Step::Over(RunEnd::ReadFault),
         }
+    }
+
+    /// The instruction that it stands at.
+    fn site(&self) -> Site
+        ensures { result ≡ site_of self.now }
+    {
+        Site {
+            function: self.function,
+            place: self.place,
+        }
+    }
+
+    /// Makes a pool, pushes its number, and goes to the next instruction. There is room for the number before.
+    pub(crate) fn push_pool(&mut self, heap: &mut Heap, kind: PoolKind) -> Result<(), OutOfMemory>
+        requires next { self.old.place + 1 < 2 ^ 64 }
+        requires kind { IsKind kind }
+        ensures ok { OnOk result (self.new ≡ advanced self.old (suc (length heap.old.pools.pools) ∷ self.old.operands)) }
+        ensures heap { OnOk result (heap_of heap.new ≡ with_new_pool (site_of self.old) kind (heap_of heap.old)) }
+        ensures err { OnErr result (self.new ≡ self.old) }
+        ensures unchanged { OnErr result (heap_of heap.new ≡ heap_of heap.old) }
+    {
+        if self.operands.reserve(1).is_err() {
+            return Err(OutOfMemory);
+        }
+        let pool = heap.make_pool(self.site(), kind)?;
+        self.operands.push(pool).unwrap();
+        self.place += 1;
+        Ok(())
     }
 
     /// Puts an operand in the place of the last one, and goes to the next instruction.
@@ -206,12 +251,13 @@ impl Activation {
         Ok(())
     }
 
-    /// The last operands, as many as there are parameters, the first one deepest.
-    pub(crate) fn parameters(&self, count: usize) -> &[u64]
-        requires { count ≤ length self.now.operands }
-        ensures { result.now ≡ reverse (take count self.now.operands) }
+    /// The operands behind the last `above` ones, as many as there are parameters, the first one deepest.
+    pub(crate) fn parameters(&self, above: usize, count: usize) -> &[u64]
+        requires { above + count ≤ length self.now.operands }
+        ensures { result.now ≡ reverse (take count (drop above self.now.operands)) }
     {
-        &self.operands[self.operands.len() - count..]
+        let end = self.operands.len() - above;
+        &self.operands[end - count..end]
     }
 
     /// The address so many bytes behind the start of the frame.
@@ -246,15 +292,11 @@ impl Activation {
     pub(crate) fn read(&self, address: u64, size: usize) -> Option<u64>
         requires low { 1 ≤ size }
         requires high { size ≤ 8 }
-        ensures { result ≡ (if covers self.now address size then Some (little_number size (take size (drop (address - self.now.start) self.now.bytes))) else None) }
+        ensures word { result ≡ (if covers self.now address size then Some (little_number size (take size (drop (address - self.now.start) self.now.bytes))) else None) }
+        ensures small { IfSome result (λ number. number < 256 ^ size) }
     {
         let offset = self.offset_of(address, size)?;
-        let bytes = &self.bytes[offset..offset + size];
-        Some(if size == 8 {
-            LittleEndian::read_u64(bytes)
-        } else {
-            LittleEndian::read_uint(bytes, size)
-        })
+        Some(number_in(&self.bytes[offset..offset + size]))
     }
 
     /// Writes the lowest `size` bytes of a word so many bytes behind the start of the frame.

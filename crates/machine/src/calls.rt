@@ -1,21 +1,26 @@
 // The functions that were called and have not returned, and the instructions that change them.
 
-ghost use Rattle.std.specs.Prelude.{◌≡◌, ◌≢◌, ℕ, ◌+◌, ◌^◌, ◌<◌, ◌≤◌, List, [], ◌∷◌, ◌++◌, length, take, drop, reverse, replicate, Option, Some, None, OnOk, OnErr, map, IfOk, MatchBool, if◌then◌else◌};
-ghost use Rattle.std.specs.List.{flat_map};
-ghost use Rattle.std.specs.Option.{option_map};
+ghost use Rattle.std.specs.Prelude.{◌≡◌, ◌≢◌, ℕ, ◌+◌, ◌-◌, ◌^◌, ◌<◌, ◌≤◌, List, [], ◌∷◌, ◌++◌, length, take, drop, reverse, replicate, Option, Some, None, OnOk, OnErr, map, IfOk, MatchBool, if◌then◌else◌};
+ghost use Rattle.std.specs.Bool.{OnFalse};
+ghost use Rattle.std.specs.List.{flat_map, AllByRecursion};
+ghost use Rattle.std.specs.Option.{option_map, IfSome};
 ghost use Rattle.byteorder.specs.Endian.{little_bytes, little_number};
 ghost use Rattle.pcc_outside.specs.Outside.{Rose};
-ghost use Rattle.pool_isa.specs.Machine.{advanced, bytes_at, next_start, with_bytes_at};
+ghost use Rattle.image_form.specs.Form.{IsKind, function_of};
+ghost use Rattle.pool_isa.specs.Machine.{advanced, bytes_at, function_word, named_by, next_start, with_bytes_at};
+ghost use Rattle.machine.specs.Heaps.{heap_of};
 
 use crate::activation::Activation;
 use crate::ends::{RunEnd, Step};
+use crate::heap::Heap;
 use crate::memory::{read_from, write_to};
 use crate::outside::write_byte;
 use crate::words::{bytes_in, converted_word, size_of};
 use c_num::IntType;
-use image_form::Function;
+use image_form::{Function, Image, PoolKind};
 use pcc_outside::{Sink, Source};
 use pool_isa::{Instr, Width};
+use pool_runtime::PoolId;
 use run_theory::TrapKind;
 use std::alloc::{AllocError, Global};
 use std::marker::Model;
@@ -26,6 +31,26 @@ const MAX_DEPTH: usize = 10_000;
 
 /// The address of the first frame.
 const FIRST_FRAME: u64 = 1 << 40;
+
+/// The word of function 0; those of the others follow.
+const FUNCTION_WORD: u64 = 1 << 48;
+
+/// The bytes of a link.
+const LINK: usize = 4;
+
+/// The function that a word names, with its number, if it has this signature.
+fn named_by(functions: &[Function], signature: u64, word: u64) -> Option<(usize, &Function)>
+    ensures number { IfSome result (λ found. found.0 ≡ word - function_word) }
+    ensures function { option_map (λ found. function_of found.1.now) result ≡ named_by (map function_of functions.now) signature word }
+{
+    let number = word.checked_sub(FUNCTION_WORD)? as usize;
+    let function = functions.get(number)?;
+    if u64::from(function.signature) == signature {
+        Some((number, function))
+    } else {
+        None
+    }
+}
 
 /// The functions that were called and have not returned.
 #[derive(Drop)]
@@ -47,9 +72,9 @@ impl Model for Calls {
 }
 
 impl Calls {
-    ghost use Rattle.image_form.specs.Form.{function_of};
+    ghost use Rattle.image_form.specs.Form.{code_of, form_of, function_of};
     ghost use Rattle.pool_isa.specs.Machine as machine;
-    ghost use Rattle.machine.specs.Steps.{activations_of, IsInside, Performs, Does};
+    ghost use Rattle.machine.specs.Steps.{activations_of, fetched, Puts, IsInside, IsOfPools, Performs, Does};
 
     /// `start` at its entry.
     pub(crate) fn new(alloc: Global, extra: u32) -> Result<Calls, AllocError>
@@ -72,7 +97,8 @@ impl Calls {
     fn read(&self, address: u64, size: usize) -> Option<u64>
         requires low { 1 ≤ size }
         requires high { size ≤ 8 }
-        ensures { result ≡ option_map (little_number size) (bytes_at (activations_of self.now) address size) }
+        ensures word { result ≡ option_map (little_number size) (bytes_at (activations_of self.now) address size) }
+        ensures small { IfSome result (λ number. number < 256 ^ size) }
     {
         let number = self.innermost.read(address, size);
         if number.is_some() {
@@ -84,21 +110,47 @@ impl Calls {
     /// Writes the lowest `size` bytes of a word from `address` on, if they lie in one living frame, and says whether they do.
     fn write(&mut self, address: u64, word: u64, size: usize) -> bool
         requires { size ≤ 8 }
-        ensures { MatchBool result (with_bytes_at (activations_of self.old) address (little_bytes size word) ≡ Some (activations_of self.new)) (with_bytes_at (activations_of self.old) address (little_bytes size word) ≡ None) }
+        ensures written { MatchBool result (with_bytes_at (activations_of self.old) address (little_bytes size word) ≡ Some (activations_of self.new)) (with_bytes_at (activations_of self.old) address (little_bytes size word) ≡ None) }
+        ensures kept { OnFalse result (self.new ≡ self.old) }
     {
         self.innermost.write(address, word, size)
             || write_to(&mut self.callers, address, word, size)
     }
 
+    /// The number in the `size` bytes from `address` on, if they lie in one living frame, in the globals, or in one live
+    /// cell or object.
+    fn fetch(&self, heap: &Heap, address: u64, size: usize) -> Option<u64>
+        requires low { 1 ≤ size }
+        requires high { size ≤ 8 }
+        ensures word { result ≡ fetched (activations_of self.now) (heap_of heap.now) address size }
+        ensures small { IfSome result (λ number. number < 256 ^ size) }
+    {
+        let number = self.read(address, size);
+        if number.is_some() {
+            return number;
+        }
+        heap.read(address, size)
+    }
+
+    /// Writes the lowest `size` bytes of a word from `address` on, if they lie in one living frame, in the globals, or in
+    /// one live cell or object, and says whether they do.
+    fn put(&mut self, heap: &mut Heap, address: u64, word: u64, size: usize) -> bool
+        requires low { 1 ≤ size }
+        requires high { size ≤ 8 }
+        ensures { Puts (activations_of self.old) (heap_of heap.old) address size word result (activations_of self.new) (heap_of heap.new) }
+    {
+        self.write(address, word, size) || heap.write(address, word, size)
+    }
+
     /// Loads a value in the place of its address.
-    fn load(&mut self, int_type: IntType) -> Step
+    fn load(&mut self, heap: &Heap, int_type: IntType) -> Step
         requires { self.old.innermost.place + 1 < 2 ^ 64 }
-        ensures { (functions : List machine.Function) (function : machine.Function) → Performs functions function (Instr.Load int_type) self.old result self.new }
+        ensures { (code : machine.Code) (function : machine.Function) → Performs code function (Instr.Load int_type) self.old (heap_of heap.now) result self.new (heap_of heap.now) }
     {
         let Some(address) = self.innermost.last() else {
             return Step::trap(TrapKind::StackEmpty);
         };
-        let Some(number) = self.read(address, size_of(int_type)) else {
+        let Some(number) = self.fetch(heap, address, size_of(int_type)) else {
             return Step::trap(TrapKind::BadAccess);
         };
         self.innermost.replace(converted_word(number, int_type));
@@ -106,15 +158,48 @@ impl Calls {
     }
 
     /// Stores the last operand at the address before it.
-    fn store(&mut self, width: Width) -> Step
+    fn store(&mut self, heap: &mut Heap, width: Width) -> Step
         requires { self.old.innermost.place + 1 < 2 ^ 64 }
-        ensures { (functions : List machine.Function) (function : machine.Function) → Performs functions function (Instr.Store width) self.old result self.new }
+        ensures { (code : machine.Code) (function : machine.Function) → Performs code function (Instr.Store width) self.old (heap_of heap.old) result self.new (heap_of heap.new) }
     {
         let Some((address, word)) = self.innermost.last_two() else {
             return Step::trap(TrapKind::StackEmpty);
         };
         self.innermost.discard(2);
-        if self.write(address, word, bytes_in(width)) {
+        if self.put(heap, address, word, bytes_in(width)) {
+            Step::On
+        } else {
+            Step::trap(TrapKind::BadAccess)
+        }
+    }
+
+    /// Loads a link in the place of its address and its target's pool: the address of the cell that it names.
+    fn load_link(&mut self, heap: &Heap) -> Step
+        requires { self.old.innermost.place + 1 < 2 ^ 64 }
+        ensures { (code : machine.Code) (function : machine.Function) → Performs code function Instr.LoadLink self.old (heap_of heap.now) result self.new (heap_of heap.now) }
+    {
+        let Some((address, pool)) = self.innermost.last_two() else {
+            return Step::trap(TrapKind::StackEmpty);
+        };
+        let Some(index) = self.fetch(heap, address, LINK) else {
+            return Step::trap(TrapKind::BadAccess);
+        };
+        let cell = heap.pools.address(PoolId(pool), index as u32);
+        self.innermost.combine(cell);
+        Step::On
+    }
+
+    /// Stores a link: the number of the cell that begins at an address, in a pool.
+    fn store_link(&mut self, heap: &mut Heap) -> Step
+        requires { self.old.innermost.place + 1 < 2 ^ 64 }
+        ensures { (code : machine.Code) (function : machine.Function) → Performs code function Instr.StoreLink self.old (heap_of heap.old) result self.new (heap_of heap.new) }
+    {
+        let Some((address, value, pool)) = self.innermost.last_three() else {
+            return Step::trap(TrapKind::StackEmpty);
+        };
+        let index = heap.pools.index(PoolId(pool), value);
+        self.innermost.discard(3);
+        if self.put(heap, address, u64::from(index), LINK) {
             Step::On
         } else {
             Step::trap(TrapKind::BadAccess)
@@ -124,7 +209,7 @@ impl Calls {
     /// Calls a function, which takes its parameters.
     fn call(&mut self, alloc: Global, functions: &[Function], callee: u64) -> Step
         requires { self.old.innermost.place + 1 < 2 ^ 64 }
-        ensures { (function : machine.Function) → Performs (map function_of functions.now) function (Instr.Call callee) self.old result self.new }
+        ensures { (code : machine.Code) (function : machine.Function) (heap : machine.Heap) → code.functions ≡ map function_of functions.now → Performs code function (Instr.Call callee) self.old heap result self.new heap }
     {
         let Some(function) = functions.get(callee as usize) else {
             return Step::trap(TrapKind::BadCall);
@@ -135,27 +220,57 @@ impl Calls {
         if self.callers.len() >= MAX_DEPTH {
             return Step::Over(RunEnd::Depth);
         }
-        match self.enter(alloc, callee as usize, function) {
+        match self.enter(alloc, callee as usize, function, 0) {
             Ok(()) => Step::On,
             Err(_) => Step::Over(RunEnd::OutOfMemory),
         }
     }
 
-    /// Lets a function that is called take its parameters.
-    fn enter(&mut self, alloc: Global, callee: usize, function: &Function) -> Result<(), AllocError>
+    /// Calls the function that the last operand names, if it has this signature.
+    fn call_indirect(&mut self, alloc: Global, functions: &[Function], signature: u64) -> Step
+        requires { self.old.innermost.place + 1 < 2 ^ 64 }
+        ensures { (code : machine.Code) (function : machine.Function) (heap : machine.Heap) → code.functions ≡ map function_of functions.now → Performs code function (Instr.CallIndirect signature) self.old heap result self.new heap }
+    {
+        let Some(word) = self.innermost.last() else {
+            return Step::trap(TrapKind::StackEmpty);
+        };
+        let Some((callee, function)) = named_by(functions, signature, word) else {
+            return Step::trap(TrapKind::BadCall);
+        };
+        if self.innermost.height() - 1 < function.parameters as usize {
+            return Step::trap(TrapKind::StackEmpty);
+        }
+        if self.callers.len() >= MAX_DEPTH {
+            return Step::Over(RunEnd::Depth);
+        }
+        match self.enter(alloc, callee, function, 1) {
+            Ok(()) => Step::On,
+            Err(_) => Step::Over(RunEnd::OutOfMemory),
+        }
+    }
+
+    /// Lets a function that is called take its parameters, which stand behind the last `above` operands.
+    fn enter(
+        &mut self,
+        alloc: Global,
+        callee: usize,
+        function: &Function,
+        above: usize,
+    ) -> Result<(), AllocError>
         requires next { self.old.innermost.place + 1 < 2 ^ 64 }
-        requires there { function.now.parameters ≤ length self.old.innermost.operands }
+        requires above { above ≤ 1 }
+        requires there { above + function.now.parameters ≤ length self.old.innermost.operands }
         requires depth { length self.old.callers < 10000 }
-        ensures callee { OnOk result (self.new.innermost ≡ record { function = callee; place = 0; operands = []; start = next_start self.old.innermost; bytes = flat_map (little_bytes 8) (reverse (take function.now.parameters self.old.innermost.operands)) ++ replicate function.now.extra 0 }) }
-        ensures callers { OnOk result (self.new.callers ≡ advanced self.old.innermost (drop function.now.parameters self.old.innermost.operands) ∷ self.old.callers) }
+        ensures callee { OnOk result (self.new.innermost ≡ record { function = callee; place = 0; operands = []; start = next_start self.old.innermost; bytes = flat_map (little_bytes 8) (reverse (take function.now.parameters (drop above self.old.innermost.operands))) ++ replicate function.now.extra 0 }) }
+        ensures callers { OnOk result (self.new.callers ≡ advanced self.old.innermost (drop function.now.parameters (drop above self.old.innermost.operands)) ∷ self.old.callers) }
         ensures err { OnErr result (self.new ≡ self.old) }
     {
         self.callers.reserve(1)?;
         let start = self.innermost.next_start();
         let count = function.parameters as usize;
-        let parameters = self.innermost.parameters(count);
+        let parameters = self.innermost.parameters(above, count);
         let entered = Activation::enter(alloc, callee, start, parameters, function.extra)?;
-        self.innermost.discard(count);
+        self.innermost.discard(above + count);
         let caller = mem::replace(&mut self.innermost, entered);
         self.callers.push(caller).unwrap();
         Ok(())
@@ -171,7 +286,7 @@ impl Calls {
 
     /// Returns to the caller. `start` has none: its return ends the run.
     fn finish(&mut self) -> Step
-        ensures { (functions : List machine.Function) (function : machine.Function) → Performs functions function Instr.Return self.old result self.new }
+        ensures { (code : machine.Code) (function : machine.Function) (heap : machine.Heap) → Performs code function Instr.Return self.old heap result self.new heap }
     {
         if self.callers.is_empty() {
             return Step::Over(RunEnd::Ended(0));
@@ -182,7 +297,7 @@ impl Calls {
 
     /// Returns the last operand to the caller. At the return of `start` it ends the run, modulo 256.
     fn finish_with_value(&mut self, functions: &[Function]) -> Step
-        ensures { (function : machine.Function) → Performs (map function_of functions.now) function Instr.ReturnValue self.old result self.new }
+        ensures { (code : machine.Code) (function : machine.Function) (heap : machine.Heap) → code.functions ≡ map function_of functions.now → Performs code function Instr.ReturnValue self.old heap result self.new heap }
     {
         let Some(word) = self.innermost.last() else {
             return Step::trap(TrapKind::StackEmpty);
@@ -210,7 +325,7 @@ impl Calls {
     /// Reads a byte, where the function may hold one more operand.
     fn get_char<I: Source>(&mut self, input: &mut I, height: u32) -> Step
         requires { self.old.innermost.place + 1 < 2 ^ 64 }
-        ensures does { (functions : List machine.Function) (function : machine.Function) (written : Option (List ℕ)) → function.height ≡ height → Does functions function Instr.GetChar self.old (I.left input.old) written result self.new (I.left input.new) written }
+        ensures does { (code : machine.Code) (function : machine.Function) (heap : machine.Heap) (written : Option (List ℕ)) → function.height ≡ height → Does code function Instr.GetChar self.old heap (I.left input.old) written result self.new heap (I.left input.new) written }
         ensures fault { result ≡ Step.Over RunEnd.ReadFault → Rose (I.faults input.old) (I.faults input.new) }
         ensures other { result ≢ Step.Over RunEnd.WriteFault }
         ensures counted { I.faults input.old ≤ I.faults input.new }
@@ -224,7 +339,7 @@ impl Calls {
     /// Writes the low byte of the last operand, and leaves that byte in its place.
     fn put_char<O: Sink>(&mut self, out: &mut O) -> Step
         requires { self.old.innermost.place + 1 < 2 ^ 64 }
-        ensures does { (functions : List machine.Function) (function : machine.Function) (left : Option (List ℕ)) → Does functions function Instr.PutChar self.old left (O.written out.old) result self.new left (O.written out.new) }
+        ensures does { (code : machine.Code) (function : machine.Function) (heap : machine.Heap) (left : Option (List ℕ)) → Does code function Instr.PutChar self.old heap left (O.written out.old) result self.new heap left (O.written out.new) }
         ensures fault { result ≡ Step.Over RunEnd.WriteFault → Rose (O.faults out.old) (O.faults out.new) }
         ensures other { result ≢ Step.Over RunEnd.ReadFault }
         ensures counted { O.faults out.old ≤ O.faults out.new }
@@ -242,24 +357,55 @@ impl Calls {
         }
     }
 
+    /// Performs an instruction on pools.
+    fn perform_in_pools(
+        &mut self,
+        heap: &mut Heap,
+        kinds: &[PoolKind],
+        height: u32,
+        instr: Instr,
+    ) -> Step
+        requires next { self.old.innermost.place + 1 < 2 ^ 64 }
+        requires pools { IsOfPools instr }
+        requires kinds { AllByRecursion IsKind kinds.now }
+        ensures { (code : machine.Code) (function : machine.Function) → code.kinds ≡ kinds.now → function.height ≡ height → Performs code function instr self.old (heap_of heap.old) result self.new (heap_of heap.new) }
+    {
+        match instr {
+            Instr::PoolInit(kind) => self.innermost.make_pool(heap, kinds, height, kind),
+            Instr::PoolDestroy => self.innermost.destroy_pool(heap),
+            Instr::PoolAlloc => self.innermost.allocate(heap),
+            _ => self.innermost.free(heap),
+        }
+    }
+
     /// Performs an instruction that neither reads nor writes.
     fn perform_inside(
         &mut self,
         alloc: Global,
-        functions: &[Function],
+        heap: &mut Heap,
+        image: &Image,
         height: u32,
         instr: Instr,
     ) -> Step
         requires next { self.old.innermost.place + 1 < 2 ^ 64 }
         requires inside { IsInside instr }
-        ensures { (function : machine.Function) → function.height ≡ height → Performs (map function_of functions.now) function instr self.old result self.new }
+        requires kinds { AllByRecursion IsKind image.now.kinds.items }
+        ensures { (function : machine.Function) → function.height ≡ height → Performs (code_of (form_of image.now)) function instr self.old (heap_of heap.old) result self.new (heap_of heap.new) }
     {
         match instr {
-            Instr::Load(int_type) => self.load(int_type),
-            Instr::Store(width) => self.store(width),
-            Instr::Call(callee) => self.call(alloc, functions, callee),
+            Instr::Load(int_type) => self.load(heap, int_type),
+            Instr::Store(width) => self.store(heap, width),
+            Instr::LoadLink => self.load_link(heap),
+            Instr::StoreLink => self.store_link(heap),
+            Instr::Call(callee) => self.call(alloc, &image.functions, callee),
+            Instr::CallIndirect(signature) => {
+                self.call_indirect(alloc, &image.functions, signature)
+            }
             Instr::Return => self.finish(),
-            Instr::ReturnValue => self.finish_with_value(functions),
+            Instr::ReturnValue => self.finish_with_value(&image.functions),
+            Instr::PoolInit(_) | Instr::PoolDestroy | Instr::PoolAlloc | Instr::PoolFree => {
+                self.perform_in_pools(heap, &image.kinds, height, instr)
+            }
             _ => self.innermost.perform_alone(height, instr),
         }
     }
@@ -268,14 +414,16 @@ impl Calls {
     pub(crate) fn perform<I: Source, O: Sink>(
         &mut self,
         alloc: Global,
-        functions: &[Function],
+        heap: &mut Heap,
+        image: &Image,
         height: u32,
         instr: Instr,
         input: &mut I,
         out: &mut O,
     ) -> Step
-        requires { self.old.innermost.place + 1 < 2 ^ 64 }
-        ensures does { (function : machine.Function) → function.height ≡ height → Does (map function_of functions.now) function instr self.old (I.left input.old) (O.written out.old) result self.new (I.left input.new) (O.written out.new) }
+        requires next { self.old.innermost.place + 1 < 2 ^ 64 }
+        requires kinds { AllByRecursion IsKind image.now.kinds.items }
+        ensures does { (function : machine.Function) → function.height ≡ height → Does (code_of (form_of image.now)) function instr self.old (heap_of heap.old) (I.left input.old) (O.written out.old) result self.new (heap_of heap.new) (I.left input.new) (O.written out.new) }
         ensures read_cause { result ≡ Step.Over RunEnd.ReadFault → Rose (I.faults input.old) (I.faults input.new) }
         ensures write_cause { result ≡ Step.Over RunEnd.WriteFault → Rose (O.faults out.old) (O.faults out.new) }
         ensures reads_counted { I.faults input.old ≤ I.faults input.new }
@@ -284,7 +432,7 @@ impl Calls {
         match instr {
             Instr::GetChar => self.get_char(input, height),
             Instr::PutChar => self.put_char(out),
-            _ => self.perform_inside(alloc, functions, height, instr),
+            _ => self.perform_inside(alloc, heap, image, height, instr),
         }
     }
 }

@@ -1,6 +1,6 @@
 // How a run ends, and where one step leads.
 
-ghost use Rattle.std.specs.Prelude.{◌≡◌};
+ghost use Rattle.std.specs.Prelude.{◌≡◌, is_some};
 
 use run_theory::TrapKind;
 
@@ -24,6 +24,24 @@ pub enum RunEnd {
     WriteFault,
     /// There was no memory for a step.
     OutOfMemory,
+}
+
+impl RunEnd {
+    ghost use Rattle.machine.specs.Steps.{final_of};
+
+    /// Whether it ends the run, rather than breaks it off.
+    pub(crate) fn is_final(self) -> bool
+        ensures { result ≡ is_some (final_of self) }
+    {
+        matches!(
+            self,
+            RunEnd::Ended(_)
+                | RunEnd::Depth
+                | RunEnd::HeapExhausted
+                | RunEnd::IndexExhausted
+                | RunEnd::Trapped(_)
+        )
+    }
 }
 
 /// Where one step leads.

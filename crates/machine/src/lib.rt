@@ -7,13 +7,17 @@ mod activation;
 mod arithmetic;
 mod calls;
 mod ends;
+mod heap;
 mod loaded;
 mod memory;
 mod operands;
 mod outside;
-#[cfg(test)]
-mod tests;
+mod pools;
+mod report;
+mod tally;
 mod words;
 
 pub use ends::RunEnd;
 pub use loaded::Machine;
+pub use pool_isa::PoolCounts;
+pub use report::{Report, ReportRow};

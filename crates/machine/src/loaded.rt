@@ -1,51 +1,57 @@
 // A machine with an image, and its runs.
 
-ghost use Rattle.std.specs.Prelude.{◌≡◌, ℕ, ◌≤◌, List, [], ◌++◌, Some, IfOk};
-ghost use Rattle.run_theory.specs.Runs.{Trace, output_of};
+ghost use Rattle.std.specs.Prelude.{◌≡◌, ℕ, ◌+◌, ◌-◌, ◌^◌, ◌<◌, ◌≤◌, List, [], ◌++◌, slice_get, Some, None, IfOk, OnOk};
+ghost use Rattle.run_theory.specs.Runs.{Trace, Final, output_of};
 ghost use Rattle.pcc_outside.specs.Outside.{Rose};
-ghost use Rattle.image_form.specs.Form.{form_of};
-ghost use Rattle.pool_isa.specs.Machine.{act, initial};
+ghost use Rattle.image_form.specs.Form.{code_of, form_of, IsImage};
+ghost use Rattle.pool_isa.specs.Machine.{History, act, initial, first_history};
 
 use crate::calls::Calls;
 use crate::ends::{RunEnd, Step};
+use crate::heap::Heap;
+use crate::report::{Report, ReportRow};
 use image_form::{Image, MachineLimits};
 use pcc_outside::{Sink, Source};
+use pool_isa::{Instr, Site};
 use run_theory::TrapKind;
 use std::alloc::{AllocError, Global};
-use std::marker::Model;
 
-/// A machine that stands between two steps of the run of an image.
+/// A machine that stands between two steps of the run of an image, or whose run is over.
 #[derive(Drop)]
 pub struct Machine<'a> {
     image: &'a Image,
     limits: MachineLimits,
     alloc: Global,
     calls: Calls,
-}
-
-impl<'a> Model for Machine<'a> {
-    ghost use Rattle.image_form.specs.Form.{form_of};
-    ghost use Rattle.machine.specs.Run.{Ready};
-    ghost use Rattle.machine.specs.Steps.{activations_of};
-
-    ghost Value = { Ready };
-
-    ghost view = { λ m. record { functions = (form_of m.image.now).functions; limits = m.limits; activations = activations_of m.calls } };
+    heap: Heap,
+    /// The steps made.
+    spent: u64,
+    /// The last answer of `run`.
+    last: Option<RunEnd>,
 }
 
 impl<'a> Machine<'a> {
-    ghost use Rattle.machine.specs.Steps.{state_of, Gives};
-    ghost use Rattle.machine.specs.Run.{RunGives};
+    ghost use Rattle.machine.specs.Heaps.{function_rows, code_rows, row_of};
+    ghost use Rattle.machine.specs.Steps.{Gives};
+    ghost use Rattle.machine.specs.Run.{state_at, is_over, RunGives};
+    ghost use Rattle.machine.specs.Loaded.{ready_of, IsLoaded};
 
-    /// A machine that stands before the first step of the image.
+    /// A machine that stands before the first step of the image, within limits.
     pub fn load(
         alloc: Global,
         image: &'a Image,
         limits: MachineLimits,
     ) -> Result<Machine<'a>, AllocError>
-        ensures functions { IfOk result (λ m. m.functions ≡ (form_of image.now).functions) }
-        ensures limits { IfOk result (λ m. m.limits ≡ limits) }
-        ensures start { IfOk result (λ m. (input : List ℕ) → initial m.functions input ≡ state_of m.activations input []) }
+        requires image { IsImage (form_of image.now) }
+        requires least { 1 ≤ limits.slabs }
+        requires most { limits.slabs ≤ 1048576 }
+        requires index { 1 ≤ limits.index }
+        ensures code { IfOk result (λ m. (ready_of m).code ≡ code_of (form_of image.now)) }
+        ensures limits { IfOk result (λ m. (ready_of m).limits ≡ limits) }
+        ensures start { IfOk result (λ m. (input : List ℕ) → initial (ready_of m).code limits.slabs limits.index input ≡ state_at (ready_of m) first_history input []) }
+        ensures spent { IfOk result (λ m. (ready_of m).spent ≡ 0) }
+        ensures last { IfOk result (λ m. (ready_of m).last ≡ None) }
+        ensures loaded { IfOk result IsLoaded }
     {
         let extra = image.functions.first().map_or(0, |start| start.extra);
         Ok(Machine {
@@ -53,13 +59,18 @@ impl<'a> Machine<'a> {
             limits,
             alloc,
             calls: Calls::new(alloc, extra)?,
+            heap: Heap::new(alloc, &image.globals, limits)?,
+            spent: 0,
+            last: None,
         })
     }
 
     /// Makes one step.
     fn step<I: Source, O: Sink>(&mut self, input: &mut I, out: &mut O) -> Step
-        ensures gives { (left base : List ℕ) (trace : Trace) → I.left input.old ≡ Some left → O.written out.old ≡ Some (base ++ output_of trace) → Gives (act self.old.functions (state_of self.old.activations left trace)) base (state_of self.old.activations left trace) result self.new.activations (I.left input.new) (O.written out.new) }
-        ensures same { self.new ≡ record self.old { activations = self.new.activations } }
+        requires { IsLoaded self.old }
+        ensures gives { (history : History) (left base : List ℕ) (trace : Trace) → I.left input.old ≡ Some left → O.written out.old ≡ Some (base ++ output_of trace) → Gives (act (ready_of self.old).code (state_at (ready_of self.old) history left trace)) base (state_at (ready_of self.old) history left trace) result (ready_of self.new).activations (ready_of self.new).heap (I.left input.new) (O.written out.new) }
+        ensures loaded { IsLoaded self.new }
+        ensures same { ready_of self.new ≡ record (ready_of self.old) { activations = (ready_of self.new).activations; heap = (ready_of self.new).heap } }
         ensures read_cause { result ≡ Step.Over RunEnd.ReadFault → Rose (I.faults input.old) (I.faults input.new) }
         ensures write_cause { result ≡ Step.Over RunEnd.WriteFault → Rose (O.faults out.old) (O.faults out.new) }
         ensures reads_counted { I.faults input.old ≤ I.faults input.new }
@@ -75,7 +86,8 @@ impl<'a> Machine<'a> {
         };
         self.calls.perform(
             self.alloc,
-            &image.functions,
+            &mut self.heap,
+            image,
             function.height,
             *instr,
             input,
@@ -83,11 +95,15 @@ impl<'a> Machine<'a> {
         )
     }
 
-    /// Runs at most so many steps. Bytes of the input that the program did not take stay unread.
-    pub fn run<I: Source, O: Sink>(mut self, input: &mut I, out: &mut O, steps: u64) -> RunEnd
-        // For told bytes: what is left, what was written and the answer are those of the machine's meaning.
-        ensures meaning { (left base : List ℕ) (trace : Trace) → I.left input.old ≡ Some left → O.written out.old ≡ Some (base ++ output_of trace) → RunGives self.entry.functions (state_of self.entry.activations left trace) base steps result (I.left input.new) (O.written out.new) }
-
+    /// Makes at most so many steps.
+    fn go_on<I: Source, O: Sink>(&mut self, input: &mut I, out: &mut O, steps: u64) -> RunEnd
+        requires spent { (ready_of self.old).spent + steps < 2 ^ 64 }
+        requires loaded { IsLoaded self.old }
+        ensures meaning { (history : History) (left base : List ℕ) (trace : Trace) → I.left input.old ≡ Some left → O.written out.old ≡ Some (base ++ output_of trace) → RunGives (ready_of self.old).code (state_at (ready_of self.old) history left trace) base steps result ((ready_of self.new).spent - (ready_of self.old).spent) (ready_of self.new).activations (ready_of self.new).heap (I.left input.new) (O.written out.new) }
+        ensures loaded { IsLoaded self.new }
+        ensures same { ready_of self.new ≡ record (ready_of self.old) { activations = (ready_of self.new).activations; heap = (ready_of self.new).heap; spent = (ready_of self.new).spent } }
+        ensures more { (ready_of self.old).spent ≤ (ready_of self.new).spent }
+        ensures within { (ready_of self.new).spent ≤ (ready_of self.old).spent + steps }
         ensures read_cause { result ≡ RunEnd.ReadFault → Rose (I.faults input.old) (I.faults input.new) }
         ensures write_cause { result ≡ RunEnd.WriteFault → Rose (O.faults out.old) (O.faults out.new) }
         ensures reads_counted { I.faults input.old ≤ I.faults input.new }
@@ -95,10 +111,104 @@ impl<'a> Machine<'a> {
     {
         for _turn in 0..steps {
             match self.step(input, out) {
-                Step::On => {}
-                Step::Over(end) => return end,
+                Step::On => self.spent += 1,
+                Step::Over(end) => {
+                    if end.is_final() {
+                        self.spent += 1;
+                    }
+                    return end;
+                }
             }
         }
         RunEnd::StepsSpent
+    }
+
+    /// Runs at most so many steps. Bytes of the input that the program did not take stay unread. After `StepsSpent`, a fault
+    /// or want of memory the machine stands before the next step, and a further call goes on; after any other end it
+    /// answers that end again.
+    pub fn run<I: Source, O: Sink>(&mut self, input: &mut I, out: &mut O, steps: u64) -> RunEnd
+        // the steps of all calls
+        requires spent { (ready_of self.old).spent + steps < 2 ^ 64 }
+        requires loaded { IsLoaded self.old }
+        // For told bytes: what is left, what was written, the answer and the machine are those of the machine's meaning.
+        ensures meaning { is_over (ready_of self.old).last ≡ None → (history : History) (left base : List ℕ) (trace : Trace) → I.left input.old ≡ Some left → O.written out.old ≡ Some (base ++ output_of trace) → RunGives (ready_of self.old).code (state_at (ready_of self.old) history left trace) base steps result ((ready_of self.new).spent - (ready_of self.old).spent) (ready_of self.new).activations (ready_of self.new).heap (I.left input.new) (O.written out.new) }
+        // A run that is over stays so.
+        ensures again { (final : Final) → is_over (ready_of self.old).last ≡ Some final → ((ready_of self.old).last ≡ Some result) × (ready_of self.new ≡ ready_of self.old) × (I.left input.new ≡ I.left input.old) × (O.written out.new ≡ O.written out.old) }
+        ensures loaded { IsLoaded self.new }
+        ensures same { ready_of self.new ≡ record (ready_of self.old) { activations = (ready_of self.new).activations; heap = (ready_of self.new).heap; spent = (ready_of self.new).spent; last = Some result } }
+        ensures more { (ready_of self.old).spent ≤ (ready_of self.new).spent }
+        ensures within { (ready_of self.new).spent ≤ (ready_of self.old).spent + steps }
+        ensures read_cause { result ≡ RunEnd.ReadFault → Rose (I.faults input.old) (I.faults input.new) }
+        ensures write_cause { result ≡ RunEnd.WriteFault → Rose (O.faults out.old) (O.faults out.new) }
+        ensures reads_counted { I.faults input.old ≤ I.faults input.new }
+        ensures writes_counted { O.faults out.old ≤ O.faults out.new }
+    {
+        match self.last {
+            Some(end) if end.is_final() => end,
+            _ => {
+                let end = self.go_on(input, out, steps);
+                self.last = Some(end);
+                end
+            }
+        }
+    }
+
+    /// The steps made.
+    pub fn spent(&self) -> u64
+        ensures { result ≡ (ready_of self.now).spent }
+    {
+        self.spent
+    }
+
+    /// What was counted of pools so far.
+    pub fn report(&self) -> Result<Report, AllocError>
+        ensures last { IfOk result (λ report. report.last ≡ (ready_of self.now).last) }
+        ensures rows { IfOk result (λ report. report.rows.items ≡ function_rows (ready_of self.now).heap.tally (ready_of self.now).code.kinds 0 (ready_of self.now).code.functions) }
+        ensures made { IfOk result (λ report. report.made ≡ (ready_of self.now).heap.tally.made) }
+        ensures objects { IfOk result (λ report. report.objects ≡ (ready_of self.now).heap.tally.objects) }
+        ensures slabs { IfOk result (λ report. report.slabs ≡ (ready_of self.now).limits.slabs - (ready_of self.now).heap.tally.free) }
+    {
+        let mut rows = Vec::new(self.alloc);
+        for (number, function) in self.image.functions.iter().enumerate() {
+            self.append_rows(&mut rows, number, &function.code)?;
+        }
+        Ok(Report {
+            last: self.last,
+            rows,
+            made: self.heap.tally.made(),
+            objects: self.heap.tally.objects(),
+            slabs: self.limits.slabs.saturating_sub(self.heap.tally.free()),
+        })
+    }
+
+    /// Appends the rows of a function.
+    fn append_rows(
+        &self,
+        rows: &mut Vec<ReportRow>,
+        function: usize,
+        code: &[Instr],
+    ) -> Result<(), AllocError>
+        ensures { OnOk result (rows.new.items ≡ rows.old.items ++ code_rows (ready_of self.now).heap.tally (ready_of self.now).code.kinds function 0 code.now) }
+    {
+        for (place, instr) in code.iter().enumerate() {
+            if let Instr::PoolInit(kind) = instr {
+                self.append_row(rows, Site { function, place }, *kind)?;
+            }
+        }
+        Ok(())
+    }
+
+    /// Appends the row of an instruction that makes pools of this kind.
+    fn append_row(&self, rows: &mut Vec<ReportRow>, site: Site, kind: u64) -> Result<(), AllocError>
+        ensures { OnOk result (rows.new.items ≡ rows.old.items ++ row_of (ready_of self.now).heap.tally (ready_of self.now).code.kinds site (slice_get (ready_of self.now).code.kinds kind)) }
+    {
+        if let Some(kind) = self.image.kinds.get(kind as usize) {
+            rows.push(ReportRow {
+                function: site.function,
+                kind: *kind,
+                counts: self.heap.tally.counts(site),
+            })?;
+        }
+        Ok(())
     }
 }

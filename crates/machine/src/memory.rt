@@ -1,6 +1,6 @@
 // The memory of the machine: the frames of the functions that were called.
 
-ghost use Rattle.std.specs.Prelude.{◌≡◌, ℕ, ◌≤◌, reverse, Some, None, MatchBool};
+ghost use Rattle.std.specs.Prelude.{◌≡◌, ℕ, ◌^◌, ◌<◌, ◌≤◌, reverse, Some, None, IfSome, MatchBool};
 ghost use Rattle.std.specs.Bool.{OnFalse};
 ghost use Rattle.std.specs.Option.{option_map};
 ghost use Rattle.byteorder.specs.Endian.{little_bytes, little_number};
@@ -12,7 +12,8 @@ use crate::activation::Activation;
 pub(crate) fn read_from(callers: &[Activation], address: u64, size: usize) -> Option<u64>
     requires low { 1 ≤ size }
     requires high { size ≤ 8 }
-    ensures { result ≡ option_map (little_number size) (bytes_at (reverse callers.now) address size) }
+    ensures word { result ≡ option_map (little_number size) (bytes_at (reverse callers.now) address size) }
+    ensures small { IfSome result (λ number. number < 256 ^ size) }
 {
     for index in (0..callers.len()).rev() {
         let number = callers[index].read(address, size);

@@ -138,7 +138,7 @@ impl Activation {
             Instr::Complement(int_type) => self.complement(int_type),
             Instr::Compare(relation, int_type) => self.compare(relation, int_type),
             Instr::Convert(int_type) => self.convert(int_type),
-            // `Trap`, and what no meaning is given to yet.
+            // `Trap`: no other one is left.
             _ => Step::trap(TrapKind::Reached),
         }
     }

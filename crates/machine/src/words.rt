@@ -1,9 +1,11 @@
 // Words of memory: the sizes of types, and the words of values.
 
-ghost use Rattle.std.specs.Prelude.{◌≡◌, ◌≤◌, pos};
+ghost use Rattle.std.specs.Prelude.{◌≡◌, ◌^◌, ◌<◌, ◌≤◌, pos, length};
+ghost use Rattle.byteorder.specs.Endian.{little_number};
 ghost use Rattle.c_num.specs.Conversion.{word_of};
 ghost use Rattle.pool_isa.specs.Machine.{size_of, bytes_in};
 
+use byteorder::{ByteOrder, LittleEndian};
 use c_num::IntType;
 use pool_isa::Width;
 
@@ -31,6 +33,21 @@ pub(crate) fn bytes_in(width: Width) -> usize
         Width::Two => 2,
         Width::Four => 4,
         Width::Eight => 8,
+    }
+}
+
+/// The number in some bytes, the low one first.
+pub(crate) fn number_in(bytes: &[u8]) -> u64
+    requires low { 1 ≤ length bytes.now }
+    requires high { length bytes.now ≤ 8 }
+    ensures word { result ≡ little_number (length bytes.now) bytes.now }
+    ensures small { result < 256 ^ length bytes.now }
+{
+    let size = bytes.len();
+    if size == 8 {
+        LittleEndian::read_u64(bytes)
+    } else {
+        LittleEndian::read_uint(bytes, size)
     }
 }
 

@@ -18,7 +18,7 @@ use std::collections::BTreeMap;
 
 #[derive(Drop)]
 pub(crate) struct Pool {
-    kind: PoolKind,
+    pub(crate) kind: PoolKind,
     // One where the pool is homogeneous.
     classes: Vec<Cells>,
     // How many bytes each large object has, by its first slab.

@@ -1,9 +1,9 @@
-ghost use Rattle.std.specs.Prelude.{◌≡◌, ◌+◌, ◌≤◌, ◌↔◌, true, false, if◌then◌else◌, length, is_some, IfOk, OnOk, OnErr, Ok, Err, Some, None};
+ghost use Rattle.std.specs.Prelude.{◌≡◌, ◌+◌, ◌^◌, ◌<◌, ◌≤◌, ◌↔◌, true, false, if◌then◌else◌, length, is_some, IfOk, IfSome, OnOk, OnErr, Ok, Err, Some, None};
 ghost use Rattle.slab_space.specs.Pool.{IsKind};
 ghost use Rattle.slab_space.specs.PoolSteps.{placed, index_exhausted, heap_exhausted};
 ghost use Rattle.pool_runtime.specs.Tables.{IsSpace};
 ghost use Rattle.pool_runtime.specs.Changes.{HaveSizes, CoversAt};
-ghost use Rattle.slab_space.specs.Pools.{new_pools, init_step, destroy_step, alloc_step, free_step, load_step, store_step, address_of, index_of, lives_of, peak_of, live_of, slabs_of, free_slabs_of, TakesSlabs};
+ghost use Rattle.slab_space.specs.Pools.{new_pools, init_step, destroy_step, alloc_step, free_step, load_step, store_step, address_of, index_of, lives_of, kind_of, peak_of, live_of, slabs_of, free_slabs_of, TakesSlabs};
 
 use crate::memory::{START, read_word, write_word};
 use crate::pool::Pool;
@@ -182,7 +182,8 @@ impl Pools {
     pub fn load(&self, address: u64, width: usize) -> Option<u64>
         requires least { 1 ≤ width }
         requires most { width ≤ 8 }
-        ensures { result ≡ load_step self.now address width }
+        ensures step { result ≡ load_step self.now address width }
+        ensures small { IfSome result (λ word. word < 256 ^ width) }
     {
         if covers(&self.slabs, &self.pools, address, width) {
             Some(read_word(&self.slabs.space, address - START, width))
@@ -204,6 +205,16 @@ impl Pools {
             write_word(&mut self.slabs.space, address - START, width, word);
         }
         there
+    }
+
+    /// The kind of a living pool.
+    pub fn kind(&self, id: PoolId) -> Option<PoolKind>
+        ensures { result ≡ kind_of self.now id.0 }
+    {
+        match self.pools.get(&id.0) {
+            Some(pool) => Some(pool.kind),
+            None => None,
+        }
     }
 
     /// The most cells and objects of a pool that were live at once.

@@ -1,7 +1,7 @@
 -- From the bytes that were written to the answer of `build`, and what follows from this where nothing outside fails.
 use Rattle.std.proofs.Common.{◌≡◌, ℕ, ◌≤◌, ◌⊎◌, inl, inr, List, ◌++◌, Option, Some, length, sym, ap, ◌∙◌, refl, subst, arith}
 use Rattle.pcc_outside.specs.Outside.{Adds, AddsPart}
-use Rattle.c_ast.specs.Syntax.{ProgramTree}
+use Rattle.c_syntax.specs.Trees.{ProgramTree}
 use Rattle.image_form.specs.declared.image.MachineLimits.{MachineLimits}
 use Rattle.image_form.specs.Form.{Form, image_bytes}
 use Rattle.pcc_status.specs.declared.status.Refusal.{Refusal}

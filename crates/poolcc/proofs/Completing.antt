@@ -5,18 +5,18 @@ use Rattle.run_theory.specs.Runs.{Trace, output_of, Final, Ended, DepthReached, 
 use Rattle.run_theory.specs.declared.ends.TrapKind.{TrapKind}
 use Rattle.run_theory.proofs.Following.{follows_trapped}
 use Rattle.pcc_outside.specs.Outside.{Rose}
-use Rattle.c_ast.specs.Syntax.{ProgramTree}
-use Rattle.c_ast.specs.Reference.{reference}
-use Rattle.c_integer_types.specs.Typing.{typed_of}
-use Rattle.pool_isa.specs.Machine.{initial, mach}
+use Rattle.c_syntax.specs.Trees.{ProgramTree}
+use Rattle.c_rules.specs.Elaborated.{typed_of}
+use Rattle.c_meaning.specs.First.{reference}
+use Rattle.pool_isa.specs.Machine.{Activation, Heap}
 use Rattle.image_form.specs.declared.image.MachineLimits.{MachineLimits}
-use Rattle.image_form.specs.Form.{Form}
+use Rattle.image_form.specs.Form.{Form, code_of}
 use Rattle.machine.specs.Run.{HaltsAt, ComesTo}
 use Rattle.machine.proofs.Mach.{mach_over, mach_going}
 use Rattle.pcc_status.specs.declared.status.Status.{Status}
 use Rattle.pcc_status.specs.declared.status.Status.TheVariants as S
 use Rattle.pcc_status.specs.Said.{Said, after_failed_line}
-use Rattle.poolcc.specs.Compiled.{IsInteger, Compiles}
+use Rattle.poolcc.specs.Compiled.{IsInteger, Compiles, image_run, first_of_run}
 use Rattle.pcc_words.specs.Line.{Line, NoCommand, NoLine, Build, Exec, Run, Ref}
 use Rattle.poolcc.specs.Command.{Names}
 use Rattle.poolcc.specs.Complete.{told, RunsAs, RunsUnlessMemory}
@@ -52,9 +52,9 @@ said_trap status answer kind old new before after (inl said) e = sym said.stays 
 said_trap status answer kind old new before after (inr cut) e = absurd (no_trap status kind (sym e ∙ cut.becomes))
 
 module _ (text : List ℕ) (limits : MachineLimits) (steps : ℕ) (left base : List ℕ) (left' written' : Option (List ℕ)) where
-  over : (form : Form) (final : Final) → Compiles text limits form → HaltsAt form.functions (initial form.functions left) base steps final left' written' → (status : Status) → ((trace : Trace) → status ≡ told (Over final trace)) → RunsAs text limits steps left base status written'
-  over form final compiles halts status is =
-      let there = mach_over form.functions left base steps left' written' final halts in
+  over : (form : Form) (final : Final) (made : ℕ) (heap : Heap) → Compiles text limits form → HaltsAt (code_of form) (first_of_run form left) base steps final made heap left' written' → (status : Status) → ((trace : Trace) → status ≡ told (Over final trace)) → RunsAs text limits steps left base status written'
+  over form final made heap compiles halts status is =
+      let there = mach_over (code_of form) form.limits.slabs form.limits.index left base steps heap left' written' final made halts in
       record {
         form = form;
         compiles = compiles;
@@ -62,9 +62,9 @@ module _ (text : List ℕ) (limits : MachineLimits) (steps : ℕ) (left base : L
         output = there.2 ∙ ap (λ answer. Some (base ++ output_of (trace_of answer))) (sym there.1);
       }
 
-  spent : (form : Form) → Compiles text limits form → ComesTo form.functions (initial form.functions left) base steps left' written' → RunsAs text limits steps left base S.StepsSpent written'
-  spent form compiles comes =
-      let there = mach_going form.functions left base steps left' written' comes in
+  spent : (form : Form) (activations : List Activation) (heap : Heap) → Compiles text limits form → ComesTo (code_of form) (first_of_run form left) base steps activations heap left' written' → RunsAs text limits steps left base S.StepsSpent written'
+  spent form activations heap compiles comes =
+      let there = mach_going (code_of form) form.limits.slabs form.limits.index left base steps heap left' written' activations comes in
       record {
         form = form;
         compiles = compiles;
@@ -75,12 +75,12 @@ module _ (text : List ℕ) (limits : MachineLimits) (steps : ℕ) (left base : L
   module _ (program : ProgramTree) (accepted : IsInteger text program) (short : length text ≤ source_limit) where
     -- an answer of exec that is no fault is the machine's, or memory ran out
     pub completed : (answer : Status) → ExecGives text limits steps left base answer left' written' → (answer ≡ S.ReadFault → ⊥) → (answer ≡ S.WriteFault → ⊥) → RunsUnlessMemory text limits steps left base answer written'
-    completed (S.Program status) gives read write = inr (over gives.form (Ended status) gives.compiles gives.ran (S.Program status) (λ trace. refl))
-    completed S.Depth gives read write = inr (over gives.form DepthReached gives.compiles gives.ran S.Depth (λ trace. refl))
-    completed S.HeapExhausted gives read write = inr (over gives.form HeapExhausted gives.compiles gives.ran S.HeapExhausted (λ trace. refl))
-    completed S.IndexExhausted gives read write = inr (over gives.form IndexExhausted gives.compiles gives.ran S.IndexExhausted (λ trace. refl))
-    completed (S.Trapped kind) gives read write = inr (over gives.form (Trapped kind) gives.compiles gives.ran (S.Trapped kind) (λ trace. refl))
-    completed S.StepsSpent gives read write = inr (spent gives.form gives.compiles gives.ran)
+    completed (S.Program status) gives read write = inr (over gives.form (Ended status) gives.ran.made gives.ran.heap gives.compiles gives.ran.gives (S.Program status) (λ trace. refl))
+    completed S.Depth gives read write = inr (over gives.form DepthReached gives.ran.made gives.ran.heap gives.compiles gives.ran.gives S.Depth (λ trace. refl))
+    completed S.HeapExhausted gives read write = inr (over gives.form HeapExhausted gives.ran.made gives.ran.heap gives.compiles gives.ran.gives S.HeapExhausted (λ trace. refl))
+    completed S.IndexExhausted gives read write = inr (over gives.form IndexExhausted gives.ran.made gives.ran.heap gives.compiles gives.ran.gives S.IndexExhausted (λ trace. refl))
+    completed (S.Trapped kind) gives read write = inr (over gives.form (Trapped kind) gives.ran.made gives.ran.heap gives.compiles gives.ran.gives (S.Trapped kind) (λ trace. refl))
+    completed S.StepsSpent gives read write = inr (spent gives.form gives.ran.activations gives.ran.heap gives.compiles gives.ran.gives.1)
     completed (S.Refused refusal) gives read write = absurd (not_refused text program refusal accepted gives.1)
     completed S.SourceTooLong gives read write = let long = gives.0 in absurd (omega arith)
     completed S.ReadFault gives read write = absurd (read refl)
@@ -95,9 +95,10 @@ module _ (text : List ℕ) (limits : MachineLimits) (steps : ℕ) (left base : L
   -- a run that trapped shows that the program goes wrong
   pub trapped : (kind : TrapKind) → ExecGives text limits steps left base (S.Trapped kind) left' written' → (program : ProgramTree) × IsInteger text program × (n : ℕ) × IsUndefined (reference (typed_of program) left n)
   trapped kind gives =
-      let there = mach_over gives.form.functions left base steps left' written' (Trapped kind) gives.ran in
+      let own = gives.form.limits in
+      let there = mach_over (code_of gives.form) own.slabs own.index left base steps gives.ran.heap left' written' (Trapped kind) gives.ran.made gives.ran.gives in
       let compiles = gives.compiles in
-      let wrong = follows_trapped (reference (typed_of compiles.program) left) (mach gives.form.functions left) (compiles.image.follows left limits) steps kind there.0 there.1 in
+      let wrong = follows_trapped (reference (typed_of compiles.program) left) (image_run gives.form left) (compiles.image.follows left own) steps kind there.0 there.1 in
       (compiles.program, compiles.integer, wrong.0, wrong.1)
 
 -- a line has one file

@@ -1,14 +1,10 @@
 pub mod Completing
 pub mod Executing
 pub mod Misplacing
-pub mod NarrowedSizes
-pub mod NodeCounts
 pub mod Pipeline
 pub mod Reading
 pub mod Refusals
 pub mod Refusing
-pub mod Sizes
-pub mod TreeSizes
 pub mod Referring
 pub mod RefCompleting
 pub mod Building

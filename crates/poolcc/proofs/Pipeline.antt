@@ -1,52 +1,57 @@
 -- The instructions of a program follow the program, through its three-address code.
-use Rattle.std.proofs.Common.{◌≡◌, ℕ, List, refl, sym, subst, arith}
+use Rattle.std.proofs.Common.{◌≡◌, ℕ, List, [], Result, Ok, Err, IfOk, refl, sym, ap, ◌∙◌, subst, arith}
+use Rattle.std.specs.declared.alloc.AllocError.{AllocError}
 use Rattle.std.specs.List.{AllByRecursion}
 use Rattle.run_theory.specs.Runs.{Simulates, Follows}
 use Rattle.run_theory.proofs.Simulations.{compose, follows}
-use Rattle.c_ast.specs.Typed.{TypedProgram}
-use Rattle.c_ast.specs.Reference.{reference}
+use Rattle.c_typed.specs.Typed.{Program}
+use Rattle.c_meaning.specs.First.{reference}
 use Rattle.tac_ir.specs.declared.Tac.{Tac}
 use Rattle.tac_ir.specs.Meaning.{tac_run}
 use Rattle.tac_ir.specs.Fits.{FitsFrame}
-use Rattle.tac_build.specs.Code.{Code}
+use Rattle.tac_build.specs.Laws.{IsCompiled}
 use Rattle.tac_build.proofs.Simulation as lowering
 use Rattle.pool_isa.specs.Machine.{Function, mach}
 use Rattle.pool_isa.specs.Ranges.{IsWithin, IsFunction}
-use Rattle.stack_code.specs.Emission.{functions_of}
+use Rattle.pool_isa.proofs.MachineRuns.{mach_is_run}
+use Rattle.stack_code.specs.Emission.{code_of, functions_of}
 use Rattle.stack_code.proofs.Simulation.{emission_follows}
 use Rattle.image_form.specs.declared.image.MachineLimits.{MachineLimits}
-use Rattle.image_form.specs.Form.{Form, IsImage}
-use Rattle.poolcc.specs.Compiled.{IsImageFor, image_with}
-use Rattle.pool_isa.proofs.MachineRuns.{mach_is_run}
+use Rattle.image_form.specs.Form.{Form, form_of, IsImage}
+use Rattle.image_form.specs.declared.image.Image.{Image}
+use Rattle.pool_linker.specs.Linking.{linked}
+use Rattle.pool_linker.proofs.NoKinds.{linked_nothing}
+use Rattle.slab_space.specs.declared.kind.PoolKind.{PoolKind}
+use Rattle.poolcc.specs.Compiled.{IsImageFor}
 
 -- each program step is at most 32 of the machine, and two more lead to the first
-pub simulated : (program : TypedProgram) (tac : Tac) (input : List ℕ) → Code program tac → FitsFrame tac → Simulates (reference program input) (mach (functions_of tac) input) 32 2
-simulated program tac input code fits =
-    compose (reference program input) (tac_run tac input) (mach (functions_of tac) input) 4 0 8 2 32 2 (lowering.follows program tac input code) (emission_follows tac input fits) (λ n j le. omega arith)
+pub simulated : (program : Program) (tac : Tac) (input : List ℕ) (slabs index : ℕ) → IsCompiled program tac → FitsFrame tac → Simulates (reference program input) (mach (code_of tac) slabs index input) 32 2
+simulated program tac input slabs index code fits =
+    compose (reference program input) (tac_run tac input) (mach (code_of tac) slabs index input) 4 0 8 2 32 2 (lowering.follows program tac input code) (emission_follows tac input slabs index fits) (λ n j le. omega arith)
 
-pub followed : (program : TypedProgram) (tac : Tac) (input : List ℕ) → Code program tac → FitsFrame tac → Follows (reference program input) (mach (functions_of tac) input)
-followed program tac input code fits =
-    follows (reference program input) (mach (functions_of tac) input) 32 2 (simulated program tac input code fits) (mach_is_run (functions_of tac) input) (λ n. omega arith)
+pub followed : (program : Program) (tac : Tac) (input : List ℕ) (slabs index : ℕ) → IsCompiled program tac → FitsFrame tac → Follows (reference program input) (mach (code_of tac) slabs index input)
+followed program tac input slabs index code fits =
+    follows (reference program input) (mach (code_of tac) slabs index input) 32 2 (simulated program tac input slabs index code fits) (mach_is_run (code_of tac) slabs index input) (λ n. omega arith)
 
--- the image with these functions and limits has its fields in their ranges
-pub image_is : (tac : Tac) (limits : MachineLimits) → IsWithin 1 1048576 limits.slabs → IsWithin 1 4294967295 limits.index → AllByRecursion (IsFunction 0 2) (functions_of tac) → IsImage (image_with (functions_of tac) limits)
-image_is tac limits slabs index functions = record {
-  version = refl;
-  slabs = slabs;
-  index = index;
-  globals = omega arith;
-  contents = (omega arith, tt, tt);
-  kinds = (omega arith, tt);
-  functions = omega arith;
-  each_function = functions;
-  start = refl;
-}
+-- the form of an image with these functions and limits, and neither globals nor kinds
+abbrev pub image_with : List Function → MachineLimits → Form
+image_with functions limits = record { version = 1; limits = limits; globals = 0; contents = []; kinds = []; functions = functions }
 
-pub image_for : (program : TypedProgram) (tac : Tac) (limits : MachineLimits) (functions : List Function) (form : Form) → functions ≡ functions_of tac → form ≡ image_with functions limits → Code program tac → FitsFrame tac → AllByRecursion (IsFunction 0 2) functions → IsWithin 1 1048576 limits.slabs → IsWithin 1 4294967295 limits.index → IsImageFor program limits form
-image_for program tac limits functions form are is code fits ranges slabs index =
-    let whole : form ≡ image_with (functions_of tac) limits = cc in
-    subst (IsImageFor program limits) (sym whole) (record {
-      ranges = image_is tac limits slabs index (subst (AllByRecursion (IsFunction 0 2)) are ranges);
+pub image_for : (program : Program) (tac : Tac) (limits : MachineLimits) (form : Form) → form ≡ image_with (functions_of tac) limits → IsImage form → IsCompiled program tac → FitsFrame tac → IsImageFor program limits form
+image_for program tac limits form is ranges code fits =
+    subst (IsImageFor program limits) (sym is) (record {
+      ranges = subst IsImage is ranges;
       holds = refl;
-      follows = λ input within. followed program tac input code fits;
+      follows = λ input within. followed program tac input within.slabs within.index code fits;
     })
+
+-- what the linker makes of the code's functions, which name no kind
+pub linked_code : (tac : Tac) (limits : MachineLimits) (kinds : List PoolKind) (functions : List Function) → kinds ≡ [] → functions ≡ functions_of tac → AllByRecursion (IsFunction 0 2) functions → linked kinds functions limits ≡ image_with (functions_of tac) limits
+linked_code tac limits kinds functions none are ranges =
+    ap (λ (ks : List PoolKind). linked ks functions limits) none ∙ ap (λ (fs : List Function). linked [] fs limits) are ∙ linked_nothing (functions_of tac) limits (subst (AllByRecursion (IsFunction 0 2)) are ranges)
+
+-- the image that was linked, if memory didn't run out
+pub image_if : (program : Program) (tac : Tac) (limits : MachineLimits) (result : Result Image AllocError) → IfOk result (λ (image : Image). form_of image ≡ image_with (functions_of tac) limits) → IfOk result (λ (image : Image). IsImage (form_of image))
+    → IsCompiled program tac → FitsFrame tac → IfOk result (λ (image : Image). IsImageFor program limits (form_of image))
+image_if program tac limits (Ok image) is ranges code fits = image_for program tac limits (form_of image) is ranges code fits
+image_if program tac limits (Err error) is ranges code fits = tt

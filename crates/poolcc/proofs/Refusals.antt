@@ -2,7 +2,6 @@
 use Rattle.std.proofs.Common.{◌≡◌, ℕ, List, Option, Some, None, sym, ap, ◌∙◌, refl, subst}
 use Rattle.run_theory.specs.declared.ends.Pos.{Pos}
 use Rattle.c_syntax.specs.Trees
-use Rattle.c_ast.specs.Syntax.{ProgramTree}
 use Rattle.c_rules.specs.declared.violation.Violation.{Violation}
 use Rattle.c_rules.specs.Known.{least}
 use Rattle.c_rules.specs.Programs as rules
@@ -12,6 +11,7 @@ use Rattle.c_limits.specs.declared.limits.LimitErr.{LimitErr}
 use Rattle.c_limits.specs.declared.limits.Limit.{Limit}
 use Rattle.c_limits.specs.declared.limits.Limit.TheVariants as L
 use Rattle.c_limits.specs.Limits.{exceeded}
+use Rattle.tac_build.specs.Inside.{is_integer_program}
 use Rattle.pcc_status.specs.declared.status.LexKind.{LexKind}
 use Rattle.pcc_status.specs.declared.status.LexKind.TheVariants as K
 use Rattle.pcc_status.specs.declared.status.SyntaxKind.{SyntaxKind}
@@ -21,7 +21,7 @@ use Rattle.pcc_status.specs.declared.status.Refusal.{Refusal}
 use Rattle.pcc_status.specs.declared.status.Refusal.TheVariants as R
 use Rattle.poolcc.specs.declared.text.Stop.TheVariants as stops
 use Rattle.poolcc.specs.Compiled.{ReadsAs, IsAccepted, IsInteger}
-use Rattle.poolcc.specs.Refused.{fault_of, IsLexical, IsSyntactic, IsRefused, IsLate, limit_named, later, stopped_at, first_violated, stop_of}
+use Rattle.poolcc.specs.Refused.{fault_of, IsLexical, IsSyntactic, IsRefused, IsLate, limit_named, later, later_at, stop_of}
 use Rattle.poolcc.proofs.Misplacing.{one_syntactic}
 
 -- the refusal of a program that was read, if it has one
@@ -115,20 +115,20 @@ one_refusal text refusal other a b = same_reason text refusal other (reason text
 
 -- ---- none of a text that is accepted
 
-none_of : (text : List ℕ) (program : ProgramTree) (integer : IsInteger text program) → refusal_of integer.narrowed.whole ≡ None
+none_of : (text : List ℕ) (program : Trees.ProgramTree) (integer : IsInteger text program) → refusal_of program ≡ None
 none_of text program integer =
-    let whole = integer.narrowed.whole in
-    let accepted = integer.narrowed.accepted in
-    ap (λ all. of_rules (least all) (limit_of whole) (later whole)) accepted.typed ∙ ap (λ first. of_limits first (later whole)) accepted.within ∙ ap (λ narrowed. of_later (stopped_at narrowed)) integer.narrowed.narrows ∙ ap (λ all. of_later (first_violated all)) integer.typed
+    let accepted = integer.accepted in
+    ap (λ all. of_rules (least all) (limit_of program) (later program)) accepted.typed ∙ ap (λ first. of_limits first (later program)) accepted.within
+    ∙ ap (λ place. of_later (later_at place (is_integer_program (elaborated.typed_of program)) program.end)) integer.none_outside ∙ ap (λ inside. of_later (later_at None inside program.end)) integer.inside
 
-no_reason : (text : List ℕ) (program : ProgramTree) (refusal : Refusal) → IsInteger text program → Reason text refusal → ⊥
-no_reason text program _ integer (lexical a) = not_read a integer.narrowed.accepted.reads
-no_reason text program _ integer (syntactic a) = a.unread integer.narrowed.whole integer.narrowed.accepted.reads.reads
+no_reason : (text : List ℕ) (program : Trees.ProgramTree) (refusal : Refusal) → IsInteger text program → Reason text refusal → ⊥
+no_reason text program _ integer (lexical a) = not_read a integer.accepted.reads
+no_reason text program _ integer (syntactic a) = a.unread program integer.accepted.reads.reads
 no_reason text program refusal integer (of_program whole reads is) =
-    let both : None ≡ Some refusal = sym (ap refusal_of (integer.narrowed.accepted.reads.only whole reads.reads) ∙ none_of text program integer) ∙ is in
+    let both : None ≡ Some refusal = sym (ap refusal_of (integer.accepted.reads.only whole reads.reads) ∙ none_of text program integer) ∙ is in
     cc both
 
-pub not_refused : (text : List ℕ) (program : ProgramTree) (refusal : Refusal) → IsInteger text program → IsRefused text refusal → ⊥
+pub not_refused : (text : List ℕ) (program : Trees.ProgramTree) (refusal : Refusal) → IsInteger text program → IsRefused text refusal → ⊥
 not_refused text program refusal integer refused = no_reason text program refusal integer (reason text refusal refused)
 
 -- what is accepted is refused for later, or not at all

@@ -6,8 +6,6 @@ use Rattle.c_lexer.specs.declared.lex_err.LexErr.{LexErr}
 use Rattle.c_lexer.specs.declared.lex_err.LexErr.TheVariants as X
 use Rattle.c_lexer.specs.Tokens.{Faults, UnlessMemory}
 use Rattle.c_lexer.proofs.Dividing.{one_fault, no_both}
-use Rattle.c_integer_types.specs.Checking.{first}
-use Rattle.c_integer_types.specs.Typing.{Violation}
 use Rattle.image_form.specs.declared.image.MachineLimits.{MachineLimits}
 use Rattle.image_form.specs.Form.{Form}
 use Rattle.pcc_status.specs.declared.status.LexKind.{LexKind}
@@ -17,7 +15,7 @@ use Rattle.pcc_status.specs.declared.status.Status.{Status}
 use Rattle.pcc_status.specs.declared.status.Status.TheVariants as S
 use Rattle.poolcc.specs.Compiled.{Compiles}
 use Rattle.poolcc.specs.Exec.{source_limit, ExecGives}
-use Rattle.poolcc.specs.Refused.{fault_of, IsLexical, IsRefused, IsStop, first_violated, stop_of}
+use Rattle.poolcc.specs.Refused.{fault_of, IsLexical, IsRefused, IsStop, stop_of}
 use Rattle.poolcc.proofs.Refusals.{one_refusal, not_refused}
 
 pub is_lexical : (text : List ℕ) (kind : LexKind) (place : Pos) → Faults first_place text (fault_of kind place) → IsLexical text kind place
@@ -35,11 +33,6 @@ stops_so text (X.Unclosed place) refused = is_lexical text K.Unclosed place refu
 stops_so text (X.BadDirective place) refused = is_lexical text K.BadDirective place refused
 stops_so text (X.NameTooLong place) refused = is_lexical text K.NameTooLong place refused
 stops_so text X.OutOfMemory refused = tt
-
--- the first violation that the integer language's check names
-pub first_place_violated : (violations : List Violation) (violation : Violation) → first violations ≡ Some violation → first_violated violations ≡ Some violation.place
-first_place_violated [] violation e = cc
-first_place_violated (one ∷ others) violation e = let same : one ≡ violation = cc in ap (λ v. Some v.place) same
 
 module _ (text : List ℕ) (limits : MachineLimits) (steps : ℕ) (left base : List ℕ) (left' written' : Option (List ℕ)) where
   module _ (refusal : Refusal) (refused : IsRefused text refusal) (short : length text ≤ source_limit) where

@@ -1,23 +1,24 @@
 -- When an image is a program's.
-use Rattle.std.specs.Prelude.{◌≡◌, ℕ, List, [], None, Ok}
+use Rattle.std.specs.Prelude.{◌≡◌, ℕ, true, List, [], Option, None}
 use Rattle.run_theory.specs.Places.{first_place}
 use Rattle.run_theory.specs.Runs.{Run, Follows}
 use Rattle.c_token.specs.Leaves.{Leaf}
 use Rattle.c_lexer.specs.Tokens.{Divides}
 use Rattle.c_syntax.specs.Trees
 use Rattle.c_reader.specs.Readings.{IsProgram}
-use Rattle.c_ast.specs.Syntax.{ProgramTree}
-use Rattle.c_ast.specs.Typed.{TypedProgram}
-use Rattle.c_ast.specs.Reference.{reference}
+use Rattle.c_typed.specs.Typed.{Program}
+use Rattle.c_meaning.specs.First.{reference}
 use Rattle.c_rules.specs.Programs as rules
 use Rattle.c_rules.specs.Elaborated as elaborated
 use Rattle.c_types.specs.NamedItems.{named_types}
 use Rattle.c_limits.specs.Limits.{exceeded}
-use Rattle.c_integer.specs.Narrowing.{program_of}
-use Rattle.c_integer_types.specs.Typing.{violations, typed_of}
-use Rattle.pool_isa.specs.Machine.{Function, mach}
+use Rattle.c_integer.specs.Outside.{outside}
+use Rattle.tac_build.specs.Inside.{is_integer_program}
+use Rattle.pool_isa.specs.Machine.{Function, State, initial, mach}
 use Rattle.image_form.specs.declared.image.MachineLimits.{MachineLimits}
-use Rattle.image_form.specs.Form.{Form, IsImage, ImageOf}
+use Rattle.image_form.specs.Form.{Form, code_of, IsImage, ImageOf}
+use Rattle.machine.specs.declared.ends.RunEnd.{RunEnd}
+use Rattle.machine.specs.Run.{RunsTo}
 
 -- The text divides into the tokens of the program.
 pub record Reads (text : List ℕ) (program : Trees.ProgramTree) : Type 0 where
@@ -36,37 +37,40 @@ pub record IsAccepted (text : List ℕ) (program : Trees.ProgramTree) : Type 0 w
   pub typed : rules.violations program ≡ []
   pub within : exceeded (elaborated.typed_of program) (named_types program) ≡ None
 
--- The text is accepted, and its program is this of the integer language.
-pub record IsNarrowed (text : List ℕ) (program : ProgramTree) : Type 0 where
-  pub whole : Trees.ProgramTree
-  pub accepted : IsAccepted text whole
-  pub narrows : program_of whole ≡ Ok program
+-- The text is accepted, and no node of its program is outside the part of the language that is compiled so far. (That its typed
+-- tree is then inside this part is not proved; it is looked at, too.)
+pub record IsInteger (text : List ℕ) (program : Trees.ProgramTree) : Type 0 where
+  pub accepted : IsAccepted text program
+  pub none_outside : outside program ≡ None
+  pub inside : is_integer_program (elaborated.typed_of program) ≡ true
 
--- and the integer language's own rules hold of it: this is what is compiled so far.
-pub record IsInteger (text : List ℕ) (program : ProgramTree) : Type 0 where
-  pub narrowed : IsNarrowed text program
-  pub typed : violations program ≡ []
-
--- The run of an image on an input, within limits: no instruction that is there takes memory of the heap, so that no
--- limit is reached yet.
+-- the run of an image on an input, within limits
 abbrev pub machine_run : Form → MachineLimits → List ℕ → Run
-machine_run form limits input = mach form.functions input
+machine_run form limits input = mach (code_of form) limits.slabs limits.index input
+
+-- the run within the limits that the image holds
+abbrev pub image_run : Form → List ℕ → Run
+image_run form input = machine_run form form.limits input
+
+abbrev pub first_of_run : Form → List ℕ → State
+first_of_run form input = initial (code_of form) form.limits.slabs form.limits.index input
+
+-- The machine has run the image from the first step, within the limits that it holds: this is its answer, this is what is left of
+-- the input, and this is what was written, the new output behind the base.
+abbrev pub RunsImageTo : Form → List ℕ → List ℕ → ℕ → RunEnd → Option (List ℕ) → Option (List ℕ) → Type 0
+RunsImageTo form left base steps answer left' written' = RunsTo (code_of form) (first_of_run form left) base steps answer left' written'
 
 -- The image is the program's: its fields are in their ranges, it holds the limits, and it follows the program on
 -- every input and within all limits.
-pub record IsImageFor (program : TypedProgram) (limits : MachineLimits) (form : Form) : Type 0 where
+pub record IsImageFor (program : Program) (limits : MachineLimits) (form : Form) : Type 0 where
   pub ranges : IsImage form
   pub holds : form.limits ≡ limits
   pub follows : (input : List ℕ) (within : MachineLimits) → Follows (reference program input) (machine_run form within input)
 
--- the image that holds these functions and limits
-abbrev pub image_with : List Function → MachineLimits → Form
-image_with functions limits = record { version = 1; limits = limits; globals = 0; contents = []; kinds = []; functions = functions }
-
 -- The text is compiled: the image, which has been encoded and decoded, is its program's.
 pub record Compiles (text : List ℕ) (limits : MachineLimits) (form : Form) : Type 0 where
-  pub program : ProgramTree
+  pub program : Trees.ProgramTree
   pub integer : IsInteger text program
   pub encoded : List ℕ
   pub decoded : ImageOf encoded form
-  pub image : IsImageFor (typed_of program) limits form
+  pub image : IsImageFor (elaborated.typed_of program) limits form

@@ -4,10 +4,9 @@ use Rattle.run_theory.specs.Runs.{output_of, Ended, DepthReached, Undefined, Hea
 use Rattle.image_form.specs.declared.image.MachineLimits.{MachineLimits}
 use Rattle.image_form.specs.Form.{Form}
 use Rattle.image_form.specs.Faults.{IsBadAt}
-use Rattle.pool_isa.specs.Machine.{mach}
 use Rattle.pcc_status.specs.declared.status.Status.{Status}
 use Rattle.pcc_status.specs.declared.status.Status.TheVariants as S
-use Rattle.poolcc.specs.Compiled.{Compiles}
+use Rattle.poolcc.specs.Compiled.{image_run, Compiles}
 
 -- the answer of a run as a command tells it: a run that is going has spent its steps
 abbrev pub told : Answer → Status
@@ -24,8 +23,8 @@ told (Over (Trapped kind) trace) = S.Trapped kind
 pub record RunsAs (text : List ℕ) (limits : MachineLimits) (steps : ℕ) (input base : List ℕ) (status : Status) (written : Option (List ℕ)) : Type 0 where
   pub form : Form
   pub compiles : Compiles text limits form
-  pub ends : status ≡ told (mach form.functions input steps)
-  pub output : written ≡ Some (base ++ output_of (trace_of (mach form.functions input steps)))
+  pub ends : status ≡ told (image_run form input steps)
+  pub output : written ≡ Some (base ++ output_of (trace_of (image_run form input steps)))
 
 -- The status and the output, behind the base, are those of this answer of the program itself.
 pub record IsToldOf (answer : Answer) (base : List ℕ) (status : Status) (written : Option (List ℕ)) : Type 0 where

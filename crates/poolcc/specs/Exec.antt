@@ -1,14 +1,12 @@
 -- What `exec` answers.
 use Rattle.std.specs.Prelude.{◌≡◌, ℕ, ◌<◌, ◌≤◌, ◌⊎◌, List, Option, Some, length}
-use Rattle.pool_isa.specs.Machine.{initial}
 use Rattle.image_form.specs.declared.image.MachineLimits.{MachineLimits}
 use Rattle.image_form.specs.Form.{Form}
 use Rattle.machine.specs.declared.ends.RunEnd.{RunEnd}
 use Rattle.machine.specs.declared.ends.RunEnd.TheVariants as E
-use Rattle.machine.specs.Run.{RunGives}
 use Rattle.pcc_status.specs.declared.status.Status.{Status}
 use Rattle.pcc_status.specs.declared.status.Status.TheVariants as S
-use Rattle.poolcc.specs.Compiled.{Compiles}
+use Rattle.poolcc.specs.Compiled.{RunsImageTo, Compiles}
 use Rattle.poolcc.specs.Refused.{IsRefused}
 
 -- a source has at most so many bytes
@@ -21,7 +19,7 @@ pub record Executes (text : List ℕ) (limits : MachineLimits) (steps : ℕ) (le
   pub short : length text ≤ source_limit
   pub form : Form
   pub compiles : Compiles text limits form
-  pub ran : RunGives form.functions (initial form.functions left) base steps answer left' written'
+  pub ran : RunsImageTo form left base steps answer left' written'
 
 -- nothing was read from the input or written
 pub record IsUntouched (left base : List ℕ) (left' written' : Option (List ℕ)) : Type 0 where

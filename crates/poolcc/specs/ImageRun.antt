@@ -1,13 +1,12 @@
 -- What `run` answers.
 use Rattle.std.specs.Prelude.{ℕ, ◌^◌, ◌<◌, ◌≤◌, ◌⊎◌, List, Option, length}
-use Rattle.pool_isa.specs.Machine.{initial}
 use Rattle.image_form.specs.Form.{Form, ImageOf, IsImageBytes}
 use Rattle.image_form.specs.Faults.{IsBadAt}
 use Rattle.machine.specs.declared.ends.RunEnd.{RunEnd}
 use Rattle.machine.specs.declared.ends.RunEnd.TheVariants as E
-use Rattle.machine.specs.Run.{RunGives}
 use Rattle.pcc_status.specs.declared.status.Status.{Status}
 use Rattle.pcc_status.specs.declared.status.Status.TheVariants as S
+use Rattle.poolcc.specs.Compiled.{RunsImageTo}
 use Rattle.poolcc.specs.Exec.{IsUntouched}
 
 -- an image has at most so many bytes
@@ -20,7 +19,7 @@ pub record RunsImage (bytes : List ℕ) (steps : ℕ) (left base : List ℕ) (an
   pub short : length bytes ≤ image_limit
   pub form : Form
   pub decoded : ImageOf bytes form
-  pub ran : RunGives form.functions (initial form.functions left) base steps answer left' written'
+  pub ran : RunsImageTo form left base steps answer left' written'
 
 -- The bytes, which are within the limit, are no image's: this is the place of the first with which none goes on.
 pub record IsNoImage (bytes : List ℕ) (place : ℕ) : Type 0 where

@@ -1,5 +1,5 @@
 -- When a text is refused, and of which kind and place.
-use Rattle.std.specs.Prelude.{◌≡◌, ℕ, List, [], ◌∷◌, Option, Some, None, Result, Ok, Err}
+use Rattle.std.specs.Prelude.{◌≡◌, ℕ, Bool, true, false, List, [], Option, Some, None}
 use Rattle.run_theory.specs.declared.ends.Pos.{Pos}
 use Rattle.run_theory.specs.Places.{first_place}
 use Rattle.c_token.specs.Leaves.{Leaf}
@@ -8,8 +8,8 @@ use Rattle.c_lexer.specs.declared.lex_err.LexErr.TheVariants as X
 use Rattle.c_lexer.specs.Tokens.{Divides, Faults}
 use Rattle.c_syntax.specs.Trees
 use Rattle.c_reader.specs.Readings.{MisfitAt, TooDeepAt}
-use Rattle.c_ast.specs.Syntax.{ProgramTree}
-use Rattle.c_integer.specs.Narrowing.{Stop, Later, NoMain, program_of}
+use Rattle.c_integer.specs.Outside.{outside}
+use Rattle.tac_build.specs.Inside.{is_integer_program}
 use Rattle.c_rules.specs.declared.rule.TypeRule.{TypeRule}
 use Rattle.c_rules.specs.Programs as rules
 use Rattle.c_rules.specs.Elaborated as elaborated
@@ -17,7 +17,6 @@ use Rattle.c_types.specs.NamedItems.{named_types}
 use Rattle.c_limits.specs.declared.limits.Limit.{Limit}
 use Rattle.c_limits.specs.declared.limits.Limit.TheVariants as L
 use Rattle.c_limits.specs.Limits.{exceeded}
-use Rattle.c_integer_types.specs.Typing.{Violation, violations}
 use Rattle.pcc_status.specs.declared.status.LexKind.{LexKind}
 use Rattle.pcc_status.specs.declared.status.LexKind.TheVariants as K
 use Rattle.pcc_status.specs.declared.status.SyntaxKind.{SyntaxKind}
@@ -82,19 +81,15 @@ pub record IsTooLarge (text : List ℕ) (limit : LimitKind) (count : ℕ) : Type
   pub typed : rules.violations program ≡ []
   pub first : exceeded (elaborated.typed_of program) (named_types program) ≡ Some (record { which = limit_named limit; count = count })
 
--- The place of what is not compiled yet: a form that is none of the integer language. (That this language finds no main, or
--- a violation of its own rules, does not come of a program that violates no rule of the whole language; it is answered so too.)
-abbrev pub first_violated : List Violation → Option Pos
-first_violated [] = None
-first_violated (violation ∷ others) = Some violation.place
-
-abbrev pub stopped_at : Result ProgramTree Stop → Option Pos
-stopped_at (Ok program) = first_violated (violations program)
-stopped_at (Err (Later place)) = Some place
-stopped_at (Err (NoMain place)) = Some place
+-- The place of what is not compiled yet: the first node that is outside the part of the language that is. (Where there is none and
+-- the typed tree is not inside that part, which never comes but is not proved, it is the end of the text.)
+abbrev pub later_at : Option Pos → Bool → Pos → Option Pos
+later_at (Some place) inside end = Some place
+later_at None true end = None
+later_at None false end = Some end
 
 abbrev pub later : Trees.ProgramTree → Option Pos
-later program = stopped_at (program_of program)
+later program = later_at (outside program) (is_integer_program (elaborated.typed_of program)) program.end
 
 -- The text is accepted, and is not compiled yet from this place on.
 pub record IsLater (text : List ℕ) (place : Pos) : Type 0 where

@@ -2,9 +2,8 @@
 
 ghost use Rattle.std.specs.Prelude.{◌≡◌, ◌≢◌, ℕ, ◌<◌, ◌≤◌, ◌⊎◌, List, Some, length};
 ghost use Rattle.pcc_outside.specs.Outside.{Rose, Missing, Holds};
-ghost use Rattle.pool_isa.specs.Machine.{initial};
-ghost use Rattle.image_form.specs.Form.{form_of};
-ghost use Rattle.machine.specs.Run.{RunGives};
+ghost use Rattle.image_form.specs.Form.{form_of, IsImage};
+ghost use Rattle.poolcc.specs.Compiled.{RunsImageTo};
 ghost use Rattle.poolcc.specs.Exec.{ExecGives, IsUsage, source_limit};
 ghost use Rattle.poolcc.specs.Seen.{AreInRange, status_seen};
 
@@ -77,7 +76,7 @@ fn run_text<I: Source, O: Sink>(
     }
 }
 
-/// Runs an image from its first step.
+/// Runs an image from its first step, within the limits that it holds.
 pub(crate) fn run_image<I: Source, O: Sink>(
     alloc: Global,
     image: &Image,
@@ -85,14 +84,15 @@ pub(crate) fn run_image<I: Source, O: Sink>(
     input: &mut I,
     out: &mut O,
 ) -> RunEnd
+    requires { IsImage (form_of image.now) }
     ensures gives { (left base : List ℕ) → I.left input.old ≡ Some left → O.written out.old ≡ Some base
-        → let functions = (form_of image.now).functions in RunGives functions (initial functions left) base steps result (I.left input.new) (O.written out.new) }
+        → RunsImageTo (form_of image.now) left base steps result (I.left input.new) (O.written out.new) }
     ensures read_cause { result ≡ RunEnd.ReadFault → Rose (I.faults input.old) (I.faults input.new) }
     ensures write_cause { result ≡ RunEnd.WriteFault → Rose (O.faults out.old) (O.faults out.new) }
     ensures reads_counted { I.faults input.old ≤ I.faults input.new }
     ensures writes_counted { O.faults out.old ≤ O.faults out.new }
 {
-    let Ok(machine) = Machine::load(alloc, image, image.limits) else {
+    let Ok(mut machine) = Machine::load(alloc, image, image.limits) else {
         return RunEnd::OutOfMemory;
     };
     machine.run(input, out, steps)

@@ -12,7 +12,7 @@ mod text;
 mod top;
 
 pub use build::build_file;
-pub use compile::{compile, link};
+pub use compile::compile;
 pub use exec::exec;
 pub use image_run::run_file;
 use pcc_outside::{HostFiles, StdSink, StdSource};

@@ -242,6 +242,130 @@ fn programs_run(rt: HostRuntime) -> Result<(), Fail> {
     Ok(())
 }
 
+// All integer types, operators and statements (C17 6.3.1, 6.5, 6.8), and `exit`.
+#[test]
+fn all_of_integers_is_compiled(rt: HostRuntime) -> Result<(), Fail> {
+    let alloc = rt.alloc();
+    let rows: [(&str, &[u8], &[u8], u8); 20] = [
+        ("int main(void) { return 4294967295u + 1u; }", b"", b"", 0),
+        (
+            "int main(void) { unsigned char c = 200; c += 100; return c; }",
+            b"",
+            b"",
+            44,
+        ),
+        (
+            "int main(void) { int s = 0; for (int i = 0; i < 5; i++) { if (i == 1) continue; if (i == 4) break; s += i; } return s; }",
+            b"",
+            b"",
+            5,
+        ),
+        (
+            "int main(void) { int n = 0; do { n++; } while (n < 7); return n; }",
+            b"",
+            b"",
+            7,
+        ),
+        (
+            "int main(void) { switch (getchar()) { case 'a': putchar('1'); case 'b': putchar('2'); break; default: putchar('3'); } return 0; }",
+            b"a",
+            b"12",
+            0,
+        ),
+        (
+            "int main(void) { switch (getchar()) { default: putchar('3'); case 'b': putchar('2'); break; case 'a': putchar('1'); } return 0; }",
+            b"z",
+            b"32",
+            0,
+        ),
+        (
+            "int main(void) { long a = 1; return (a << 40) >> 38; }",
+            b"",
+            b"",
+            4,
+        ),
+        (
+            "int main(void) { int i = 5; int j = i++ * 10 + --i; return j + i; }",
+            b"",
+            b"",
+            60,
+        ),
+        (
+            "int main(void) { return sizeof(long) + sizeof(char) * 10; }",
+            b"",
+            b"",
+            18,
+        ),
+        (
+            "int main(void) { return (char)200 == -56 ? 1 : 2; }",
+            b"",
+            b"",
+            1,
+        ),
+        ("int main(void) { exit(9); return 1; }", b"", b"", 9),
+        (
+            "int main(void) { signed char c = -1; unsigned short s = c; return s == 65535 && (c & 15) == 15 && (~c | 6 ^ 3) == 5; }",
+            b"",
+            b"",
+            1,
+        ),
+        (
+            "int main(void) { unsigned long m = -1; return m / 2 > 9223372036854775806 && m % 10 == 5; }",
+            b"",
+            b"",
+            1,
+        ),
+        (
+            "int main(void) { char c = 1; long l = 2; return c + l; }",
+            b"",
+            b"",
+            3,
+        ),
+        (
+            "int main(void) { switch (5UL) { case 0xFFFFFFFFFFFFFFFF: return 1; case 5: return 2; } return 3; }",
+            b"",
+            b"",
+            2,
+        ),
+        (
+            "int main(void) { short s = 32767; s++; return s == -32768; }",
+            b"",
+            b"",
+            1,
+        ),
+        (
+            "int main(void) { int k = 3; for (;;) { if (!k--) break; putchar('x'); } return k + 2; }",
+            b"",
+            b"xxx",
+            1,
+        ),
+        (
+            "int main(void) { int x = 7; x <<= 2; x |= 1; x ^= 3; x %= 10; x -= -1; return x; }",
+            b"",
+            b"",
+            1,
+        ),
+        (
+            "int main(void) { unsigned u = 3; long l = -4; return l < u ? -l * u : 1; }",
+            b"",
+            b"",
+            12,
+        ),
+        (
+            "int main(void) { (void)putchar('a'); getchar() < 0 ? (void)0 : exit(3); return 4; }",
+            b"",
+            b"a",
+            4,
+        ),
+    ];
+    for (text, input, out, status) in rows {
+        let did = exec(alloc, text, input, NONE)?;
+        assert_eq!(rt; did.status, Status::Program(status), "{text}");
+        assert_eq!(rt; did.out.as_slice(), out, "{text}");
+    }
+    Ok(())
+}
+
 #[test]
 fn refusals_name_their_place(rt: HostRuntime) -> Result<(), Fail> {
     let alloc = rt.alloc();
@@ -396,19 +520,19 @@ fn refusals_name_their_place(rt: HostRuntime) -> Result<(), Fail> {
             "poolcc: refused later at 1:18\n",
         ),
         (
-            "int main(void) { return 1 << 2; }",
-            later(1, 25),
-            "poolcc: refused later at 1:25\n",
+            "int main(void) { putchar(\"a\"[0]); return 0; }",
+            later(1, 26),
+            "poolcc: refused later at 1:26\n",
         ),
         (
-            "int main(void) { return 2147483648; }",
-            later(1, 25),
-            "poolcc: refused later at 1:25\n",
+            "int f(void) { return 1; } int main(void) { return f(); }",
+            later(1, 1),
+            "poolcc: refused later at 1:1\n",
         ),
         (
-            "int main(void) { for (;;) ; }",
-            later(1, 18),
-            "poolcc: refused later at 1:18\n",
+            "int main(void) { int x = 1; return *&x; }",
+            later(1, 37),
+            "poolcc: refused later at 1:37\n",
         ),
     ];
     for (text, refusal, line) in rows {
@@ -1085,13 +1209,14 @@ fn steps_are_counted(rt: HostRuntime) -> Result<(), Fail> {
     let forever = "int main(void) { while (1) ; }";
     let zero = "int main(void) { return 0; }";
     let words = Status::Usage(UsageKind::Words);
-    // `return 0;` takes 8 steps: the call of main, three to put 0 into its register, three to return it, and the end.
+    // `return 0;` takes 13 steps: the call of main, three to put 0 into its register, five to convert it to the type of main,
+    // three to return it, and the end.
     let rows: [(&str, &[&str], Status); 16] = [
         (forever, &["--steps", "1000"], Status::StepsSpent),
-        (zero, &["--steps", "8"], Status::Program(0)),
-        (zero, &["--steps", "7"], Status::StepsSpent),
-        (zero, &["--steps", "+8"], Status::Program(0)),
-        (zero, &["--steps", "008"], Status::Program(0)),
+        (zero, &["--steps", "13"], Status::Program(0)),
+        (zero, &["--steps", "12"], Status::StepsSpent),
+        (zero, &["--steps", "+13"], Status::Program(0)),
+        (zero, &["--steps", "0013"], Status::Program(0)),
         (zero, &["--steps", "1"], Status::StepsSpent),
         (
             zero,

@@ -1,25 +1,21 @@
 // From a text to its image.
 
-ghost use Rattle.std.specs.Prelude.{◌≡◌, ◌≤◌, ◌^◌, ℕ, List, length, IfOk, IfErr};
+ghost use Rattle.std.specs.Prelude.{◌≡◌, ◌≤◌, ℕ, List, length, IfOk, IfErr};
 ghost use Rattle.run_theory.specs.Places.{first_place};
 ghost use Rattle.c_syntax.specs.Trees as whole;
 ghost use Rattle.c_rules.specs.Elaborated as elaborated;
 ghost use Rattle.c_typed.specs.DefinitionViews.{program_of as typed_program_of, ProgramStands};
-ghost use Rattle.c_ast.specs.Syntax as integer;
-ghost use Rattle.c_ast.specs.Typed.{typed_program, program_size};
 ghost use Rattle.c_token.specs.Leaves.{Leaf, leaves_of};
 ghost use Rattle.c_lexer.specs.Tokens.{Divides};
 ghost use Rattle.c_syntax.specs.Views.{program_tree};
-ghost use Rattle.c_integer_types.specs.Typing.{typed_of};
 ghost use Rattle.pool_isa.specs.Ranges.{IsWithin};
 ghost use Rattle.image_form.specs.Form.{form_of, IsImage, ImageOf};
-ghost use Rattle.poolcc.specs.Compiled.{ReadsAs, IsAccepted, IsNarrowed, IsInteger, Compiles};
+ghost use Rattle.poolcc.specs.Compiled.{ReadsAs, IsAccepted, IsInteger, Compiles};
 ghost use Rattle.poolcc.specs.Exec.{source_limit};
 ghost use Rattle.poolcc.specs.Refused.{IsStop, IsAtOnce, limit_named, stop_of};
 
 use crate::compile::compile;
-use c_ast::TypedProgram;
-use c_integer::{NarrowErr, narrow};
+use c_integer::first_outside;
 use c_lexer::{LexErr, tokens};
 use c_limits::{Limit, LimitErr, check_limits};
 use c_reader::{SyntaxErr, read};
@@ -29,6 +25,7 @@ use c_token::Token;
 use image_form::{Image, ImageErr, MachineLimits, from_bytes, to_bytes};
 use pcc_status::{LexKind, LimitKind, Refusal, SyntaxKind};
 use std::alloc::Global;
+use tac_build::is_integer_program;
 
 /// Why a text has no image.
 #[derive(Clone, Copy)]
@@ -110,22 +107,6 @@ fn elaborate(alloc: Global, program: &Program) -> Result<c_typed::Program, Stop>
     }
 }
 
-/// The program of an accepted text within the source limit: one that violates no type rule and exceeds no limit.
-pub fn accept(alloc: Global, text: &[u8]) -> Result<Program, Stop>
-    requires { length text.now ≤ source_limit }
-    ensures found { IfOk result (λ program. IsAccepted text.now (program_tree program)) }
-    ensures stop { IfErr result (IsStop text.now) }
-{
-    let program = match parse(alloc, text) {
-        Ok(program) => program,
-        Err(stop) => return Err(stop),
-    };
-    match elaborate(alloc, &program) {
-        Ok(_) => Ok(program),
-        Err(stop) => Err(stop),
-    }
-}
-
 /// The typed tree that an accepted text within the source limit has.
 pub fn typed_program(alloc: Global, text: &[u8]) -> Result<c_typed::Program, Stop>
     requires { length text.now ≤ source_limit }
@@ -158,41 +139,28 @@ fn limit_kind(limit: Limit) -> LimitKind
     }
 }
 
-// The program of the integer language that an accepted text's is.
-fn narrowed(alloc: Global, text: &[u8]) -> Result<c_ast::Program, Stop>
+/// The typed tree that an accepted text within the source limit has, where it is compiled.
+pub fn integer_program(alloc: Global, text: &[u8]) -> Result<c_typed::Program, Stop>
     requires { length text.now ≤ source_limit }
-    ensures found { IfOk result (λ program. IsNarrowed text.now (integer.program_tree program)) }
+    ensures found { IfOk result (λ typed. (program : whole.ProgramTree) × IsInteger text.now program × (typed_program_of typed ≡ elaborated.typed_of program)) }
+    ensures stands { IfOk result ProgramStands }
     ensures stop { IfErr result (IsStop text.now) }
 {
-    let program = match accept(alloc, text) {
+    let program = match parse(alloc, text) {
         Ok(program) => program,
         Err(stop) => return Err(stop),
     };
-    match narrow(alloc, program) {
-        Ok(program) => Ok(program),
-        Err(NarrowErr::Later(place)) => Err(Stop::Refused(Refusal::Later(place))),
-        Err(NarrowErr::NoMain(place)) => Err(Stop::Refused(Refusal::Later(place))),
-        Err(NarrowErr::OutOfMemory) => Err(Stop::OutOfMemory),
+    let typed = match elaborate(alloc, &program) {
+        Ok(typed) => typed,
+        Err(stop) => return Err(stop),
+    };
+    if let Some(place) = first_outside(&program) {
+        return Err(Stop::Refused(Refusal::Later(place)));
     }
-}
-
-/// The typed tree of the integer language that an accepted text's program has.
-pub fn integer_program(alloc: Global, text: &[u8]) -> Result<TypedProgram, Stop>
-    requires { length text.now ≤ source_limit }
-    ensures found { IfOk result (λ typed. (program : integer.ProgramTree) × IsInteger text.now program × (typed_program typed ≡ typed_of program)) }
-    ensures size { IfOk result (λ typed. program_size (typed_program typed) ≤ 2 ^ 22) }
-    ensures stop { IfErr result (IsStop text.now) }
-{
-    let program = match narrowed(alloc, text) {
-        Ok(program) => program,
-        Err(stop) => return Err(stop),
-    };
-    match c_integer_types::check(alloc, program) {
-        Ok(typed) => Ok(typed),
-        Err(c_integer_types::TypeErr::Rule { place, .. }) => {
-            Err(Stop::Refused(Refusal::Later(place)))
-        }
-        Err(c_integer_types::TypeErr::OutOfMemory) => Err(Stop::OutOfMemory),
+    match is_integer_program(alloc, &typed) {
+        Ok(true) => Ok(typed),
+        Ok(false) => Err(Stop::Refused(Refusal::Later(program.end))),
+        Err(_) => Err(Stop::OutOfMemory),
     }
 }
 

@@ -17,19 +17,15 @@ ghost use Rattle.pcc_status.specs.declared.status.Refusal.{Refusal};
 ghost use Rattle.pcc_status.specs.declared.status.Refusal.TheVariants as Refusal;
 ghost use Rattle.c_lexer.specs.Tokens.{Faults};
 ghost use Rattle.poolcc.specs.Refused.{fault_of, IsRefused, IsLate};
-ghost use Rattle.c_ast.specs.Syntax.{ProgramTree};
-ghost use Rattle.c_ast.specs.Reference.{reference};
-ghost use Rattle.c_integer_types.specs.Typing.{typed_of};
-ghost use Rattle.poolcc.specs.Compiled.{IsAccepted, IsInteger};
-ghost use Rattle.c_syntax.specs.Trees as whole;
-ghost use Rattle.c_rules.specs.Elaborated as elaborated;
-ghost use Rattle.c_meaning.specs.First as meaning;
+ghost use Rattle.poolcc.specs.Compiled.{IsAccepted, IsInteger, image_run};
+ghost use Rattle.c_syntax.specs.Trees.{ProgramTree};
+ghost use Rattle.c_rules.specs.Elaborated.{typed_of};
+ghost use Rattle.c_meaning.specs.First.{reference};
 ghost use Rattle.poolcc.specs.Answering.{Answers};
 ghost use Rattle.poolcc.specs.Complete.{RunsUnlessMemory, IsToldUnlessMemory, IsBuiltUnlessMemory, IsBadUnlessMemory};
 ghost use Rattle.poolcc.specs.Exec.{source_limit};
 ghost use Rattle.poolcc.specs.ImageRun.{image_limit};
 ghost use Rattle.image_form.specs.Form.{Form, ImageOf, IsImageBytes};
-ghost use Rattle.pool_isa.specs.Machine.{mach};
 
 use crate::build::build_file;
 use crate::exec::exec;
@@ -86,10 +82,10 @@ pub fn poolcc<F: Files, I: Source, O: Sink, E: Sink>(
 
     // Where the text of `ref` is accepted and nothing outside fails, the answer and the output are those of its program with so
     // many units, or memory ran out; where it is refused at once, the answer is that refusal.
-    ensures ref_complete { (file : List ℕ) (steps : ℕ) (text left base : List ℕ) (program : whole.ProgramTree) → line_of (map string_bytes words.now) ≡ Ref file steps
+    ensures ref_complete { (file : List ℕ) (steps : ℕ) (text left base : List ℕ) (program : ProgramTree) → line_of (map string_bytes words.now) ≡ Ref file steps
         → F.contents files.old file ≡ Holds text → length text ≤ source_limit → I.left input.old ≡ Some left → O.written out.old ≡ Some base
         → (Rose (F.faults files.old file) (F.faults files.new file) → ⊥) → (Rose (I.faults input.old) (I.faults input.new) → ⊥) → (Rose (O.faults out.old) (O.faults out.new) → ⊥) → (Rose (E.faults err.old) (E.faults err.new) → ⊥)
-        → IsAccepted text program → IsToldUnlessMemory (meaning.reference (elaborated.typed_of program) left steps) base result (O.written out.new) }
+        → IsAccepted text program → IsToldUnlessMemory (reference (typed_of program) left steps) base result (O.written out.new) }
     ensures ref_refused { (file : List ℕ) (steps : ℕ) (text left base : List ℕ) (refusal : Refusal) → line_of (map string_bytes words.now) ≡ Ref file steps
         → F.contents files.old file ≡ Holds text → length text ≤ source_limit → I.left input.old ≡ Some left → O.written out.old ≡ Some base
         → (Rose (F.faults files.old file) (F.faults files.new file) → ⊥) → (Rose (I.faults input.old) (I.faults input.new) → ⊥) → (Rose (O.faults out.old) (O.faults out.new) → ⊥) → (Rose (E.faults err.old) (E.faults err.new) → ⊥)
@@ -111,7 +107,7 @@ pub fn poolcc<F: Files, I: Source, O: Sink, E: Sink>(
     ensures run_complete { (file : List ℕ) (steps : ℕ) (bytes left base : List ℕ) (form : Form) → line_of (map string_bytes words.now) ≡ Run file steps
         → F.contents files.old file ≡ Holds bytes → length bytes ≤ image_limit → I.left input.old ≡ Some left → O.written out.old ≡ Some base
         → (Rose (F.faults files.old file) (F.faults files.new file) → ⊥) → (Rose (I.faults input.old) (I.faults input.new) → ⊥) → (Rose (O.faults out.old) (O.faults out.new) → ⊥) → (Rose (E.faults err.old) (E.faults err.new) → ⊥)
-        → ImageOf bytes form → IsToldUnlessMemory (mach form.functions left steps) base result (O.written out.new) }
+        → ImageOf bytes form → IsToldUnlessMemory (image_run form left steps) base result (O.written out.new) }
     ensures run_bad { (file : List ℕ) (steps : ℕ) (bytes left base : List ℕ) → line_of (map string_bytes words.now) ≡ Run file steps
         → F.contents files.old file ≡ Holds bytes → length bytes ≤ image_limit → I.left input.old ≡ Some left → O.written out.old ≡ Some base
         → (Rose (F.faults files.old file) (F.faults files.new file) → ⊥) → (Rose (I.faults input.old) (I.faults input.new) → ⊥) → (Rose (O.faults out.old) (O.faults out.new) → ⊥) → (Rose (E.faults err.old) (E.faults err.new) → ⊥)

@@ -1,8 +1,8 @@
 -- How a run goes on, step by step.
-use Rattle.std.proofs.Common.{◌≡◌, ℕ, suc, ◌+◌, ◌-◌, ◌<◌, ◌≤◌, Bool, true, false, List, ◌++◌, Option, Some, None, is_some, Ok, Err, refl, sym, ap, subst, ◌∙◌, arith}
-use Rattle.std.proofs.lemmas.Bool.{false≢true}
+use Rattle.std.proofs.Common.{◌≡◌, ℕ, suc, ◌+◌, ◌-◌, ◌<◌, ◌≤◌, Bool, true, false, List, ◌++◌, Option, Some, None, is_some, Ok, Err, inl, inr, ◌⊎◌, refl, sym, ap, subst, ◌∙◌, arith}
+use Rattle.std.proofs.lemmas.Bool.{false≢true, cases_lt}
 use Rattle.std.specs.Int.{from_bool}
-use Rattle.run_theory.specs.Runs.{Over, output_of}
+use Rattle.run_theory.specs.Runs.{Going, Over, IsGoing, output_of}
 use Rattle.c_meaning.specs.Store.{State, ◌>>=◌, continue_with}
 use Rattle.c_meaning.specs.First.{status_of, around_of}
 use Rattle.c_typed.specs.DefinitionViews.{program_of}
@@ -22,15 +22,19 @@ use Rattle.ref_meaning.specs.declared.run.RefRun.{RefRun}
 use Rattle.ref_meaning.specs.Views.{table_of, operands_of, part_in, task_in, config_in, around_run, functions_of, final_of}
 use Rattle.ref_meaning.specs.Holding.{Holds}
 use Rattle.ref_meaning.specs.Doing.{acting, takes}
-use Rattle.ref_meaning.specs.Moving.{IsKept, IsTold, StaysTold, Acts}
-use Rattle.ref_meaning.specs.Running.{Behaviour, answers, StandsFor, Ends, GoesOn, BreaksOff, Answers, end_in, answer_of, halted, IsHalted, HoldsUnlessOver}
+use Rattle.ref_meaning.specs.Moving.{IsKept, IsTold, IsOverTold, StaysTold, Acts}
+use Rattle.ref_meaning.specs.Running.{Behaviour, answers, StandsFor, Ends, GoesOn, BreaksOff, Answers, SpendsNeeded, end_in, answer_of, halted, spent_at, IsHalted, HoldsUnlessOver}
 
--- Of so many units some are left, and the run goes on behind the others.
+-- Of so many units some are left, and the run goes on behind the others; with fewer than these it was going.
 pub record Goes (first now : RefRun) (behaviour : Behaviour) (base input : List ℕ) (steps units : ℕ) (is_left written : Option (List ℕ)) : Type 0 where
   pub done : ℕ
   pub split : done + units ≡ steps
   pub counted : now.spent ≡ first.spent + done
   pub goes_on : GoesOn now behaviour base input done is_left written
+  pub before : (fewer : ℕ) → fewer < done → IsGoing (behaviour input fewer)
+
+none-below : (n : ℕ) → n < 0 → ⊥
+none-below n h = omega (arith, h)
 
 plus-none : (n : ℕ) → 0 + n ≡ n
 plus-none n = omega arith
@@ -42,6 +46,7 @@ goes-first run behaviour written base input steps is_left out stands told out_is
   split = plus-none steps;
   counted = omega arith;
   goes_on = record { later = behaviour; front = written; rest = input; stands = stands; follows = λ units. ap (behaviour input) (plus-none units); told = told; out = out_is };
+  before = λ fewer h. absurd (none-below fewer h);
 }
 
 -- ---- what is left to do, by the units
@@ -56,6 +61,9 @@ suc-is n = omega arith
 unit-plus : (b : Bool) (n : ℕ) → with_unit b n ≡ from_bool b + n
 unit-plus true n = suc-is n
 unit-plus false n = sym (plus-none n)
+
+unit-behind : (done : ℕ) (b : Bool) (n : ℕ) → done + from_bool b + n ≡ done + with_unit b n
+unit-behind done b n = let plus = unit-plus b n in omega (arith, plus)
 
 -- the answer is that of the step and what follows
 proceeds : (run : RefRun) (state : State) (rest : List ℕ) (b : Bool) (n : ℕ) → takes_unit (takes run) ≡ b
@@ -79,6 +87,13 @@ over-task run final e state =
     λ i. status_of (task_then (around_run run) (functions_of run) (config_in run).depth (task_in (table_of run) (operands_of run) (part_in (table_of run) run.control.node) (is i))
     (resume (around_run run) (functions_of run) (config_in run).depth (config_in run).frames) state)
 
+over-now : (first now : RefRun) (behaviour : Behaviour) (base input : List ℕ) (steps units : ℕ) (is_left written : Option (List ℕ)) (final : memory_final.Final)
+    → (goes : Goes first now behaviour base input steps units is_left written) → end_in now.control.task ≡ Some final → (more : ℕ) → behaviour input (goes.done + more) ≡ Over (final_of final) goes.goes_on.stands.state.trace
+over-now first now behaviour base input steps units is_left written final goes e more =
+    let far = goes.goes_on in
+    let stands = far.stands in
+    far.follows more ∙ (stands.behaves far.rest more ∙ over-task now final e (left more far.rest stands.state))
+
 pub ends-over : (first now : RefRun) (behaviour : Behaviour) (base input : List ℕ) (steps units : ℕ) (is_left written : Option (List ℕ)) (final : memory_final.Final)
     → Goes first now behaviour base input steps units is_left written → end_in now.control.task ≡ Some final → Ends behaviour base input steps (final_of final) written
 ends-over first now behaviour base input steps units is_left written final goes e =
@@ -86,8 +101,21 @@ ends-over first now behaviour base input steps units is_left written final goes 
     let stands = far.stands in
     record {
       trace = stands.state.trace;
-      is = ap (behaviour input) (sym goes.split) ∙ (far.follows units ∙ (stands.behaves far.rest units ∙ over-task now final e (left units far.rest stands.state)));
+      is = ap (behaviour input) (sym goes.split) ∙ over-now first now behaviour base input steps units is_left written final goes e units;
       out = far.out ∙ ap (λ front. Some (base ++ front)) (sym stands.front);
+    }
+
+-- the units that were spent are those that it needed
+pub needed-over : (first now : RefRun) (behaviour : Behaviour) (base input : List ℕ) (steps units : ℕ) (is_left written : Option (List ℕ)) (final : memory_final.Final)
+    → Goes first now behaviour base input steps units is_left written → end_in now.control.task ≡ Some final → SpendsNeeded first now behaviour input steps (final_of final)
+needed-over first now behaviour base input steps units is_left written final goes e =
+    record {
+      needed = goes.done;
+      within = omega (arith, goes.split);
+      counted = goes.counted;
+      trace = goes.goes_on.stands.state.trace;
+      over = over-now first now behaviour base input steps units is_left written final goes e;
+      going = goes.before;
     }
 
 pub answers-end : (old new : RefRun) (behaviour : Behaviour) (base input : List ℕ) (steps : ℕ) (is_left written : Option (List ℕ)) (final : memory_final.Final)
@@ -98,6 +126,16 @@ answers-end old new behaviour base input steps is_left written (F.Undefined kind
 
 -- ---- all units are spent
 
+-- where a unit is needed and none is left
+goes-nowhere-now : (now : RefRun) (behaviour : Behaviour) (base input : List ℕ) (done : ℕ) (is_left written : Option (List ℕ)) (far : GoesOn now behaviour base input done is_left written) → takes_unit (takes now) ≡ true
+    → behaviour input done ≡ Going far.stands.state.trace
+goes-nowhere-now now behaviour base input done is_left written far e =
+    let stands = far.stands in
+    ap (behaviour input) (sym (none-more done)) ∙ (far.follows 0 ∙ (stands.behaves far.rest 0 ∙ ap status_of (goes-nowhere (around_run now) (functions_of now) (config_in now) (left 0 far.rest stands.state) e)))
+  where
+    none-more : (n : ℕ) → n + 0 ≡ n
+    none-more n = omega arith
+
 pub spent-all : (first now : RefRun) (behaviour : Behaviour) (base input : List ℕ) (steps units : ℕ) (is_left written : Option (List ℕ))
     → Goes first now behaviour base input steps units is_left written → takes_unit (takes now) ≡ true → units ≡ 0 → Answers first now behaviour base input steps E.StepsSpent is_left written
 spent-all first now behaviour base input steps units is_left written goes e none =
@@ -107,7 +145,7 @@ spent-all first now behaviour base input steps units is_left written goes e none
     let all : goes.done ≡ steps = omega (arith, split) in (
       record {
         trace = stands.state.trace;
-        is = ap (behaviour input) (sym split) ∙ (far.follows 0 ∙ (stands.behaves far.rest 0 ∙ ap status_of (goes-nowhere (around_run now) (functions_of now) (config_in now) (left 0 far.rest stands.state) e)));
+        is = ap (behaviour input) (sym all) ∙ goes-nowhere-now now behaviour base input goes.done is_left written far e;
         out = far.out ∙ ap (λ front. Some (base ++ front)) (sym stands.front);
         goes_on = subst (λ n. GoesOn now behaviour base input n is_left written) all far;
       },
@@ -136,6 +174,22 @@ respent run n holds = record {
 is-told : (base : List ℕ) (rest front : List ℕ) (state : State) (is_left written : Option (List ℕ)) → is_left ≡ Some rest → written ≡ Some (base ++ front) → output_of state.trace ≡ front → IsTold base rest state is_left written
 is-told base rest front state is_left written told out is = (told, out ∙ ap (λ bytes. Some (base ++ bytes)) (sym is))
 
+-- with fewer units than those behind a step it was going
+goes-before : (first now : RefRun) (behaviour : Behaviour) (base input : List ℕ) (steps units : ℕ) (is_left written : Option (List ℕ)) (b : Bool) (goes : Goes first now behaviour base input steps units is_left written)
+    → takes_unit (takes now) ≡ b → (fewer : ℕ) → fewer < goes.done + from_bool b → IsGoing (behaviour input fewer)
+goes-before first now behaviour base input steps units is_left written false goes e fewer h = goes.before fewer (no-more goes.done h)
+  where
+    no-more : (n : ℕ) → fewer < n + from_bool false → fewer < n
+    no-more n lt = let none : from_bool false ≡ 0 = refl in omega (arith, none, lt)
+goes-before first now behaviour base input steps units is_left written true goes e fewer h = by (cases_lt fewer goes.done)
+  where
+    last : goes.done ≤ fewer → goes.done ≡ fewer
+    last le = let one : from_bool true ≡ 1 = refl in omega (arith, one, h, le)
+
+    by : (fewer < goes.done) ⊎ (goes.done ≤ fewer) → IsGoing (behaviour input fewer)
+    by (inl lt) = goes.before fewer lt
+    by (inr le) = subst (λ n. IsGoing (behaviour input n)) (last le) (subst IsGoing (sym (goes-nowhere-now now behaviour base input goes.done is_left written goes.goes_on e)) tt)
+
 pub goes-further : (value : Unit {0}) (first old mid : RefRun) (behaviour : Behaviour) (base input : List ℕ) (steps units units' : ℕ) (is_left written left' written' : Option (List ℕ)) (b : Bool)
     → Goes first old behaviour base input steps units is_left written → IsKept old mid → Acts old mid (acting old) (Ok value) is_left written left' written'
     → takes_unit (takes old) ≡ b → units ≡ from_bool b + units' → (spent : ℕ) → spent ≡ mid.spent + from_bool b
@@ -161,18 +215,43 @@ goes-further value first old mid behaviour base input steps units units' is_left
           behaves = λ input units. refl;
         };
         follows = λ n.
-            ap (behaviour input) (by n) ∙ (far.follows (with_unit b n) ∙ (stands.behaves far.rest (with_unit b n) ∙ (proceeds old stands.state far.rest b n takes_is
+            ap (behaviour input) (unit-behind goes.done b n) ∙ (far.follows (with_unit b n) ∙ (stands.behaves far.rest (with_unit b n) ∙ (proceeds old stands.state far.rest b n takes_is
             ∙ (ap (λ outcome. status_of (continue_with (goes_on (around_run old) (functions_of old)) outcome)) (arrives.does n)
             ∙ (λ i. status_of (goes_on (around_of (program_of (program i).now)) (program_of (program i).now).functions (config_in mid) (left n arrives.rest arrives.after)))))));
         told = arrives.told.0;
         out = arrives.told.1;
       };
+      before = goes-before first old behaviour base input steps units is_left written b goes takes_is;
     }
-  where
-    by : (n : ℕ) → goes.done + from_bool b + n ≡ goes.done + with_unit b n
-    by n = let plus = unit-plus b n in omega (arith, plus)
 
 -- ---- a step that isn't done
+
+-- a step that is an end, and what was left then
+over-behind : (first old : RefRun) (behaviour : Behaviour) (base input : List ℕ) (steps units : ℕ) (is_left written left' written' : Option (List ℕ)) (b : Bool) (final : memory_final.Final)
+    → (goes : Goes first old behaviour base input steps units is_left written) → (is_over : IsOverTold (acting old) base goes.goes_on.rest goes.goes_on.stands.state (final_of final) left' written')
+    → takes_unit (takes old) ≡ b → (n : ℕ) → behaviour input (goes.done + from_bool b + n) ≡ Over (final_of final) is_over.there.trace
+over-behind first old behaviour base input steps units is_left written left' written' b final goes is_over takes_is n =
+    let far = goes.goes_on in
+    let stands = far.stands in
+    ap (behaviour input) (unit-behind goes.done b n) ∙ (far.follows (with_unit b n) ∙ (stands.behaves far.rest (with_unit b n) ∙ (proceeds old stands.state far.rest b n takes_is
+    ∙ ap (λ outcome. status_of (continue_with (goes_on (around_run old) (functions_of old)) outcome)) (is_over.is n))))
+
+-- so many units were needed
+needed-final : (A : Type 0) (old mid first new : RefRun) (behaviour : Behaviour) (base input : List ℕ) (steps units units' : ℕ) (is_left written left' written' : Option (List ℕ)) (b : Bool) (final : memory_final.Final)
+    → Goes first old behaviour base input steps units is_left written → IsKept old mid → Acts {A = A} old mid (acting old) (Err (H.Final final)) is_left written left' written'
+    → takes_unit (takes old) ≡ b → units ≡ from_bool b + units' → new.spent ≡ mid.spent + from_bool b → SpendsNeeded first new behaviour input steps (final_of final)
+needed-final A old mid first new behaviour base input steps units units' is_left written left' written' b final goes kept acts takes_is rest_is spent_is =
+    let far = goes.goes_on in
+    let stands = far.stands in
+    let is_over = acts base far.rest stands.state stands.at (is-told base far.rest far.front stands.state is_left written far.told far.out stands.front) in
+    record {
+      needed = goes.done + from_bool b;
+      within = omega (arith, goes.split, rest_is);
+      counted = omega (arith, spent_is, kept.spent, goes.counted);
+      trace = is_over.there.trace;
+      over = over-behind first old behaviour base input steps units is_left written left' written' b final goes is_over takes_is;
+      going = goes-before first old behaviour base input steps units is_left written b goes takes_is;
+    }
 
 ends-final : (A : Type 0) (old mid : RefRun) (first : RefRun) (behaviour : Behaviour) (base input : List ℕ) (steps units units' : ℕ) (is_left written left' written' : Option (List ℕ)) (b : Bool) (final : memory_final.Final)
     → Goes first old behaviour base input steps units is_left written → Acts {A = A} old mid (acting old) (Err (H.Final final)) is_left written left' written'
@@ -181,13 +260,10 @@ ends-final A old mid first behaviour base input steps units units' is_left writt
     let far = goes.goes_on in
     let stands = far.stands in
     let is_over = acts base far.rest stands.state stands.at (is-told base far.rest far.front stands.state is_left written far.told far.out stands.front) in
-    let plus = unit-plus b units' in
-    let count : steps ≡ goes.done + with_unit b units' = omega (arith, plus, goes.split, rest_is) in
+    let count : steps ≡ goes.done + from_bool b + units' = omega (arith, goes.split, rest_is) in
     record {
       trace = is_over.there.trace;
-      is =
-          ap (behaviour input) count ∙ (far.follows (with_unit b units') ∙ (stands.behaves far.rest (with_unit b units') ∙ (proceeds old stands.state far.rest b units' takes_is
-          ∙ ap (λ outcome. status_of (continue_with (goes_on (around_run old) (functions_of old)) outcome)) (is_over.is units'))));
+      is = ap (behaviour input) count ∙ over-behind first old behaviour base input steps units is_left written left' written' b final goes is_over takes_is units';
       out = is_over.told.1;
     }
 
@@ -242,12 +318,57 @@ answers-halted A first old mid new behaviour base input steps units units' is_le
 pub needs-unit : (b : Bool) (left unit : ℕ) → unit ≡ from_bool b → left < unit → (b ≡ true) × (left ≡ 0)
 needs-unit true left unit e lt = let one : unit ≡ 1 = e in (refl, omega (arith, one, lt))
 needs-unit false left unit e lt = absurd (none-below left (subst (λ n. left < n) e lt))
-  where
-    none-below : (n : ℕ) → n < 0 → ⊥
-    none-below n h = omega (arith, h)
 
 pub left-split : (left unit n : ℕ) → unit ≡ n → unit ≤ left → left ≡ n + (left - unit)
 left-split left unit n e le = omega (arith, e, le)
+
+-- ---- how an answer tells its end
+
+abbrev final_in : RefEnd → Option memory_final.Final
+final_in (E.Ended status) = Some (F.Ended status)
+final_in E.Depth = Some F.Depth
+final_in (E.Undefined kind place) = Some (F.Undefined kind place)
+final_in _ = None
+
+final-told : (final : memory_final.Final) → final_in (answer_of final) ≡ Some final
+final-told (F.Ended status) = refl
+final-told F.Depth = refl
+final-told (F.Undefined kind place) = refl
+
+pub same-final : (one other : memory_final.Final) → answer_of one ≡ answer_of other → one ≡ other
+same-final one other e = ap (inner one) (sym (final-told one) ∙ (ap final_in e ∙ final-told other))
+
+pub same-end : (one other : memory_final.Final) → Some one ≡ Some other → one ≡ other
+same-end one other e = ap (inner one) e
+
+pub no-final : (end : RefEnd) (final : memory_final.Final) → final_in end ≡ None → end ≡ answer_of final → ⊥
+no-final end final none e = false≢true (ap is_some (sym none ∙ (ap final_in e ∙ final-told final)))
+
+-- where a step isn't done and that is an end, it is kept
+pub kept-halted : (old new : RefRun) (halt : Halt) (final : memory_final.Final) → IsHalted old halt new → halted halt ≡ answer_of final → end_in new.control.task ≡ Some final
+kept-halted old new (H.Final other) final is e = is ∙ ap Some (same-final other final e)
+kept-halted old new H.ReadFault final is e = absurd (no-final E.ReadFault final refl e)
+kept-halted old new H.WriteFault final is e = absurd (no-final E.WriteFault final refl e)
+kept-halted old new H.OutOfMemory final is e = absurd (no-final E.OutOfMemory final refl e)
+
+-- and the units that were spent are those that it needed
+pub needed-halted : (A : Type 0) (first old mid new : RefRun) (behaviour : Behaviour) (base input : List ℕ) (steps units units' : ℕ) (is_left written left' written' : Option (List ℕ)) (b : Bool) (halt : Halt) (unit : ℕ) (final : memory_final.Final)
+    → Goes first old behaviour base input steps units is_left written → IsKept old mid → Acts {A = A} old mid (acting old) (Err halt) is_left written left' written'
+    → takes_unit (takes old) ≡ b → units ≡ from_bool b + units' → new.spent ≡ mid.spent + spent_at halt unit → unit ≡ from_bool b → halted halt ≡ answer_of final
+    → SpendsNeeded first new behaviour input steps (final_of final)
+needed-halted A first old mid new behaviour base input steps units units' is_left written left' written' b (H.Final other) unit final goes kept acts takes_is rest_is spent_is unit_is e =
+    subst (λ end. SpendsNeeded first new behaviour input steps (final_of end)) (same-final other final e)
+    (needed-final A old mid first new behaviour base input steps units units' is_left written left' written' b other goes kept acts takes_is rest_is (spent_is ∙ ap (λ n. mid.spent + n) unit_is))
+needed-halted A first old mid new behaviour base input steps units units' is_left written left' written' b H.ReadFault unit final goes kept acts takes_is rest_is spent_is unit_is e = absurd (no-final E.ReadFault final refl e)
+needed-halted A first old mid new behaviour base input steps units units' is_left written left' written' b H.WriteFault unit final goes kept acts takes_is rest_is spent_is unit_is e = absurd (no-final E.WriteFault final refl e)
+needed-halted A first old mid new behaviour base input steps units units' is_left written left' written' b H.OutOfMemory unit final goes kept acts takes_is rest_is spent_is unit_is e = absurd (no-final E.OutOfMemory final refl e)
+
+-- so much is spent at most
+pub spent-within : (halt : Halt) (unit : ℕ) → spent_at halt unit ≤ unit
+spent-within (H.Final final) unit = omega arith
+spent-within H.ReadFault unit = omega arith
+spent-within H.WriteFault unit = omega arith
+spent-within H.OutOfMemory unit = omega arith
 
 abbrev is_read : RefEnd → Bool
 is_read E.ReadFault = true

@@ -1,7 +1,7 @@
 -- What a run answers.
-use Rattle.std.specs.Prelude.{◌≡◌, ℕ, ◌+◌, ◌≤◌, List, ◌++◌, Option, Some, None}
+use Rattle.std.specs.Prelude.{◌≡◌, ℕ, ◌+◌, ◌≤◌, ◌<◌, List, ◌++◌, Option, Some, None}
 use Rattle.run_theory.specs.Runs as Runs
-use Rattle.run_theory.specs.Runs.{Answer, Final, Going, Over, Trace, output_of}
+use Rattle.run_theory.specs.Runs.{Answer, Final, Going, Over, IsGoing, Trace, output_of}
 use Rattle.c_meaning.specs.Store.{State}
 use Rattle.c_meaning.specs.First.{status_of}
 use Rattle.c_steps.specs.Steps.{goes_on}
@@ -75,6 +75,15 @@ Answers old new behaviour base input steps E.ReadFault is_left written = BreaksO
 Answers old new behaviour base input steps E.WriteFault is_left written = BreaksOff old new behaviour base input steps is_left written
 Answers old new behaviour base input steps E.OutOfMemory is_left written = BreaksOff old new behaviour base input steps is_left written
 
+-- It is over, and has spent the units that it needed for that and no more: with fewer it was going.
+pub record SpendsNeeded (old new : RefRun) (behaviour : Behaviour) (input : List ℕ) (steps : ℕ) (final : Final) : Type 0 where
+  pub needed : ℕ
+  pub within : needed ≤ steps
+  pub counted : new.spent ≡ old.spent + needed
+  pub trace : Trace
+  pub over : (more : ℕ) → behaviour input (needed + more) ≡ Over final trace
+  pub going : (fewer : ℕ) → fewer < needed → IsGoing (behaviour input fewer)
+
 -- ---- runs that are over
 
 abbrev pub end_in : memory_task.Task → Option memory_final.Final
@@ -96,6 +105,11 @@ halted (H.Final final) = answer_of final
 halted H.ReadFault = E.ReadFault
 halted H.WriteFault = E.WriteFault
 halted H.OutOfMemory = E.OutOfMemory
+
+-- the unit for what ends it is spent
+abbrev pub spent_at : Halt → ℕ → ℕ
+spent_at (H.Final final) unit = unit
+spent_at _ unit = 0
 
 -- what becomes of it: it is over, or it stays
 abbrev pub IsHalted : RefRun → Halt → RefRun → Type 0

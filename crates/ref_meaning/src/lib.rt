@@ -10,7 +10,5 @@ mod operand;
 mod outside;
 mod run;
 mod statement;
-#[cfg(test)]
-mod tests;
 
 pub use run::{RefEnd, RefRun};

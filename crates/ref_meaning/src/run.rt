@@ -14,12 +14,12 @@ ghost use Rattle.ref_meaning.specs.declared.control.Given.TheVariants as G;
 ghost use Rattle.ref_meaning.specs.declared.control.Stage.TheVariants as S;
 ghost use Rattle.ref_meaning.specs.declared.control.Task.TheVariants as K;
 ghost use Rattle.ref_meaning.specs.declared.run.Halt.TheVariants as Halts;
-ghost use Rattle.ref_meaning.specs.Views.{table_of, part_in, given_in, waiting, stack_of, stmt_of, case_items_of, case_items_from};
+ghost use Rattle.ref_meaning.specs.Views.{table_of, part_in, given_in, final_of, waiting, stack_of, stmt_of, case_items_of, case_items_from};
 ghost use Rattle.ref_meaning.specs.Holding.{Holds, NodeStands, GivenStands, StageStands, Waits, Fits};
 ghost use Rattle.ref_meaning.specs.Doing.{TakesNone, IsInnermost, IsExpression, innermost, takes, taking, acting, evaluating};
 ghost use Rattle.ref_meaning.specs.Moving.{Becomes, IsSame, IsKept, Moves, Acts};
 ghost use Rattle.ref_meaning.specs.Numbers.{HasNumbers};
-ghost use Rattle.ref_meaning.specs.Running.{Behaviour, StandsFor, Answers, HoldsUnlessOver, end_in, answer_of, halted, IsHalted};
+ghost use Rattle.ref_meaning.specs.Running.{Behaviour, StandsFor, Answers, SpendsNeeded, HoldsUnlessOver, end_in, answer_of, halted, spent_at, IsHalted};
 
 use crate::call::is_call;
 use crate::control::{Control, Final, Frame, Given, Node, Stage, Task, Way};
@@ -141,7 +141,7 @@ impl<'a> RefRun<'a> {
         })
     }
 
-    /// Goes on with so many units.
+    /// Goes on with so many units. A run that is over answers its end again.
     pub fn run<I: Source, O: Sink>(&mut self, input: &mut I, out: &mut O, steps: u64) -> RefEnd
         requires holds { HoldsUnlessOver self.old }
         requires counted { self.old.spent + steps < 2 ^ 64 }
@@ -151,6 +151,32 @@ impl<'a> RefRun<'a> {
         ensures write_cause { result ≡ RefEnd.WriteFault → Rose (O.faults out.old) (O.faults out.new) }
         ensures reads_counted { I.faults input.old ≤ I.faults input.new }
         ensures writes_counted { O.faults out.old ≤ O.faults out.new }
+        ensures again { (final : Final) → end_in self.old.control.task ≡ Some final → (result ≡ answer_of final) × (self.new ≡ self.old) × (input.new ≡ input.old) × (out.new ≡ out.old) }
+        ensures kept { (final : Final) → result ≡ answer_of final → end_in self.new.control.task ≡ Some final }
+        ensures needed { (written : List ℕ) (behaviour : Behaviour) (base left : List ℕ) (final : Final) → StandsFor self.old written behaviour → I.left input.old ≡ Some left → O.written out.old ≡ Some (base ++ written) → result ≡ answer_of final → SpendsNeeded self.old self.new behaviour left steps (final_of final) }
+        ensures counts { self.old.spent ≤ self.new.spent }
+        ensures within { self.new.spent ≤ self.old.spent + steps }
+    {
+        match self.end() {
+            Some(end) => end_of(end),
+            None => self.go_on(input, out, steps),
+        }
+    }
+
+    /// Goes on, unit by unit.
+    fn go_on<I: Source, O: Sink>(&mut self, input: &mut I, out: &mut O, steps: u64) -> RefEnd
+        requires holds { HoldsUnlessOver self.old }
+        requires counted { self.old.spent + steps < 2 ^ 64 }
+        ensures answers { (written : List ℕ) (behaviour : Behaviour) (base left : List ℕ) → StandsFor self.old written behaviour → I.left input.old ≡ Some left → O.written out.old ≡ Some (base ++ written) → Answers self.old self.new behaviour base left steps result (I.left input.new) (O.written out.new) }
+        ensures holds { HoldsUnlessOver self.new }
+        ensures read_cause { result ≡ RefEnd.ReadFault → Rose (I.faults input.old) (I.faults input.new) }
+        ensures write_cause { result ≡ RefEnd.WriteFault → Rose (O.faults out.old) (O.faults out.new) }
+        ensures reads_counted { I.faults input.old ≤ I.faults input.new }
+        ensures writes_counted { O.faults out.old ≤ O.faults out.new }
+        ensures kept { (final : Final) → result ≡ answer_of final → end_in self.new.control.task ≡ Some final }
+        ensures needed { (written : List ℕ) (behaviour : Behaviour) (base left : List ℕ) (final : Final) → StandsFor self.old written behaviour → I.left input.old ≡ Some left → O.written out.old ≡ Some (base ++ written) → result ≡ answer_of final → SpendsNeeded self.old self.new behaviour left steps (final_of final) }
+        ensures counts { self.old.spent ≤ self.new.spent }
+        ensures within { self.new.spent ≤ self.old.spent + steps }
     {
         let mut left = steps;
         for _ in 0..u64::MAX {
@@ -188,6 +214,7 @@ impl<'a> RefRun<'a> {
         requires { self.old.spent + unit < 2 ^ 64 }
         ensures answer { result ≡ halted halt }
         ensures halted { IsHalted self.old halt self.new }
+        ensures spent { self.new.spent ≡ self.old.spent + spent_at halt unit }
     {
         match halt {
             Halt::Final(end) => {

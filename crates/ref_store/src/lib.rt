@@ -5,8 +5,6 @@ mod first;
 mod object;
 mod pointer;
 mod store;
-#[cfg(test)]
-mod tests;
 mod value;
 
 pub use object::{Content, Elements};

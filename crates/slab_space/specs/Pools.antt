@@ -108,6 +108,9 @@ index_of p id address = number_in (cells_of (pool_at p id)) address
 abbrev pub lives_of : Pools → ℕ → Bool
 lives_of p id = is_some (pool_at p id)
 
+abbrev pub kind_of : Pools → ℕ → Option PoolKind
+kind_of p id = option_map (λ pool. pool.kind) (pool_at p id)
+
 abbrev pub peak_of : Pools → ℕ → ℕ
 peak_of p id = unwrap_or (option_map (λ pool. pool.peak) (pool_at p id)) 0
 

@@ -1,5 +1,5 @@
 /// What a pool holds.
-#[derive(Clone, Copy, Debug, PartialEq, Eq)]
+#[derive(Clone, Copy, Debug, PartialEq, Eq, Hash)]
 pub enum PoolKind {
     /// Cells of one size, `cell` bytes, a multiple of 4 up to 1,048,576, for objects of `source` bytes.
     /// Of an indexed pool the cells are numbered within the index limit.

@@ -99,7 +99,9 @@ pub names-successor : (registers points : ℕ) (op : Op) → NamesBelow register
 names-successor registers points O.Reserved names = tt
 names-successor registers points (O.Constant to value next) names = names.1
 names-successor registers points (O.Copy from to next) names = names.2
+names-successor registers points (O.Convert type from to next) names = names.2
 names-successor registers points (O.Negate type operand to next) names = names.2
+names-successor registers points (O.Complement type operand to next) names = names.2
 names-successor registers points (O.Not type operand to next) names = names.2
 names-successor registers points (O.Arithmetic operator type left right to next) names = names.3
 names-successor registers points (O.Compare relation type left right to next) names = names.3
@@ -107,6 +109,7 @@ names-successor registers points (O.Branch type condition holds fails) names = n
 names-successor registers points (O.GetChar to next) names = names.1
 names-successor registers points (O.PutChar from to next) names = names.2
 names-successor registers points (O.Return from) names = tt
+names-successor registers points (O.Exit from) names = tt
 
 -- blocks are alike where the places of the points that they name are
 module _ (p q : ℕ → ℕ) (points : ℕ) (same : (number : ℕ) → number < points → p number ≡ q number) where

@@ -74,7 +74,9 @@ module _ (place : ℕ → ℕ) (registers points instructions : ℕ) (near : reg
   op_code-operands O.Reserved names = ((tt, tt), tt)
   op_code-operands (O.Constant to value next) names = assigning-operands to (instrs.Constant (word value) ∷ []) names.0 ((word_fits value, tt), tt)
   op_code-operands (O.Copy from to next) names = of_one-operands to from [] names.1 names.0 tt
+  op_code-operands (O.Convert type from to next) names = of_one-operands to from (instrs.Convert type ∷ []) names.1 names.0 ((tt, tt), tt)
   op_code-operands (O.Negate type operand to next) names = of_one-operands to operand (instrs.Negate type ∷ []) names.1 names.0 ((tt, tt), tt)
+  op_code-operands (O.Complement type operand to next) names = of_one-operands to operand (instrs.Complement type ∷ []) names.1 names.0 ((tt, tt), tt)
   op_code-operands (O.Not type operand to next) names = of_one-operands to operand (instrs.Constant 0 ∷ instrs.Compare relations.Eq type ∷ []) names.1 names.0 ((omega arith, tt), ((tt, tt), tt))
   op_code-operands (O.Arithmetic operator type left right to next) names = of_two-operands to left right (instrs.Binary operator type) names.2 names.0 names.1 (tt, tt)
   op_code-operands (O.Compare relation type left right to next) names = of_two-operands to left right (instrs.Compare relation type) names.2 names.0 names.1 (tt, tt)
@@ -82,6 +84,7 @@ module _ (place : ℕ → ℕ) (registers points instructions : ℕ) (near : reg
   op_code-operands (O.GetChar to next) names = assigning-operands to (instrs.GetChar ∷ []) names.0 ((tt, tt), tt)
   op_code-operands (O.PutChar from to next) names = of_one-operands to from (instrs.PutChar ∷ []) names.1 names.0 ((tt, tt), tt)
   op_code-operands (O.Return from) names = loaded-operands from (instrs.ReturnValue ∷ []) names ((tt, tt), tt)
+  op_code-operands (O.Exit from) names = loaded-operands from (instrs.Exit ∷ []) names ((tt, tt), tt)
 
   way_to-operands : (number : ℕ) (next : Option ℕ) → IfSome next (λ n. n < points) → Operands (way_to place number next)
   way_to-operands number None names = tt
@@ -111,6 +114,7 @@ way_to-leaves place next = go (next + 1 == 0) (eqb-true (next + 1) 0)
 op_code-leaves : (place : ℕ → ℕ) (op : Op) → successor_of op ≡ None → LastIs Leaves (op_code place op ++ [])
 op_code-leaves place O.Reserved none = refl
 op_code-leaves place (O.Return from) none = refl
+op_code-leaves place (O.Exit from) none = refl
 op_code-leaves place _ none = cc
 
 block-leaves : (place : ℕ → ℕ) (op : Op) → LastIs Leaves (block place 0 op)

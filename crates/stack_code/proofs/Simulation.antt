@@ -4,7 +4,7 @@ use Rattle.std.specs.Prelude.{slice_get, slice_set, nat_eq, nat_lt, replicate, i
 use Rattle.std.proofs.lemmas.Bool.{ltb-true}
 use Rattle.std.proofs.lemmas.Option.{slice_get_within}
 use Rattle.std.proofs.lemmas.List.{length-set, length-replicate}
-use Rattle.run_theory.specs.Runs.{Trace, Output, Final, Ended, Over, IsUndefined, IsProgramEnd, IsResourceEnd, Move, To, Halt, Leads, here, Locks, Simulates}
+use Rattle.run_theory.specs.Runs.{Trace, Output, Called, Final, Ended, Over, IsUndefined, IsProgramEnd, IsResourceEnd, Move, To, Halt, Leads, here, Locks, Simulates}
 use Rattle.run_theory.proofs.Machines.{one_step, leads_compose, leads_more, locked_from}
 use Rattle.run_theory.proofs.Simulations.{simulates_within}
 use Rattle.c_num.specs.declared.IntType.{IntType}
@@ -14,9 +14,10 @@ use Rattle.c_num.specs.declared.Relation.{Relation}
 use Rattle.c_num.specs.declared.Relation.TheVariants as relations
 use Rattle.c_num.specs.declared.ArithUb.{ArithUb}
 use Rattle.c_num.specs.Types.{IsValue, is_value}
-use Rattle.c_num.specs.Arith.{outcome_of, negated_of, compare_of}
+use Rattle.c_num.specs.Conversion.{convert_to}
+use Rattle.c_num.specs.Arith.{outcome_of, negated_of, complement_of, compare_of}
 use Rattle.c_num.proofs.Outcomes.{is_value-Decides, zero_in_range}
-use Rattle.c_ast.specs.Values.{byte_of, next_char, is_zero, truth}
+use Rattle.tac_ir.specs.Values.{byte_of, next_char, is_zero, truth}
 use Rattle.pool_isa.specs.declared.instr.Width.TheVariants as widths
 use Rattle.pool_isa.specs.declared.instr.Instr.{Instr}
 use Rattle.pool_isa.specs.declared.instr.Instr.TheVariants as instrs
@@ -25,14 +26,14 @@ use Rattle.tac_ir.specs.declared.Op.{Op}
 use Rattle.tac_ir.specs.declared.Op.TheVariants as O
 use Rattle.tac_ir.specs.declared.Tac.{Tac}
 use Rattle.tac_ir.specs.Meaning.{State, execute, lost, write, read, operand, defined, go_to, act, initial, tac_run}
-use Rattle.stack_code.specs.Emission.{op_code, successor_of, way_to, block, place_of, function_code, functions_of}
+use Rattle.stack_code.specs.Emission.{op_code, successor_of, way_to, block, place_of, function_code, code_of}
 use Rattle.stack_code.specs.Laws.{EmissionFollowsCode}
-use Rattle.stack_code.proofs.Words.{word, word-byte, word-pos_byte, input_word-next, word-is_zero, binary_word-outcome, negated_word-outcome, compared_word-truth}
+use Rattle.stack_code.proofs.Words.{word, word-byte, word-pos_byte, input_word-next, word-is_zero, binary_word-outcome, negated_word-outcome, complement_word-value, converted_word-value, compared_word-truth}
 use Rattle.stack_code.proofs.Frames.{zero_frame}
 use Rattle.stack_code.proofs.Places.{StandsAt, block_stands, opening_stands, place_of-falls, place_of-entry}
-use Rattle.stack_code.proofs.Steps.{in_main, in_start, running, leaving, address_of, constant_step, local_step, load_step, store_step, negate_step, binary_step, compare_step, zero_step, nonzero_step, getchar_step, putchar_step, jump_step, return_step, end_step}
+use Rattle.stack_code.proofs.Steps.{in_main, in_start, running as running_with, leaving, address_of, constant_step, local_step, load_step, store_step, negate_step, complement_step, convert_step, binary_step, compare_step, zero_step, nonzero_step, getchar_step, putchar_step, jump_step, return_step, exit_step, end_step}
 
-module _ (tac : Tac) where
+module _ (tac : Tac) (slabs index : ℕ) where
   abbrev points : List Op
   points = tac.main.points.items
 
@@ -43,7 +44,17 @@ module _ (tac : Tac) where
   code = function_code points tac.main.entry.0
 
   abbrev step : machine.State → Move machine.State
-  step = machine.act (functions_of tac)
+  step = machine.act (code_of tac)
+
+  abbrev heap : machine.Heap
+  heap = machine.first_heap (code_of tac) slabs index
+
+  -- main has been called
+  abbrev history : machine.History
+  history = record { placed = []; pool_events = machine.Entered 0 ∷ [] }
+
+  abbrev running : ℕ → List ℕ → List ℤ → List ℕ → Trace → machine.State
+  running = running_with heap history
 
   -- the machine is at the beginning of the point's block, and its frame holds the registers
   abbrev stand_in : State → machine.State
@@ -71,7 +82,7 @@ module _ (tac : Tac) where
       go : (falls : Bool) → StandsAt code at (if falls then [] else instrs.Jump (place next) ∷ []) → (falls ≡ true → at ≡ place next) → (j : ℕ) × (j ≤ 1) × Leads step (running at [] registers input trace) j (running (place next) [] registers input trace)
       go true stands same = (0, omega arith, subst (λ p. Leads step (running at [] registers input trace) 0 (running p [] registers input trace)) (same refl) (here _))
       go false stands same =
-          (1, omega arith, one_step step _ _ (jump_step code (8 * tac.main.registers) registers input trace at (place next) [] stands.0))
+          (1, omega arith, one_step step _ _ (jump_step heap history code (8 * tac.main.registers) registers input trace at (place next) [] stands.0))
 
   -- an operation that goes on: its instructions lead to the way behind them
   finish : (registers : List ℤ) (input : List ℕ) (trace : Trace) (other : machine.State) (number next k : ℕ) (op : Op) →
@@ -148,8 +159,8 @@ module _ (tac : Tac) where
         Leads step start k (standing spot operands) → Leads step start (suc (suc k)) (standing (spot + 1 + 1) (word value ∷ operands))
     loads from value operands spot k there room local load leads =
         let behind = slice_get_within state.registers from value there in
-        let addressed = leads_more step _ _ _ k leads (local_step code extra state.registers state.input state.trace spot from operands local room (omega arith)) in
-        leads_more step _ _ _ (suc k) addressed (load_step code extra state.registers state.input state.trace (spot + 1) from value operands load there)
+        let addressed = leads_more step _ _ _ k leads (local_step heap history code extra state.registers state.input state.trace spot from operands local room (omega arith)) in
+        leads_more step _ _ _ (suc k) addressed (load_step heap history code extra state.registers state.input state.trace (spot + 1) from value operands load there)
 
     -- An operation that assigns: the address of a register is pushed, then in k steps a word, which is stored there.
     assigns : (op : Op) (to next : ℕ) (value : ℤ) (input : List ℕ) (trace : Trace) (k stored : ℕ) →
@@ -160,34 +171,50 @@ module _ (tac : Tac) where
         Answers start (write to value next input trace state)
     assigns op to next value input trace k stored e successor size few local behind store way leads =
         written to value next input trace (λ within.
-        let addressed = one_step step _ _ (local_step code extra state.registers state.input state.trace at to [] local refl (omega arith)) in
-        let all = leads_more step _ _ _ (suc k) (leads addressed) (store_step code extra state.registers input trace stored to value [] store within) in
+        let addressed = one_step step _ _ (local_step heap history code extra state.registers state.input state.trace at to [] local refl (omega arith)) in
+        let all = leads_more step _ _ _ (suc k) (leads addressed) (store_step heap history code extra state.registers input trace stored to value [] store within) in
         finish (slice_set state.registers to value) input trace start state.at next (suc (suc k)) op e successor (omega (arith, size)) (omega arith) (omega arith) (stored + 1) (omega arith) way all (length-set state.registers to value ∙ fits))
 
     constant : (to : _) (value : ℤ) (next : _) → Steps (O.Constant to value next)
     constant to value next e stands =
         assigns (O.Constant to value next) to.0 next.0 value state.input state.trace 1 (at + 1 + 1) e refl refl (omega arith) stands.0 (omega arith) stands.1.1.0 stands.1.1.1
-        (λ leads. leads_more step _ _ _ 1 leads (constant_step code extra state.registers state.input state.trace (at + 1) (word value) (address_of to.0 ∷ []) stands.1.0 refl))
+        (λ leads. leads_more step _ _ _ 1 leads (constant_step heap history code extra state.registers state.input state.trace (at + 1) (word value) (address_of to.0 ∷ []) stands.1.0 refl))
 
     copy : (from to : _) (next : _) → Steps (O.Copy from to next)
     copy from to next e stands = known from.0 _ (λ value there.
         assigns (O.Copy from to next) to.0 next.0 value state.input state.trace 2 (at + 1 + 1 + 1) e refl refl (omega arith) stands.0 (omega arith) stands.1.1.1.0 stands.1.1.1.1
         (loads from.0 value (address_of to.0 ∷ []) (at + 1) 1 there refl stands.1.0 stands.1.1.0))
 
+    convert : (type : IntType) (from to : _) (next : _) → Steps (O.Convert type from to next)
+    convert type from to next e stands = known from.0 _ (λ value there.
+        let spot = at + 1 + 1 + 1 in
+        let converted = convert_step heap history code extra state.registers state.input state.trace spot type (word value) (address_of to.0 ∷ []) stands.1.1.1.0
+        ∙ ap (λ w. To (standing (spot + 1) (w ∷ address_of to.0 ∷ []))) (converted_word-value type value) in
+        assigns (O.Convert type from to next) to.0 next.0 (convert_to type value) state.input state.trace 3 (spot + 1) e refl refl (omega arith) stands.0 (omega arith) stands.1.1.1.1.0 stands.1.1.1.1.1
+        (λ leads. leads_more step _ _ _ 3 (loads from.0 value (address_of to.0 ∷ []) (at + 1) 1 there refl stands.1.0 stands.1.1.0 leads) converted))
+
     negate : (type : IntType) (from to : _) (next : _) → Steps (O.Negate type from to next)
     negate type from to next e stands = typed type from.0 _ (λ a there is. resulting (negated_of type a) _ (λ value e'.
         let spot = at + 1 + 1 + 1 in
-        let negated = negate_step code extra state.registers state.input state.trace spot type (word a) (address_of to.0 ∷ []) stands.1.1.1.0
+        let negated = negate_step heap history code extra state.registers state.input state.trace spot type (word a) (address_of to.0 ∷ []) stands.1.1.1.0
         ∙ ap (λ w. To (standing (spot + 1) (w ∷ address_of to.0 ∷ []))) (negated_word-outcome type a value is e') in
         assigns (O.Negate type from to next) to.0 next.0 value state.input state.trace 3 (spot + 1) e refl refl (omega arith) stands.0 (omega arith) stands.1.1.1.1.0 stands.1.1.1.1.1
         (λ leads. leads_more step _ _ _ 3 (loads from.0 a (address_of to.0 ∷ []) (at + 1) 1 there refl stands.1.0 stands.1.1.0 leads) negated)))
+
+    complement : (type : IntType) (from to : _) (next : _) → Steps (O.Complement type from to next)
+    complement type from to next e stands = typed type from.0 _ (λ a there is.
+        let spot = at + 1 + 1 + 1 in
+        let complemented = complement_step heap history code extra state.registers state.input state.trace spot type (word a) (address_of to.0 ∷ []) stands.1.1.1.0
+        ∙ ap (λ w. To (standing (spot + 1) (w ∷ address_of to.0 ∷ []))) (complement_word-value type a is) in
+        assigns (O.Complement type from to next) to.0 next.0 (complement_of type a) state.input state.trace 3 (spot + 1) e refl refl (omega arith) stands.0 (omega arith) stands.1.1.1.1.0 stands.1.1.1.1.1
+        (λ leads. leads_more step _ _ _ 3 (loads from.0 a (address_of to.0 ∷ []) (at + 1) 1 there refl stands.1.0 stands.1.1.0 leads) complemented))
 
     not : (type : IntType) (from to : _) (next : _) → Steps (O.Not type from to next)
     not type from to next e stands = typed type from.0 _ (λ a there is.
         let value = truth (is_zero a) in
         let spot = at + 1 + 1 + 1 in
-        let zero = constant_step code extra state.registers state.input state.trace spot 0 (word a ∷ address_of to.0 ∷ []) stands.1.1.1.0 refl in
-        let compared = compare_step code extra state.registers state.input state.trace (spot + 1) relations.Eq type (word a) 0 (address_of to.0 ∷ []) stands.1.1.1.1.0
+        let zero = constant_step heap history code extra state.registers state.input state.trace spot 0 (word a ∷ address_of to.0 ∷ []) stands.1.1.1.0 refl in
+        let compared = compare_step heap history code extra state.registers state.input state.trace (spot + 1) relations.Eq type (word a) 0 (address_of to.0 ∷ []) stands.1.1.1.1.0
         ∙ ap (λ w. To (standing (spot + 1 + 1) (w ∷ address_of to.0 ∷ []))) (compared_word-truth type relations.Eq a (pos 0) is (zero_in_range type)) in
         assigns (O.Not type from to next) to.0 next.0 value state.input state.trace 4 (spot + 1 + 1) e refl refl (omega arith) stands.0 (omega arith) stands.1.1.1.1.1.0 stands.1.1.1.1.1.1
         (λ leads. leads_more step _ _ _ 4 (leads_more step _ _ _ 3 (loads from.0 a (address_of to.0 ∷ []) (at + 1) 1 there refl stands.1.0 stands.1.1.0 leads) zero) compared))
@@ -209,13 +236,13 @@ module _ (tac : Tac) where
     arithmetic : (operator : BinOp) (type : IntType) (left right to : _) (next : _) → Steps (O.Arithmetic operator type left right to next)
     arithmetic operator type left right to next e stands = typed type left.0 _ (λ a there is. typed type right.0 _ (λ b there' is'. resulting (outcome_of operator type a b) _ (λ value e'.
         of_two (O.Arithmetic operator type left right to next) left.0 right.0 to.0 next.0 a b value (instrs.Binary operator type) e refl refl stands there there'
-        (λ spot stands. binary_step code extra state.registers state.input state.trace spot operator type (word a) (word b) (address_of to.0 ∷ []) stands
+        (λ spot stands. binary_step heap history code extra state.registers state.input state.trace spot operator type (word a) (word b) (address_of to.0 ∷ []) stands
         ∙ ap (λ w. To (standing (spot + 1) (w ∷ address_of to.0 ∷ []))) (binary_word-outcome type operator a b value is is' e')))))
 
     compare : (relation : Relation) (type : IntType) (left right to : _) (next : _) → Steps (O.Compare relation type left right to next)
     compare relation type left right to next e stands = typed type left.0 _ (λ a there is. typed type right.0 _ (λ b there' is'.
         of_two (O.Compare relation type left right to next) left.0 right.0 to.0 next.0 a b (truth (compare_of relation a b)) (instrs.Compare relation type) e refl refl stands there there'
-        (λ spot stands. compare_step code extra state.registers state.input state.trace spot relation type (word a) (word b) (address_of to.0 ∷ []) stands
+        (λ spot stands. compare_step heap history code extra state.registers state.input state.trace spot relation type (word a) (word b) (address_of to.0 ∷ []) stands
         ∙ ap (λ w. To (standing (spot + 1) (w ∷ address_of to.0 ∷ []))) (compared_word-truth type relation a b is is'))))
 
     branch : (type : IntType) (condition holds fails : _) → Steps (O.Branch type condition holds fails)
@@ -224,17 +251,17 @@ module _ (tac : Tac) where
         go : (value : ℤ) → slice_get state.registers condition.0 ≡ Some value → (test : Bool) → nat_eq (word value) 0 ≡ test → Answers start (if test then go_to fails.0 state else go_to holds.0 state)
         go value there true is =
             let two = loads condition.0 value [] at 0 there refl stands.0 stands.1.0 (here start) in
-            let three = leads_more step _ _ _ 2 two (zero_step code extra state.registers state.input state.trace (at + 1 + 1) (place fails.0) (word value) [] stands.1.1.0 is) in
+            let three = leads_more step _ _ _ 2 two (zero_step heap history code extra state.registers state.input state.trace (at + 1 + 1) (place fails.0) (word value) [] stands.1.1.0 is) in
             (3, standing (place fails.0) [], omega arith, omega arith, three, (refl, fits))
         go value there false is =
             let two = loads condition.0 value [] at 0 there refl stands.0 stands.1.0 (here start) in
-            let three = leads_more step _ _ _ 2 two (nonzero_step code extra state.registers state.input state.trace (at + 1 + 1) (place fails.0) (word value) [] stands.1.1.0 is) in
+            let three = leads_more step _ _ _ 2 two (nonzero_step heap history code extra state.registers state.input state.trace (at + 1 + 1) (place fails.0) (word value) [] stands.1.1.0 is) in
             finish state.registers state.input state.trace start state.at holds.0 3 (O.Branch type condition holds fails) e refl refl (omega arith) (omega arith) (at + 1 + 1 + 1) (omega arith) stands.1.1.1 three fits
 
     get_char : (to : _) (next : _) → Steps (O.GetChar to next)
     get_char to next e stands =
         let left = machine.after_next state.input in
-        let got = getchar_step code extra state.registers state.input state.trace (at + 1) (address_of to.0 ∷ []) stands.1.0 refl
+        let got = getchar_step heap history code extra state.registers state.input state.trace (at + 1) (address_of to.0 ∷ []) stands.1.0 refl
         ∙ ap (λ w. To (running (at + 1 + 1) (w ∷ address_of to.0 ∷ []) state.registers left state.trace)) (input_word-next state.input) in
         assigns (O.GetChar to next) to.0 next.0 (next_char state.input) left state.trace 1 (at + 1 + 1) e refl refl (omega arith) stands.0 (omega arith) stands.1.1.0 stands.1.1.1
         (λ leads. leads_more step _ _ _ 1 leads got)
@@ -244,7 +271,7 @@ module _ (tac : Tac) where
         let put = pos (byte_of value) in
         let trace = state.trace ++ Output (byte_of value) ∷ [] in
         let spot = at + 1 + 1 + 1 in
-        let wrote = putchar_step code extra state.registers state.input state.trace spot (word value) (address_of to.0 ∷ []) stands.1.1.1.0
+        let wrote = putchar_step heap history code extra state.registers state.input state.trace spot (word value) (address_of to.0 ∷ []) stands.1.1.1.0
         ∙ ap (λ w. To (running (spot + 1) (w ∷ address_of to.0 ∷ []) state.registers state.input (state.trace ++ Output (word value % 256) ∷ []))) (sym (word-pos_byte value))
         ∙ ap (λ b. To (running (spot + 1) (word put ∷ address_of to.0 ∷ []) state.registers state.input (state.trace ++ Output b ∷ []))) (word-byte value) in
         assigns (O.PutChar from to next) to.0 next.0 put state.input trace 3 (spot + 1) e refl refl (omega arith) stands.0 (omega arith) stands.1.1.1.1.0 stands.1.1.1.1.1
@@ -253,15 +280,24 @@ module _ (tac : Tac) where
     return : (from : _) → Steps (O.Return from)
     return from e stands = known from.0 _ (λ value there.
         let two = loads from.0 value [] at 0 there refl stands.0 stands.1.0 (here start) in
-        let three = leads_more step _ _ _ 2 two (return_step code extra state.registers state.input state.trace (at + 1 + 1) (word value) [] stands.1.1.0) in
-        let last = leaving (word value) state.input state.trace in
-        inr (3, last, last, omega arith, three, end_step code extra (word value) state.input state.trace ∙ ap (λ b. Halt (Ended b) last) (word-byte value), refl, inl tt))
+        let three = leads_more step _ _ _ 2 two (return_step heap history code extra state.registers state.input state.trace (at + 1 + 1) (word value) [] stands.1.1.0) in
+        let last = leaving heap history (word value) state.input state.trace in
+        inr (3, last, last, omega arith, three, end_step heap history code extra (word value) state.input state.trace ∙ ap (λ b. Halt (Ended b) last) (word-byte value), refl, inl tt))
+
+    exit : (from : _) → Steps (O.Exit from)
+    exit from e stands = known from.0 _ (λ value there.
+        let last = standing (at + 1 + 1) (word value ∷ []) in
+        let two = loads from.0 value [] at 0 there refl stands.0 stands.1.0 (here start) in
+        let ended = exit_step heap history code extra state.registers state.input state.trace (at + 1 + 1) (word value) [] stands.1.1.0 ∙ ap (λ b. Halt (Ended b) last) (word-byte value) in
+        inr (2, last, last, omega arith, two, ended, refl, inl tt))
 
     at_op : (op : Op) → Steps op
     at_op O.Reserved = λ e stands. inl tt
     at_op (O.Constant to value next) = constant to value next
     at_op (O.Copy from to next) = copy from to next
+    at_op (O.Convert type from to next) = convert type from to next
     at_op (O.Negate type from to next) = negate type from to next
+    at_op (O.Complement type from to next) = complement type from to next
     at_op (O.Not type from to next) = not type from to next
     at_op (O.Arithmetic operator type left right to next) = arithmetic operator type left right to next
     at_op (O.Compare relation type left right to next) = compare relation type left right to next
@@ -269,6 +305,7 @@ module _ (tac : Tac) where
     at_op (O.GetChar to next) = get_char to next
     at_op (O.PutChar from to next) = put_char from to next
     at_op (O.Return from) = return from
+    at_op (O.Exit from) = exit from
 
     answers : Answers start (act points state)
     answers = go (slice_get points state.at) refl
@@ -290,21 +327,21 @@ module _ (tac : Tac) where
 
     module _ (input : List ℕ) where
       -- start calls main
-      called : step (machine.initial (functions_of tac) input) ≡ To (running 0 [] (replicate tac.main.registers (pos 0)) input [])
-      called = ap (λ bytes. To (record { activations = in_main 0 [] bytes ∷ in_start [] ∷ []; input = input; trace = [] })) (sym (zero_frame tac.main.registers))
+      called : step (machine.initial (code_of tac) slabs index input) ≡ To (running 0 [] (replicate tac.main.registers (pos 0)) input (Called 0 ∷ []))
+      called = ap (λ bytes. To (record { activations = in_main 0 [] bytes ∷ in_start [] ∷ []; heap = heap; history = history; input = input; trace = Called 0 ∷ [] })) (sym (zero_frame tac.main.registers))
 
-      begins : (k : ℕ) × (k ≤ 2) × Leads step (machine.initial (functions_of tac) input) k (stand_in (initial tac input))
+      begins : (k : ℕ) × (k ≤ 2) × Leads step (machine.initial (code_of tac) slabs index input) k (stand_in (initial tac input))
       begins =
           let registers = replicate tac.main.registers (pos 0) in
-          let way = follow registers input [] 0 (length points) tac.main.entry.0 (opening_stands points tac.main.entry.0) (place_of-entry points tac.main.entry.0) in
+          let way = follow registers input (Called 0 ∷ []) 0 (length points) tac.main.entry.0 (opening_stands points tac.main.entry.0) (place_of-entry points tac.main.entry.0) in
           (suc way.0, omega (arith, way.1), leads_compose step _ _ _ 1 way.0 (suc way.0) (omega arith) (one_step step _ _ called) way.2)
 
-      pub follows_code : Simulates (tac_run tac input) (machine.mach (functions_of tac) input) 8 2
+      pub follows_code : Simulates (tac_run tac input) (machine.mach (code_of tac) slabs index input) 8 2
       follows_code =
           let from = begins in
-          let simulates = locked_from (act points) (λ state. state.trace) step (λ state. state.trace) Related 8 in_step (initial tac input) (stand_in (initial tac input)) (machine.initial (functions_of tac) input) from.0 from.2 (refl, length-replicate tac.main.registers (pos 0)) in
-          simulates_within (tac_run tac input) (machine.mach (functions_of tac) input) 8 from.0 8 2 (λ n. omega (arith, from.1)) simulates
+          let simulates = locked_from (act points) (λ state. state.trace) step (λ state. state.trace) Related 8 in_step (initial tac input) (stand_in (initial tac input)) (machine.initial (code_of tac) slabs index input) from.0 from.2 (refl, length-replicate tac.main.registers (pos 0)) in
+          simulates_within (tac_run tac input) (machine.mach (code_of tac) slabs index input) 8 from.0 8 2 (λ n. omega (arith, from.1)) simulates
 
--- the law, over all code and input
+-- the law, over all code and input, and all limits
 pub emission_follows : EmissionFollowsCode
-emission_follows tac input fits = follows_code tac fits.registers input
+emission_follows tac input slabs index fits = follows_code tac slabs index fits.registers input

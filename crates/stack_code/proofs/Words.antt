@@ -11,12 +11,12 @@ use Rattle.c_num.specs.declared.BinOp.{BinOp}
 use Rattle.c_num.specs.declared.Relation.{Relation}
 use Rattle.c_num.specs.Types.{IsValue}
 use Rattle.c_num.specs.Conversion.{modulo, convert_to, word_of}
-use Rattle.c_num.specs.Arith.{outcome_of, wrapped, negated_of, wrapped_negation, compare_of}
-use Rattle.c_num.proofs.Conversions.{convert_to-same, convert_to-word, word_is}
-use Rattle.c_num.proofs.Outcomes.{wrapped_is, wrapped-in_range, wrapped-negated, wrapped_negation-in_range}
+use Rattle.c_num.specs.Arith.{outcome_of, wrapped, negated_of, wrapped_negation, complement_of, compare_of}
+use Rattle.c_num.proofs.Conversions.{convert_to-same, convert_to-word, word_is, same_converted, congruent_from_word, modulo-congruent}
+use Rattle.c_num.proofs.Outcomes.{wrapped_is, wrapped-in_range, wrapped-negated, wrapped_negation-in_range, complement-in_range}
 use Rattle.c_num.proofs.Words.{value_bounds}
-use Rattle.c_ast.specs.Values.{byte_of, next_char, is_zero, truth}
-use Rattle.pool_isa.specs.Machine.{input_word, value_in, binary_word, negated_word, compared_word}
+use Rattle.tac_ir.specs.Values.{byte_of, next_char, is_zero, truth}
+use Rattle.pool_isa.specs.Machine.{input_word, value_in, binary_word, negated_word, complement_word, compared_word, converted_word}
 
 -- the word that holds a value
 abbrev pub word : ℤ → ℕ
@@ -30,6 +30,11 @@ word_fits (negsuc n) = omega arith
 pub word_of-word : (w : ℕ) → w < 2 ^ 64 → word_of types.ULong (pos w) ≡ w
 unfolding word_of convert_to
 word_of-word w fits = ap (λ x. x % 2 ^ 64) (mod-eq_of_lt fits) ∙ mod-eq_of_lt fits
+
+-- the word of a value as an unsigned one
+pub word_of-value : (value : ℤ) → word_of types.ULong value ≡ word value
+unfolding word_of convert_to
+word_of-value value = mod-eq_of_lt (word_fits value)
 
 -- the low byte of a word is that of its value
 pub word-byte : (value : ℤ) → word value % 256 ≡ byte_of value
@@ -82,6 +87,16 @@ module _ (type : IntType) where
       let wrapped_r : wrapped_negation type a ≡ r = rw e at (wrapped-negated type a is) in
       ap (λ x. word_of type (wrapped_negation type x)) (value_in-word a is)
       ∙ ap (word_of type) wrapped_r ∙ word_is type r (subst (IsValue type) wrapped_r (wrapped_negation-in_range type a))
+
+  pub complement_word-value : (a : ℤ) → IsValue type a → complement_word type (word a) ≡ word (complement_of type a)
+  complement_word-value a is =
+      ap (λ x. word_of type (complement_of type x)) (value_in-word a is) ∙ word_is type (complement_of type a) (complement-in_range type a)
+
+  -- any value, converted to the type
+  pub converted_word-value : (v : ℤ) → converted_word type (word v) ≡ word (convert_to type v)
+  unfolding word_of
+  converted_word-value v =
+      ap (λ x. modulo x (2 ^ 64)) (same_converted type (pos (word v)) v (congruent_from_word type (pos (word v)) v (modulo-congruent v (2 ^ 64) (omega arith))))
 
   pub compared_word-truth : (relation : Relation) (a b : ℤ) → IsValue type a → IsValue type b → compared_word relation type (word a) (word b) ≡ word (truth (compare_of relation a b))
   compared_word-truth relation a b is is' =

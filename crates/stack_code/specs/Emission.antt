@@ -10,7 +10,7 @@ use Rattle.c_num.specs.declared.Relation.TheVariants as relations
 use Rattle.pool_isa.specs.declared.instr.Width.TheVariants as widths
 use Rattle.pool_isa.specs.declared.instr.Instr.{Instr}
 use Rattle.pool_isa.specs.declared.instr.Instr.TheVariants as instrs
-use Rattle.pool_isa.specs.Machine.{Function}
+use Rattle.pool_isa.specs.Machine.{Function, Code}
 use Rattle.tac_ir.specs.declared.Op.{Op}
 use Rattle.tac_ir.specs.declared.Op.TheVariants as O
 use Rattle.tac_ir.specs.declared.Register.{Register}
@@ -33,7 +33,9 @@ abbrev pub op_code : (ℕ → ℕ) → Op → List Instr
 op_code place O.Reserved = instrs.Trap ∷ []
 op_code place (O.Constant to value next) = assigning to (instrs.Constant (modulo value (2 ^ 64)) ∷ [])
 op_code place (O.Copy from to next) = assigning to (loading from)
+op_code place (O.Convert type from to next) = assigning to (loading from ++ instrs.Convert type ∷ [])
 op_code place (O.Negate type operand to next) = assigning to (loading operand ++ instrs.Negate type ∷ [])
+op_code place (O.Complement type operand to next) = assigning to (loading operand ++ instrs.Complement type ∷ [])
 op_code place (O.Not type operand to next) = assigning to (loading operand ++ instrs.Constant 0 ∷ instrs.Compare relations.Eq type ∷ [])
 op_code place (O.Arithmetic operator type left right to next) = assigning to (loading left ++ loading right ++ instrs.Binary operator type ∷ [])
 op_code place (O.Compare relation type left right to next) = assigning to (loading left ++ loading right ++ instrs.Compare relation type ∷ [])
@@ -41,13 +43,16 @@ op_code place (O.Branch type condition holds fails) = loading condition ++ instr
 op_code place (O.GetChar to next) = assigning to (instrs.GetChar ∷ [])
 op_code place (O.PutChar from to next) = assigning to (loading from ++ instrs.PutChar ∷ [])
 op_code place (O.Return from) = loading from ++ instrs.ReturnValue ∷ []
+op_code place (O.Exit from) = loading from ++ instrs.Exit ∷ []
 
 -- the point that follows: of a branch, the first one
 abbrev pub successor_of : Op → Option ℕ
 successor_of O.Reserved = None
 successor_of (O.Constant to value next) = Some next.0
 successor_of (O.Copy from to next) = Some next.0
+successor_of (O.Convert type from to next) = Some next.0
 successor_of (O.Negate type operand to next) = Some next.0
+successor_of (O.Complement type operand to next) = Some next.0
 successor_of (O.Not type operand to next) = Some next.0
 successor_of (O.Arithmetic operator type left right to next) = Some next.0
 successor_of (O.Compare relation type left right to next) = Some next.0
@@ -55,6 +60,7 @@ successor_of (O.Branch type condition holds fails) = Some holds.0
 successor_of (O.GetChar to next) = Some next.0
 successor_of (O.PutChar from to next) = Some next.0
 successor_of (O.Return from) = None
+successor_of (O.Exit from) = None
 
 -- the way from a point, or from the beginning of the function, to the one that follows: none where that is laid out next
 abbrev pub way_to : (ℕ → ℕ) → ℕ → Option ℕ → List Instr
@@ -96,3 +102,7 @@ main_function tac =
 -- the functions of a program's image
 abbrev pub functions_of : Tac → List Function
 functions_of tac = start_function ∷ main_function tac ∷ []
+
+-- what the machine runs: there are neither kinds of pools nor globals
+abbrev pub code_of : Tac → Code
+code_of tac = record { functions = functions_of tac; kinds = []; globals = 0; contents = [] }

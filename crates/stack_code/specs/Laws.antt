@@ -4,10 +4,10 @@ use Rattle.run_theory.specs.Runs.{Simulates}
 use Rattle.pool_isa.specs.Machine.{mach}
 use Rattle.tac_ir.specs.declared.Tac.{Tac}
 use Rattle.tac_ir.specs.Meaning.{tac_run}
-use Rattle.stack_code.specs.Emission.{functions_of}
+use Rattle.stack_code.specs.Emission.{code_of}
 use Rattle.tac_ir.specs.Fits.{FitsFrame}
 
--- On every input the machine does what the three-address code does, in at most 8 steps for each of the code's, and 2
--- before them.
+-- On every input, and with any limits of the heap, the machine does what the three-address code does, in at most 8 steps
+-- for each of the code's, and 2 before them.
 abbrev pub EmissionFollowsCode : Type 0
-EmissionFollowsCode = (tac : Tac) (input : List ℕ) → FitsFrame tac → Simulates (tac_run tac input) (mach (functions_of tac) input) 8 2
+EmissionFollowsCode = (tac : Tac) (input : List ℕ) (slabs index : ℕ) → FitsFrame tac → Simulates (tac_run tac input) (mach (code_of tac) slabs index input) 8 2

@@ -1,6 +1,6 @@
 // The instructions of a program's functions.
 
-ghost use Rattle.std.specs.Prelude.{◌≡◌, ◌+◌, ◌^◌, ◌<◌, ◌≤◌, ◌==◌, ◌++◌, length, IfOk, OnOk, slice_index};
+ghost use Rattle.std.specs.Prelude.{◌≡◌, ◌+◌, ◌^◌, ◌<◌, ◌≤◌, ◌==◌, ◌++◌, [], length, IfOk, OnOk, slice_index};
 ghost use Rattle.std.specs.Option.{ForSome};
 ghost use Rattle.std.specs.List.{AllByRecursion};
 ghost use Rattle.pool_isa.specs.Ranges.{IsFunction};
@@ -11,6 +11,7 @@ ghost use Rattle.stack_code.specs.Units.{unit_function, unit_functions};
 
 use crate::operation::{op_len, push_op, successor};
 use pool_isa::Instr;
+use slab_space::PoolKind;
 use std::alloc::{AllocError, Global};
 use tac_ir::{Func, Op, Tac};
 
@@ -32,6 +33,8 @@ pub struct Unit {
 #[derive(Debug, Drop)]
 pub struct Units {
     pub functions: Vec<Unit>,
+    /// The kinds of pools that `PoolInit` names by their places here. A kind may stand at several places.
+    pub kinds: Vec<PoolKind>,
 }
 
 /// Whether a point is laid out behind the point of this number, so that no jump leads there.
@@ -146,12 +149,16 @@ fn main_unit(alloc: Global, tac: &Tac) -> Result<Unit, AllocError>
 pub fn emit(alloc: Global, tac: &Tac) -> Result<Units, AllocError>
     requires { FitsFrame tac.now }
     ensures functions { IfOk result (λ units. unit_functions units ≡ functions_of tac.now) }
+    ensures kinds { IfOk result (λ units. units.kinds.items ≡ []) }
     ensures ranges { IfOk result (λ units. AllByRecursion (IsFunction 0 2) (unit_functions units)) }
 {
     let mut functions = Vec::new(alloc);
     functions.push(start(alloc)?)?;
     functions.push(main_unit(alloc, tac)?)?;
-    Ok(Units { functions })
+    Ok(Units {
+        functions,
+        kinds: Vec::new(alloc),
+    })
 }
 
 #[cfg(test)]

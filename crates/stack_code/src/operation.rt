@@ -5,7 +5,7 @@ ghost use Rattle.c_num.specs.Conversion.{modulo};
 ghost use Rattle.stack_code.specs.Emission.{assigning, op_code, offset_of, successor_of};
 ghost use Rattle.tac_ir.specs.Fits.{NamesBelow};
 
-use c_num::{IntType, Relation};
+use c_num::{IntType, Relation, word};
 use pool_isa::{Instr, Width};
 use std::alloc::AllocError;
 use tac_ir::{Op, Register};
@@ -17,10 +17,10 @@ const LOAD: Instr = Instr::Load(IntType::ULong);
 const STORE: Instr = Instr::Store(Width::Eight);
 
 /// The word that holds a value.
-fn word_of(value: i64) -> u64
+fn word_of(value: i128) -> u64
     ensures { result ≡ modulo value (2 ^ 64) }
 {
-    value.cast_unsigned()
+    word(value, IntType::ULong)
 }
 
 /// Pushes the address of a register, which is a word of the frame.
@@ -37,9 +37,13 @@ pub fn op_len(op: Op) -> u64
 {
     match op {
         Op::Reserved => 1,
-        Op::Constant { .. } | Op::Branch { .. } | Op::GetChar { .. } | Op::Return { .. } => 3,
+        Op::Constant { .. }
+        | Op::Branch { .. }
+        | Op::GetChar { .. }
+        | Op::Return { .. }
+        | Op::Exit { .. } => 3,
         Op::Copy { .. } => 4,
-        Op::Negate { .. } | Op::PutChar { .. } => 5,
+        Op::Convert { .. } | Op::Negate { .. } | Op::Complement { .. } | Op::PutChar { .. } => 5,
         Op::Not { .. } => 6,
         Op::Arithmetic { .. } | Op::Compare { .. } => 7,
     }
@@ -52,14 +56,16 @@ pub fn successor(op: Op) -> Option<usize>
     match op {
         Op::Constant { next, .. }
         | Op::Copy { next, .. }
+        | Op::Convert { next, .. }
         | Op::Negate { next, .. }
+        | Op::Complement { next, .. }
         | Op::Not { next, .. }
         | Op::Arithmetic { next, .. }
         | Op::Compare { next, .. }
         | Op::GetChar { next, .. }
         | Op::PutChar { next, .. } => Some(next.0),
         Op::Branch { nonzero, .. } => Some(nonzero.0),
-        Op::Reserved | Op::Return { .. } => None,
+        Op::Reserved | Op::Return { .. } | Op::Exit { .. } => None,
     }
 }
 
@@ -85,12 +91,30 @@ pub fn push_op(code: &mut Vec<Instr>, places: &[u64], op: Op) -> Result<(), Allo
             push_assigning(code, to, &[Instr::Constant(word_of(value))])
         }
         Op::Copy { from, to, .. } => push_assigning(code, to, &[local(from), LOAD]),
+        Op::Convert {
+            int_type,
+            from,
+            to,
+            ..
+        } => { push_assigning(code, to, &[local(from), LOAD, Instr::Convert(int_type)]) }
         Op::Negate {
             int_type,
             operand,
             to,
             ..
         } => { push_assigning(code, to, &[local(operand), LOAD, Instr::Negate(int_type)]) }
+        Op::Complement {
+            int_type,
+            operand,
+            to,
+            ..
+        } => {
+            push_assigning(
+                code,
+                to,
+                &[local(operand), LOAD, Instr::Complement(int_type)],
+            )
+        }
         Op::Not {
             int_type,
             operand,
@@ -138,6 +162,7 @@ pub fn push_op(code: &mut Vec<Instr>, places: &[u64], op: Op) -> Result<(), Allo
             push_assigning(code, to, &[local(from), LOAD, Instr::PutChar])
         }
         Op::Return { from } => code.extend_from_slice(&[local(from), LOAD, Instr::ReturnValue]),
+        Op::Exit { from } => code.extend_from_slice(&[local(from), LOAD, Instr::Exit]),
     }
 }
 

@@ -1,98 +1,205 @@
--- The code of a form, put together from that of its parts: what stood behind still stands when a part is put in front.
-use Rattle.std.proofs.Common.{◌≡◌, ℕ, ◌+◌, List, Result, Ok, Err, IfOk, OnOk, slice_set, subst}
-use Rattle.std.proofs.lemmas.Option.{slice_get_within}
+-- The code of an expression, put together from that of its parts: what stood behind still stands when a part is put in front.
+use Rattle.std.proofs.Common.{◌≡◌, ℕ, ◌+◌, pos, List, true, false, Result, Ok, Err, IfOk, OnOk, ap, subst}
 use Rattle.std.specs.declared.alloc.AllocError.{AllocError}
-use Rattle.c_num.specs.declared.IntType.TheVariants as types
-use Rattle.c_ast.specs.Typed.{TypedExpr, And, Or, TypedStmt, If, IfElse}
+use Rattle.run_theory.specs.declared.ends.Pos.{Pos}
+use Rattle.c_num.specs.declared.IntType.{IntType}
+use Rattle.c_num.specs.declared.IntType.TheVariants as I
+use Rattle.c_num.specs.declared.BinOp.{BinOp}
+use Rattle.c_num.specs.declared.BinOp.TheVariants as B
+use Rattle.c_num.specs.Types.{common_of}
+use Rattle.c_typed.specs.declared.typed.Stepping.{Stepping}
+use Rattle.c_typed.specs.Typed as T
+use Rattle.c_typed.specs.Typed.{Value, Object}
+use Rattle.c_meaning.specs.Meaning.{step_operator}
 use Rattle.tac_ir.specs.declared.Op.{Op}
 use Rattle.tac_ir.specs.declared.Op.TheVariants as O
+use Rattle.tac_ir.specs.declared.Register.{Register}
 use Rattle.tac_ir.specs.declared.PointId.{PointId}
 use Rattle.tac_build.specs.declared.builder.Builder.{Builder}
-use Rattle.tac_build.specs.Code.{register, point, HasOp, BranchCode, ExprCode, StmtCode}
-use Rattle.tac_build.specs.Bounds.{Grows, TruthCode}
-use Rattle.tac_build.proofs.Registers.{slice_get-set}
-use Rattle.tac_build.proofs.Points.{read_beside}
-use Rattle.tac_build.proofs.Standing.{FilledStand, expr_stands, stmt_stands}
+use Rattle.tac_build.specs.Code.{register, point, local_register, HasOp, ConstantCode, BranchCode, OperatorCode, ExprCode, SteppingCode, tested_type}
+use Rattle.tac_build.specs.Growing.{Grows, TruthCode, UpdateCode, StepFrom}
+use Rattle.tac_build.proofs.Standing.{FilledStand, expr_stands}
 
-pub filled_stand : (old new : Builder) (points registers : ℕ) → Grows old new points registers → FilledStand old.points.items new.points.items
-filled_stand old new points registers grows at op filled has = grows.stands at op has
+pub filled_stand : (old new : Builder) → Grows old new → FilledStand old.points.items new.points.items
+filled_stand old new grows at op filled has = grows.stands at op has
 
-module _ (old new : Builder) (points registers : ℕ) where
-  pub operands_code : (result : Result PointId AllocError) (left right : TypedExpr) (to second mid : ℕ) (op : Op) → second ≡ to + 1 →
-      (last : ℕ) × ExprCode old.points.items right mid second last × HasOp old.points.items last op →
-      OnOk result (Grows old new points registers) → IfOk result (λ entry. ExprCode new.points.items left entry.0 to mid) →
-      IfOk result (λ entry. (mid : ℕ) × (last : ℕ) × ExprCode new.points.items left entry.0 to mid × ExprCode new.points.items right mid (to + 1) last × HasOp new.points.items last op)
+is_register : (r : Register) (number : ℕ) → r.0 ≡ number → r ≡ register number
+is_register r number e = ap register e
+
+-- ---- steps and compound assignments
+
+module _ (first second third last : Builder) (result : Result PointId AllocError) (local behind : Register) (to exit more at mid : ℕ) (next : behind.0 ≡ to + 1) where
+  pub step_code : (stepping : Stepping) (int_type : IntType) →
+      HasOp first.points.items more (O.Convert int_type (register to) (register to) (point exit)) → Grows first second →
+      HasOp second.points.items at (O.Arithmetic (step_operator stepping) (common_of int_type I.Int) (register to) behind (register to) (point more)) → Grows second third →
+      ConstantCode third.points.items (pos 1) mid behind.0 at → OnOk result (Grows third last) →
+      IfOk result (λ entry. HasOp last.points.items entry.0 (O.Convert (common_of int_type I.Int) local (register to) (point mid))) →
+      IfOk result (λ entry. StepFrom last.points.items stepping int_type local entry.0 to exit)
+  step_code stepping int_type = by result
+    where
+      by : (result : Result PointId AllocError) →
+          HasOp first.points.items more (O.Convert int_type (register to) (register to) (point exit)) → Grows first second →
+          HasOp second.points.items at (O.Arithmetic (step_operator stepping) (common_of int_type I.Int) (register to) behind (register to) (point more)) → Grows second third →
+          ConstantCode third.points.items (pos 1) mid behind.0 at → OnOk result (Grows third last) →
+          IfOk result (λ entry. HasOp last.points.items entry.0 (O.Convert (common_of int_type I.Int) local (register to) (point mid))) →
+          IfOk result (λ entry. StepFrom last.points.items stepping int_type local entry.0 to exit)
+      by (Err error) convert grows operator grows' constant grows'' code = tt
+      by (Ok entry) convert grows operator grows' constant grows'' code = (
+        mid,
+        at,
+        more,
+        code,
+        grows''.stands mid _ (subst (λ r. ConstantCode third.points.items (pos 1) mid r at) next constant),
+        grows''.stands at _ (grows'.stands at _ (subst (λ r. HasOp second.points.items at (O.Arithmetic (step_operator stepping) (common_of int_type I.Int) (register to) (register r) (register to) (point more))) next operator)),
+        grows''.stands more _ (grows'.stands more _ (grows.stands more _ convert)),
+      )
+
+  pub update_code : (op : BinOp) (object_type int_type : IntType) →
+      HasOp first.points.items more (O.Copy (register to) local (point exit)) → Grows first second →
+      HasOp second.points.items at (O.Convert object_type (register to) (register to) (point more)) → Grows second third →
+      HasOp third.points.items mid (O.Arithmetic op int_type (register to) behind (register to) (point at)) → OnOk result (Grows third last) →
+      IfOk result (λ entry. HasOp last.points.items entry.0 (O.Convert int_type local (register to) (point mid))) →
+      IfOk result (λ entry. UpdateCode last.points.items op object_type int_type local entry.0 to exit)
+  update_code op object_type int_type = by result
+    where
+      by : (result : Result PointId AllocError) →
+          HasOp first.points.items more (O.Copy (register to) local (point exit)) → Grows first second →
+          HasOp second.points.items at (O.Convert object_type (register to) (register to) (point more)) → Grows second third →
+          HasOp third.points.items mid (O.Arithmetic op int_type (register to) behind (register to) (point at)) → OnOk result (Grows third last) →
+          IfOk result (λ entry. HasOp last.points.items entry.0 (O.Convert int_type local (register to) (point mid))) →
+          IfOk result (λ entry. UpdateCode last.points.items op object_type int_type local entry.0 to exit)
+      by (Err error) store grows convert grows' operator grows'' code = tt
+      by (Ok entry) store grows convert grows' operator grows'' code = (
+        mid,
+        at,
+        more,
+        code,
+        grows''.stands mid _ (subst (λ r. HasOp third.points.items mid (O.Arithmetic op int_type (register to) (register r) (register to) (point at))) next operator),
+        grows''.stands at _ (grows'.stands at _ convert),
+        grows''.stands more _ (grows'.stands more _ (grows.stands more _ store)),
+      )
+
+module _ (object : Object) (local : Register) (to exit : ℕ) (is : local ≡ local_register object) (stepping : Stepping) (int_type : IntType) where
+  pub new_step_code : (first last : Builder) (result : Result PointId AllocError) (mid : ℕ) →
+      HasOp first.points.items mid (O.Copy (register to) local (point exit)) → OnOk result (Grows first last) →
+      IfOk result (λ entry. StepFrom last.points.items stepping int_type local entry.0 to mid) →
+      IfOk result (λ entry. SteppingCode last.points.items false stepping int_type object entry.0 to exit)
+  new_step_code first last (Err error) mid store grows code = tt
+  new_step_code first last (Ok entry) mid store grows code = (
+    mid,
+    subst (λ local. StepFrom last.points.items stepping int_type local entry.0 to mid) is code,
+    grows.stands mid _ (subst (λ local. HasOp first.points.items mid (O.Copy (register to) local (point exit))) is store),
+  )
+
+  pub old_step_code : (behind : Register) → behind.0 ≡ to + 1 → (first second last : Builder) (result : Result PointId AllocError) (mid at : ℕ) →
+      HasOp first.points.items at (O.Copy behind local (point exit)) → Grows first second →
+      HasOp second.points.items mid (O.Copy local (register to) (point at)) → OnOk result (Grows second last) →
+      IfOk result (λ entry. StepFrom last.points.items stepping int_type local entry.0 behind.0 mid) →
+      IfOk result (λ entry. SteppingCode last.points.items true stepping int_type object entry.0 to exit)
+  old_step_code behind next first second last (Err error) mid at store grows load grows' code = tt
+  old_step_code behind next first second last (Ok entry) mid at store grows load grows' code =
+      let same = is_register behind (to + 1) next in (
+        mid,
+        at,
+        subst (λ local. StepFrom last.points.items stepping int_type local entry.0 (to + 1) mid) is (subst (λ r. StepFrom last.points.items stepping int_type local entry.0 r mid) next code),
+        grows'.stands mid _ (subst (λ local. HasOp second.points.items mid (O.Copy local (register to) (point at))) is load),
+        grows'.stands at _ (grows.stands at _ (subst (λ local. HasOp first.points.items at (O.Copy (register (to + 1)) local (point exit))) is (subst (λ r. HasOp first.points.items at (O.Copy r local (point exit))) same store))),
+      )
+
+-- ---- operands
+
+module _ (old new : Builder) (types : List IntType) where
+  pub behind_code : (result : Result PointId AllocError) (value : Value) (to at : ℕ) (op : Op) → HasOp old.points.items at op →
+      OnOk result (Grows old new) → IfOk result (λ entry. ExprCode new.points.items types value entry.0 to at) →
+      IfOk result (λ entry. (at : ℕ) × ExprCode new.points.items types value entry.0 to at × HasOp new.points.items at op)
+  behind_code (Err error) value to at op behind grows front = tt
+  behind_code (Ok entry) value to at op behind grows front = (at, front, grows.stands at op behind)
+
+  pub operands_code : (result : Result PointId AllocError) (left right : Value) (to second mid : ℕ) (op : Op) → second ≡ to + 1 →
+      (last : ℕ) × ExprCode old.points.items types right mid second last × HasOp old.points.items last op →
+      OnOk result (Grows old new) → IfOk result (λ entry. ExprCode new.points.items types left entry.0 to mid) →
+      IfOk result (λ entry. (mid : ℕ) × (last : ℕ) × ExprCode new.points.items types left entry.0 to mid × ExprCode new.points.items types right mid (to + 1) last × HasOp new.points.items last op)
   operands_code (Err error) left right to second mid op e behind grows front = tt
   operands_code (Ok entry) left right to second mid op e behind grows front = (
     mid,
     behind.0,
     front,
-    expr_stands old.points.items new.points.items (filled_stand old new points registers grows) right mid (to + 1) behind.0 (subst (λ register. ExprCode old.points.items right mid register behind.0) e behind.1),
+    expr_stands old.points.items new.points.items (filled_stand old new grows) types right mid (to + 1) behind.0 (subst (λ register. ExprCode old.points.items types right mid register behind.0) e behind.1),
     grows.stands behind.0 op behind.2,
   )
 
-  truth_stands : (right : TypedExpr) (more holds fails to exit : ℕ) → Grows old new points registers →
-      TruthCode old.points.items right more holds fails to exit → TruthCode new.points.items right more holds fails to exit
+  pub negation_code : (result : Result PointId AllocError) (operand : Value) (int_type : IntType) (behind : Register) (to exit mid : ℕ) → behind.0 ≡ to + 1 →
+      (last : ℕ) × ExprCode old.points.items types operand mid behind.0 last × HasOp old.points.items last (O.Arithmetic B.Sub int_type (register to) behind (register to) (point exit)) →
+      OnOk result (Grows old new) → IfOk result (λ entry. ConstantCode new.points.items (pos 0) entry.0 to mid) →
+      IfOk result (λ entry. (mid : ℕ) × (last : ℕ) × ConstantCode new.points.items (pos 0) entry.0 to mid × ExprCode new.points.items types operand mid (to + 1) last × OperatorCode new.points.items B.Sub int_type last to exit)
+  negation_code (Err error) operand int_type behind to exit mid e code grows front = tt
+  negation_code (Ok entry) operand int_type behind to exit mid e code grows front = (
+    mid,
+    code.0,
+    front,
+    expr_stands old.points.items new.points.items (filled_stand old new grows) types operand mid (to + 1) code.0 (subst (λ r. ExprCode old.points.items types operand mid r code.0) e code.1),
+    grows.stands code.0 _ (subst (λ r. HasOp old.points.items code.0 (O.Arithmetic B.Sub int_type (register to) r (register to) (point exit))) (is_register behind (to + 1) e) code.2),
+  )
+
+  -- ---- what tests its operands in turn
+
+  truth_stands : (right : Value) (more holds fails to exit : ℕ) → Grows old new →
+      TruthCode old.points.items types right more holds fails to exit → TruthCode new.points.items types right more holds fails to exit
   truth_stands right more holds fails to exit grows code = (
     code.0,
-    expr_stands old.points.items new.points.items (filled_stand old new points registers grows) right more to code.0 code.1,
+    expr_stands old.points.items new.points.items (filled_stand old new grows) types right more to code.0 code.1,
     grows.stands code.0 _ code.2,
     grows.stands holds _ code.3,
     grows.stands fails _ code.4,
   )
 
-  pub and_code : (result : Result PointId AllocError) (tree left right : TypedExpr) (more holds fails to exit : ℕ) (op : Op) →
-      tree ≡ And left right → op ≡ O.Branch types.Int (register to) (point more) (point fails) → TruthCode old.points.items right more holds fails to exit →
-      OnOk result (Grows old new points registers) → IfOk result (λ entry. (test : ℕ) × ExprCode new.points.items left entry.0 to test × HasOp new.points.items test op) →
-      IfOk result (λ entry. ExprCode new.points.items tree entry.0 to exit)
-  and_code (Err error) tree left right more holds fails to exit op e branch behind grows front = tt
-  and_code (Ok entry) tree left right more holds fails to exit op e branch behind grows front =
+  pub and_code : (result : Result PointId AllocError) (left right : Value) (more holds fails to exit : ℕ) →
+      TruthCode old.points.items types right more holds fails to exit → OnOk result (Grows old new) →
+      IfOk result (λ entry. (test : ℕ) × ExprCode new.points.items types left entry.0 to test × BranchCode new.points.items (tested_type types left) test to more fails) →
+      IfOk result (λ entry. ExprCode new.points.items types (T.And left right) entry.0 to exit)
+  and_code (Err error) left right more holds fails to exit behind grows front = tt
+  and_code (Ok entry) left right more holds fails to exit behind grows front =
       let rest = truth_stands right more holds fails to exit grows behind in
-      rw e (front.0, more, rest.0, holds, fails, front.1, rw branch at front.2, rest.1, rest.2, rest.3, rest.4)
+      (front.0, more, rest.0, holds, fails, front.1, front.2, rest.1, rest.2, rest.3, rest.4)
 
-  pub or_code : (result : Result PointId AllocError) (tree left right : TypedExpr) (more holds fails to exit : ℕ) (op : Op) →
-      tree ≡ Or left right → op ≡ O.Branch types.Int (register to) (point holds) (point more) → TruthCode old.points.items right more holds fails to exit →
-      OnOk result (Grows old new points registers) → IfOk result (λ entry. (test : ℕ) × ExprCode new.points.items left entry.0 to test × HasOp new.points.items test op) →
-      IfOk result (λ entry. ExprCode new.points.items tree entry.0 to exit)
-  or_code (Err error) tree left right more holds fails to exit op e branch behind grows front = tt
-  or_code (Ok entry) tree left right more holds fails to exit op e branch behind grows front =
+  pub or_code : (result : Result PointId AllocError) (left right : Value) (more holds fails to exit : ℕ) →
+      TruthCode old.points.items types right more holds fails to exit → OnOk result (Grows old new) →
+      IfOk result (λ entry. (test : ℕ) × ExprCode new.points.items types left entry.0 to test × BranchCode new.points.items (tested_type types left) test to holds more) →
+      IfOk result (λ entry. ExprCode new.points.items types (T.Or left right) entry.0 to exit)
+  or_code (Err error) left right more holds fails to exit behind grows front = tt
+  or_code (Ok entry) left right more holds fails to exit behind grows front =
       let rest = truth_stands right more holds fails to exit grows behind in
-      rw e (front.0, more, rest.0, holds, fails, front.1, rw branch at front.2, rest.1, rest.2, rest.3, rest.4)
+      (front.0, more, rest.0, holds, fails, front.1, front.2, rest.1, rest.2, rest.3, rest.4)
 
-  pub if_code : (result : Result PointId AllocError) (tree : TypedStmt) (condition : TypedExpr) (taken : TypedStmt) (scope inside exit : ℕ) (op : Op) →
-      tree ≡ If condition taken → op ≡ O.Branch types.Int (register scope) (point inside) (point exit) → StmtCode old.points.items taken scope inside exit →
-      OnOk result (Grows old new points registers) → IfOk result (λ entry. (test : ℕ) × ExprCode new.points.items condition entry.0 scope test × HasOp new.points.items test op) →
-      IfOk result (λ entry. StmtCode new.points.items tree scope entry.0 exit)
-  if_code (Err error) tree condition taken scope inside exit op e branch behind grows front = tt
-  if_code (Ok entry) tree condition taken scope inside exit op e branch behind grows front =
-      let taken_stands = stmt_stands old.points.items new.points.items (filled_stand old new points registers grows) taken scope inside exit behind in
-      rw e (front.0, inside, front.1, rw branch at front.2, taken_stands)
+  pub choice_code : (result : Result PointId AllocError) (condition taken otherwise : Value) (holds fails to exit : ℕ) →
+      ExprCode old.points.items types taken holds to exit → ExprCode old.points.items types otherwise fails to exit → OnOk result (Grows old new) →
+      IfOk result (λ entry. (test : ℕ) × ExprCode new.points.items types condition entry.0 to test × BranchCode new.points.items (tested_type types condition) test to holds fails) →
+      IfOk result (λ entry. ExprCode new.points.items types (T.Conditional condition taken otherwise) entry.0 to exit)
+  choice_code (Err error) condition taken otherwise holds fails to exit first second grows front = tt
+  choice_code (Ok entry) condition taken otherwise holds fails to exit first second grows front =
+      let stands = expr_stands old.points.items new.points.items (filled_stand old new grows) types in
+      (front.0, holds, fails, front.1, front.2, stands taken holds to exit first, stands otherwise fails to exit second)
 
-  pub if_else_code : (result : Result PointId AllocError) (tree : TypedStmt) (condition : TypedExpr) (taken otherwise : TypedStmt) (scope inside outside exit : ℕ) (op : Op) →
-      tree ≡ IfElse condition taken otherwise → op ≡ O.Branch types.Int (register scope) (point inside) (point outside) →
-      StmtCode old.points.items taken scope inside exit → StmtCode old.points.items otherwise scope outside exit →
-      OnOk result (Grows old new points registers) → IfOk result (λ entry. (test : ℕ) × ExprCode new.points.items condition entry.0 scope test × HasOp new.points.items test op) →
-      IfOk result (λ entry. StmtCode new.points.items tree scope entry.0 exit)
-  if_else_code (Err error) tree condition taken otherwise scope inside outside exit op e branch behind behind' grows front = tt
-  if_else_code (Ok entry) tree condition taken otherwise scope inside outside exit op e branch behind behind' grows front =
-      let stand = filled_stand old new points registers grows in
-      let taken_stands = stmt_stands old.points.items new.points.items stand taken scope inside exit behind in
-      let otherwise_stands = stmt_stands old.points.items new.points.items stand otherwise scope outside exit behind' in
-      rw e (front.0, inside, outside, front.1, rw branch at front.2, taken_stands, otherwise_stands)
+  pub assigned_code : (result : Result PointId AllocError) (op : BinOp) (place : Pos) (object_type int_type : IntType) (object : Object) (value : Value) (local : Register) (to second exit mid : ℕ) →
+      second ≡ to + 1 → local ≡ local_register object → UpdateCode old.points.items op object_type int_type local mid to exit → OnOk result (Grows old new) →
+      IfOk result (λ entry. ExprCode new.points.items types value entry.0 second mid) →
+      IfOk result (λ entry. ExprCode new.points.items types (T.AssignArithmetic op place object_type int_type object value) entry.0 to exit)
+  assigned_code (Err error) op place object_type int_type object value local to second exit mid next is behind grows front = tt
+  assigned_code (Ok entry) op place object_type int_type object value local to second exit mid next is behind grows front =
+      let code = subst (λ local. UpdateCode old.points.items op object_type int_type local mid to exit) is behind in (
+        mid,
+        code.0,
+        code.1,
+        code.2,
+        subst (λ r. ExprCode new.points.items types value entry.0 r mid) next front,
+        grows.stands mid _ code.3,
+        grows.stands code.0 _ code.4,
+        grows.stands code.1 _ code.5,
+        grows.stands code.2 _ code.6,
+      )
 
--- a loop, whose branch is filled in when the condition and the body stand
-pub loop_code : (reserved middle new : Builder) (filled : List Op) (points registers points' registers' : ℕ) (condition : TypedExpr) (body : TypedStmt) (scope entry test inside exit : ℕ) (op : Op) →
-    HasOp reserved.points.items test O.Reserved → Grows reserved middle points registers → Grows middle new points' registers' → filled ≡ slice_set new.points.items test op →
-    op ≡ O.Branch types.Int (register scope) (point inside) (point exit) →
-    ExprCode middle.points.items condition entry scope test → StmtCode new.points.items body scope inside entry →
-    (test : ℕ) × (inside : ℕ) × ExprCode filled condition entry scope test × BranchCode filled test scope inside exit × StmtCode filled body scope inside entry
-loop_code reserved middle new filled points registers points' registers' condition body scope entry test inside exit op stood grows grows' e branch code code' =
-    let still : HasOp new.points.items test O.Reserved = grows'.stands test O.Reserved (grows.stands test O.Reserved stood) in
-    let stand : FilledStand new.points.items filled = λ at op' other has. rw e (read_beside new.points.items test at op O.Reserved op' still other has) in
-    let there : HasOp filled test op = rw e (slice_get-set new.points.items test op (slice_get_within new.points.items test O.Reserved still)) in (
-      test,
-      inside,
-      expr_stands middle.points.items filled (λ at op' other has. stand at op' other (grows'.stands at op' has)) condition entry scope test code,
-      rw branch at there,
-      stmt_stands new.points.items filled stand body scope inside entry code',
-    )
+  pub truth_code : (right : Value) (more holds fails to exit : ℕ) → Grows old new →
+      ConstantCode old.points.items (pos 1) holds to exit → ConstantCode old.points.items (pos 0) fails to exit →
+      (last : ℕ) × ExprCode new.points.items types right more to last × BranchCode new.points.items (tested_type types right) last to holds fails →
+      TruthCode new.points.items types right more holds fails to exit
+  truth_code right more holds fails to exit grows one none code = (code.0, code.1, code.2, grows.stands holds _ one, grows.stands fails _ none)

@@ -1,36 +1,58 @@
--- The items of a block from an index on, where the index goes down: each turn has one item more in front.
-use Rattle.std.proofs.Common.{◌≡◌, ℕ, ◌+◌, ◌-◌, ◌<◌, ◌≤◌, List, ◌∷◌, take, drop, length, get_or, true, false, refl, sym, ◌∙◌, ap, arith}
-use Rattle.std.proofs.lemmas.List.{drop_more}
-use Rattle.std.proofs.lemmas.List.Sums.{count_by_more_yes, count_by_more_no}
-use Rattle.c_ast.specs.declared.typed.TypedExpr as rust_expr
-use Rattle.c_ast.specs.declared.typed.TypedStmt as rust_stmt
-use Rattle.c_ast.specs.declared.typed.TypedItem.{TypedItem}
-use Rattle.c_ast.specs.declared.typed.TypedItem.TheVariants as I
-use Rattle.c_ast.specs.Typed.{Declare, Do, typed_stmt, typed_value, typed_items}
-use Rattle.std.proofs.Common.{Option}
-use Rattle.tac_build.specs.Bounds.{is_declaration, declared}
+-- Items of lists by their index.
+use Rattle.std.proofs.Common.{◌≡◌, ℕ, zero, suc, ◌+◌, ◌-◌, ◌<◌, ◌≤◌, List, [], ◌∷◌, ◌++◌, take, drop, length, get_or, refl, sym, ◌∙◌, ap, subst, arith, length-append}
+use Rattle.std.proofs.Math.Seq.{take-append_seam}
+use Rattle.std.proofs.lemmas.List.{take_more, drop_more}
+use Rattle.c_typed.specs.declared.statement.Stmt as memory_stmt
+use Rattle.c_typed.specs.declared.statement.BlockItem as memory_item
+use Rattle.c_typed.specs.declared.statement.BlockItem.TheVariants as B
+use Rattle.c_typed.specs.declared.statement.SwitchItem as memory_switch
+use Rattle.c_typed.specs.declared.statement.SwitchItem.TheVariants as W
+use Rattle.c_typed.specs.Table.{Interned}
+use Rattle.c_typed.specs.StatementViews.{StmtStands, BlockStands, SwitchStands}
 
-module _ (items : List TypedItem) (index : ℕ) (item : TypedItem) (low : 0 < index) (within : index ≤ length items) (read : item ≡ get_or items (index - 1) item) where
+-- a list of one item
+pub only_item : {X : Type 0} → (xs : List X) (x : X) → 1 ≤ length xs → length xs < 2 → x ≡ get_or xs 0 x → xs ≡ x ∷ []
+only_item [] x some few is = absurd (omega arith)
+only_item (y ∷ []) x some few is = ap (λ z. z ∷ []) (sym is)
+only_item (y ∷ z ∷ ys) x some few is = absurd (omega arith)
+
+-- a list without its last item
+pub without_last : {X : Type 0} → (xs ys : List X) (x : X) → xs ≡ ys ++ x ∷ [] → take (length xs - 1) xs ≡ ys
+without_last xs ys x e =
+    let count : length xs - 1 ≡ length ys = omega (arith, ap length e, length-append ys (x ∷ [])) in
+    rw (count, e) (take-append_seam ys (x ∷ []))
+
+-- an item that is read at an index below another, with those before it and those behind it
+module _ {X : Type 0} (xs : List X) (index : ℕ) (x : X) (low : 0 < index) (within : index ≤ length xs) (read : x ≡ get_or xs (index - 1) x) where
   before_more : index - 1 + 1 ≡ index
   before_more = omega arith
 
-  in_front : drop (index - 1) items ≡ item ∷ drop index items
+  pub in_front : drop (index - 1) xs ≡ x ∷ drop index xs
   in_front =
-      let e = drop_more items (index - 1) item (omega arith) in
+      let e = drop_more xs (index - 1) x (omega arith) in
       e ∙ (rw (← read, before_more) refl)
 
-  pub tree_do : (stmt : rust_stmt.TypedStmt) → item ≡ I.Statement stmt → typed_items (drop (index - 1) items) ≡ Do (typed_stmt stmt) (typed_items (drop index items))
-  tree_do stmt e = ap typed_items (in_front ∙ ap (λ item. item ∷ drop index items) e)
+  pub at_end : take index xs ≡ take (index - 1) xs ++ x ∷ []
+  at_end =
+      let e = take_more xs (index - 1) x (omega arith) in
+      ap (λ n. take n xs) (sym before_more) ∙ e ∙ (rw (← read) refl)
 
-  pub tree_declare : (value : Option rust_expr.TypedExpr) → item ≡ I.Declaration value → typed_items (drop (index - 1) items) ≡ Declare (typed_value value) (typed_items (drop index items))
-  tree_declare value e = ap typed_items (in_front ∙ ap (λ item. item ∷ drop index items) e)
+-- a statement among others stands for types where each does
+module _ (table : Interned) where
+  pub block_item : (items : List memory_item.BlockItem) (index : ℕ) (item : memory_item.BlockItem) (stmt : memory_stmt.Stmt) → index < length items → item ≡ get_or items index item → item ≡ B.Statement stmt →
+      BlockStands table items → StmtStands table stmt
+  block_item [] index item stmt within read is stand = absurd (omega arith)
+  block_item (B.Local local ∷ others) zero item stmt within read is stand = cc
+  block_item (B.Statement first ∷ others) zero item stmt within read is stand = let same : first ≡ stmt = cc in subst (StmtStands table) same stand.0
+  block_item (B.Local local ∷ others) (suc index) item stmt within read is stand = block_item others index item stmt (omega arith) read is stand.1
+  block_item (B.Statement first ∷ others) (suc index) item stmt within read is stand = block_item others index item stmt (omega arith) read is stand.1
 
-  pub declared_do : (stmt : rust_stmt.TypedStmt) → item ≡ I.Statement stmt → declared (take index items) ≡ declared (take (index - 1) items)
-  declared_do stmt e =
-      let is : is_declaration (get_or items (index - 1) item) ≡ false = rw (← read, e) refl in
-      ap (λ index. declared (take index items)) (sym before_more) ∙ count_by_more_no is_declaration items (index - 1) item (omega arith) is
-
-  pub declared_declare : (value : Option rust_expr.TypedExpr) → item ≡ I.Declaration value → declared (take index items) ≡ declared (take (index - 1) items) + 1
-  declared_declare value e =
-      let is : is_declaration (get_or items (index - 1) item) ≡ true = rw (← read, e) refl in
-      ap (λ index. declared (take index items)) (sym before_more) ∙ count_by_more_yes is_declaration items (index - 1) item (omega arith) is
+  pub switch_item : (items : List memory_switch.SwitchItem) (index : ℕ) (item : memory_switch.SwitchItem) (stmt : memory_stmt.Stmt) → index < length items → item ≡ get_or items index item → item ≡ W.Statement stmt →
+      SwitchStands table items → StmtStands table stmt
+  switch_item [] index item stmt within read is stand = absurd (omega arith)
+  switch_item (W.Case label ∷ others) zero item stmt within read is stand = cc
+  switch_item (W.Default ∷ others) zero item stmt within read is stand = cc
+  switch_item (W.Statement first ∷ others) zero item stmt within read is stand = let same : first ≡ stmt = cc in subst (StmtStands table) same stand.0
+  switch_item (W.Case label ∷ others) (suc index) item stmt within read is stand = switch_item others index item stmt (omega arith) read is stand
+  switch_item (W.Default ∷ others) (suc index) item stmt within read is stand = switch_item others index item stmt (omega arith) read is stand
+  switch_item (W.Statement first ∷ others) (suc index) item stmt within read is stand = switch_item others index item stmt (omega arith) read is stand.1

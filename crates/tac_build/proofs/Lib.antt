@@ -1,9 +1,19 @@
--- What is proved of code: how the points grow as it is made, that it still stands then, and that it does what the
--- program does.
+pub mod Registers
+pub mod Paths
+pub mod Values
+pub mod Locals
+pub mod Evaluating
+pub mod Performing
+pub mod Switching
+pub mod Simulation
+pub mod Outside
+pub mod Declaring
+pub mod StatementRows
 pub mod Points
 pub mod Standing
 pub mod Forms
 pub mod Items
-pub mod Registers
-pub mod Values
-pub mod Simulation
+pub mod Scopes
+pub mod Cases
+pub mod Loops
+pub mod Mains

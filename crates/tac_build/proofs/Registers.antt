@@ -1,8 +1,15 @@
--- Registers that hold the values of the locals: the local of each number lies in the register of that number.
-use Rattle.std.proofs.Common.{◌≡◌, ◌≢◌, ◌⊎◌, inl, inr, ℕ, zero, suc, ◌+◌, ◌<◌, ◌≤◌, min, ℤ, List, [], ◌∷◌, ◌++◌, Option, Some, None, true, length, take, slice_get, slice_set, refl, ap, ◌∙◌, arith, length-set, length-append, length-take}
+-- Registers that hold the values of the locals: the local of each place in scope lies in the register of that number.
+use Rattle.std.proofs.Common.{◌≡◌, ◌≢◌, ◌⊎◌, inl, inr, ℕ, zero, suc, ◌<◌, ◌≤◌, ◌==◌, Bool, true, false, if◌then◌else◌, ℤ, List, [], ◌∷◌, ◌++◌, Option, Some, None, length, slice_get, slice_set, refl, ap, sym, subst, ◌∙◌, arith, length-set, length-append, eqb-true, eq-eqb, ne_eqb, lt-ltb, le-ltb}
 use Rattle.std.proofs.lemmas.Option.{slice_get_within}
-use Rattle.c_num.specs.declared.IntType.TheVariants as types
+use Rattle.std.proofs.lemmas.Bool.{cases_order, eqb-false}
+use Rattle.c_num.specs.declared.IntType.{IntType}
 use Rattle.c_num.specs.Types.{is_value}
+use Rattle.c_typed.specs.Types.{Integer}
+use Rattle.c_meaning.specs.Values.{Own, Scalar, IntegerValue, Content, Dead, Elements}
+use Rattle.c_meaning.specs.Store.{Objects, State, with_content, with_scalar}
+use Rattle.c_meaning.specs.Meaning.{local_name, killed, kept}
+
+-- ---- lists that are written
 
 pub slice_get-set : {X : Type 0} → (xs : List X) (i : ℕ) (x : X) → i < length xs → slice_get (slice_set xs i x) i ≡ Some x
 slice_get-set [] i x within = absurd (omega arith)
@@ -16,85 +23,249 @@ slice_get-set_other (y ∷ xs) zero (suc k) x other = refl
 slice_get-set_other (y ∷ xs) (suc i) zero x other = refl
 slice_get-set_other (y ∷ xs) (suc i) (suc k) x other = slice_get-set_other xs i k x (λ e. other (ap suc e))
 
--- what is read of a list that was written: what was written, or what was there at another place
-pub read_written : {X : Type 0} → (xs : List X) (i k : ℕ) (x y : X) → slice_get (slice_set xs i x) k ≡ Some y → ((k ≡ i) × (x ≡ y)) ⊎ ((k ≢ i) × (slice_get xs k ≡ Some y))
-read_written [] i k x y e = absurd (cc)
-read_written (z ∷ xs) zero zero x y e = inl (refl, cc)
-read_written (z ∷ xs) zero (suc k) x y e = inr (omega arith, e)
-read_written (z ∷ xs) (suc i) zero x y e = inr (omega arith, e)
-read_written (z ∷ xs) (suc i) (suc k) x y e =
-    elim (read_written xs i k x y e) [ inl same ↦ inl (ap suc same.0, same.1) | inr other ↦ inr (omega (arith, other.0), other.1) ]
+-- what is read of a list with one more behind it
+read_appended : {X : Type 0} → (xs : List X) (x y : X) (k : ℕ) → slice_get (xs ++ x ∷ []) k ≡ Some y → (slice_get xs k ≡ Some y) ⊎ ((k ≡ length xs) × (x ≡ y))
+read_appended [] x y zero e = inr (refl, cc)
+read_appended [] x y (suc k) e = absurd (cc)
+read_appended (z ∷ xs) x y zero e = inl e
+read_appended (z ∷ xs) x y (suc k) e = elim (read_appended xs x y k e) [ inl same ↦ inl same | inr last ↦ inr (ap suc last.0, last.1) ]
 
-read_front : {X : Type 0} → (n : ℕ) (xs : List X) (k : ℕ) (x : X) → slice_get (take n xs) k ≡ Some x → slice_get xs k ≡ Some x
-read_front zero xs k x e = absurd (cc)
-read_front (suc n) [] k x e = absurd (cc)
-read_front (suc n) (y ∷ xs) zero x e = e
-read_front (suc n) (y ∷ xs) (suc k) x e = read_front n xs k x e
+pub read_last : {X : Type 0} → (xs : List X) (x : X) → slice_get (xs ++ x ∷ []) (length xs) ≡ Some x
+read_last [] x = refl
+read_last (y ∷ xs) x = read_last xs x
 
--- a list behind which nothing was put that has a value
-read_with_none : {X : Type 0} → (xs : List (Option X)) (k : ℕ) (x : X) → slice_get (xs ++ None ∷ []) k ≡ Some (Some x) → slice_get xs k ≡ Some (Some x)
-read_with_none [] zero x e = absurd (cc)
-read_with_none [] (suc k) x e = absurd (cc)
-read_with_none (y ∷ xs) zero x e = e
-read_with_none (y ∷ xs) (suc k) x e = read_with_none xs k x e
+pub read_front : {X : Type 0} → (xs ys : List X) (k : ℕ) (x : X) → slice_get xs k ≡ Some x → slice_get (xs ++ ys) k ≡ Some x
+read_front [] ys k x e = absurd (cc)
+read_front (y ∷ xs) ys zero x e = e
+read_front (y ∷ xs) ys (suc k) x e = read_front xs ys k x e
 
--- So many locals are in scope; those that have a value have one of int, which is in the register; and there are so many
--- registers.
-pub record Ready (count scope : ℕ) (registers : List ℤ) (locals : List (Option ℤ)) : Type 0 where
+-- ---- the numbers of locals
+
+-- numbers that fall, all of them below a bound
+abbrev pub Fresh : ℕ → List ℕ → Type 0
+Fresh bound [] = Unit {0}
+Fresh bound (newest ∷ others) = (newest < bound) × Fresh newest others
+
+-- the number of the local at a place in scope
+abbrev pub local_number : List ℕ → ℕ → ℕ
+local_number [] k = 0
+local_number (newest ∷ others) k = if length others == k then newest else local_number others k
+
+pub local_named : (names : List ℕ) (k : ℕ) → k < length names → local_name names k ≡ Some (Own (local_number names k))
+local_named [] k within = absurd (omega arith)
+local_named (newest ∷ others) k within = by (length others == k) refl (local_named others k)
+  where
+    by : (test : Bool) → (length others == k) ≡ test → (k < length others → local_name others k ≡ Some (Own (local_number others k))) → (if test then Some (Own newest) else local_name others k) ≡ Some (Own (if test then newest else local_number others k))
+    by true e older = refl
+    by false e older = let other = eqb-false (length others) k e in older (omega arith)
+
+pub newest_number : (newest : ℕ) (others : List ℕ) → local_number (newest ∷ others) (length others) ≡ newest
+newest_number newest others = rw (eq-eqb (length others) (length others) refl) refl
+
+pub older_number : (newest : ℕ) (others : List ℕ) (k : ℕ) → k < length others → local_number (newest ∷ others) k ≡ local_number others k
+older_number newest others k within = rw (ne_eqb (length others) k (λ e. omega arith)) refl
+
+pub outer_number : (fresh names : List ℕ) (k : ℕ) → k < length names → local_number (fresh ++ names) k ≡ local_number names k
+outer_number [] names k within = refl
+outer_number (newest ∷ fresh) names k within = older_number newest (fresh ++ names) k (omega (arith, length-append fresh names)) ∙ outer_number fresh names k within
+
+pub number_below : (bound : ℕ) (names : List ℕ) (k : ℕ) → Fresh bound names → k < length names → local_number names k < bound
+number_below bound [] k fresh within = absurd (omega arith)
+number_below bound (newest ∷ others) k fresh within = by (length others == k) refl (number_below newest others k fresh.1)
+  where
+    by : (test : Bool) → (length others == k) ≡ test → (k < length others → local_number others k < newest) → (if test then newest else local_number others k) < bound
+    by true e older = fresh.0
+    by false e older = let other = eqb-false (length others) k e in let below = older (omega arith) in omega (arith, fresh.0)
+
+number_rises : (bound : ℕ) (names : List ℕ) (i k : ℕ) → Fresh bound names → i < k → k < length names → local_number names i < local_number names k
+number_rises bound [] i k fresh less within = absurd (omega arith)
+number_rises bound (newest ∷ others) i k fresh less within =
+    let at_i : local_number (newest ∷ others) i ≡ local_number others i = older_number newest others i (omega arith) in
+    subst (λ n. n < local_number (newest ∷ others) k) (sym at_i) (by (length others == k) refl (number_rises newest others i k fresh.1 less))
+  where
+    by : (test : Bool) → (length others == k) ≡ test → (k < length others → local_number others i < local_number others k) → local_number others i < (if test then newest else local_number others k)
+    by true e older = let same = eqb-true (length others) k e in number_below newest others i fresh.1 (omega arith)
+    by false e older = let other = eqb-false (length others) k e in older (omega arith)
+
+pub numbers_apart : (bound : ℕ) (names : List ℕ) (i k : ℕ) → Fresh bound names → i < length names → k < length names → i ≢ k → local_number names i ≢ local_number names k
+numbers_apart bound names i k fresh i_within k_within other =
+    elim (cases_order i k) [
+      | inl same ↦ absurd (other same)
+      | inr (inl less) ↦ (let lower = number_rises bound names i k fresh less k_within in λ e. omega arith)
+      | inr (inr more) ↦ (let lower = number_rises bound names k i fresh more i_within in λ e. omega arith)
+    ]
+
+-- ---- objects
+
+pub content_there : (number : ℕ) (content : Content) (objects : Objects) → with_content (Own number) content objects (Own number) ≡ content
+content_there number content objects = rw (eq-eqb number number refl) refl
+
+pub content_elsewhere : (number other : ℕ) (content : Content) (objects : Objects) → number ≢ other → with_content (Own number) content objects (Own other) ≡ objects (Own other)
+content_elsewhere number other content objects apart = rw (ne_eqb number other apart) refl
+
+-- a local of an integer type
+abbrev pub local_content : IntType → (ℕ → Option Scalar) → Content
+local_content t held = Elements false (Integer t) 1 held
+
+-- what an object holds is in the register, a value of the type
+abbrev pub HeldIn : IntType → Option ℤ → Option Scalar → Type 0
+HeldIn t register None = Unit {0}
+HeldIn t register (Some scalar) = (v : ℤ) × (scalar ≡ IntegerValue v) × (register ≡ Some v) × (is_value t v ≡ true)
+
+-- an object of an integer type, and its register
+pub record Stored (t : IntType) (register : Option ℤ) (content : Content) : Type 0 where
+  pub held : ℕ → Option Scalar
+  pub is : content ≡ local_content t held
+  pub value : HeldIn t register (held 0)
+
+-- ---- locals and registers
+
+-- There are so many registers. The locals in scope, the newest first, have these numbers, and in the order of their declarations these
+-- types; each that has a value has it in its register.
+pub record Standing (count : ℕ) (types : List IntType) (names : List ℕ) (registers : List ℤ) (objects : Objects) (locals : List ℕ) (next : ℕ) : Type 0 where
   pub all : length registers ≡ count
-  pub depth : length locals ≡ scope
-  pub held : (k : ℕ) (v : ℤ) → slice_get locals k ≡ Some (Some v) → slice_get registers k ≡ Some v
-  pub ints : (k : ℕ) (v : ℤ) → slice_get locals k ≡ Some (Some v) → is_value types.Int v ≡ true
+  pub own : locals ≡ names
+  pub depth : length names ≡ length types
+  pub fresh : Fresh next names
+  pub held : (k : ℕ) (t : IntType) → slice_get types k ≡ Some t → Stored t (slice_get registers k) (objects (Own (local_number names k)))
+
+abbrev pub Ready : ℕ → List IntType → List ℕ → List ℤ → State → Type 0
+Ready count types names registers s = Standing count types names registers s.objects s.locals s.next_local
 
 -- the registers behind the scope and before a register keep their values
 abbrev pub Keeps : ℕ → ℕ → List ℤ → List ℤ → Type 0
 Keeps scope to before registers = (k : ℕ) → scope ≤ k → k < to → slice_get registers k ≡ slice_get before k
 
-module _ {count scope : ℕ} {registers : List ℤ} {locals : List (Option ℤ)} (ready : Ready count scope registers locals) where
+-- the locals outside a block are in scope, perhaps with others
+pub record Within (count : ℕ) (types : List IntType) (names : List ℕ) (registers : List ℤ) (s : State) : Type 0 where
+  pub more : List IntType
+  pub fresh : List ℕ
+  pub ready : Ready count (types ++ more) (fresh ++ names) registers s
+
+-- the state once a local holds a value
+abbrev pub with_value : ℕ → IntType → (ℕ → Option Scalar) → ℤ → State → State
+with_value number t held v s = record s { objects = with_content (Own number) (local_content t (with_scalar 0 (IntegerValue v) held)) s.objects }
+
+-- the state once a local was declared
+abbrev pub with_new : IntType → State → State
+with_new t s = record s {
+  objects = with_content (Own s.next_local) (local_content t (λ offset. None)) s.objects;
+  locals = s.next_local ∷ s.locals;
+  next_local = suc s.next_local;
+}
+
+-- the state behind a block
+abbrev pub with_left : ℕ → State → State
+with_left count s = record s { objects = killed count s.locals s.objects; locals = kept count s.locals }
+
+kept_outer : (fresh names : List ℕ) → kept (length names) (fresh ++ names) ≡ names
+kept_outer [] [] = refl
+kept_outer [] (newest ∷ others) = rw (lt-ltb (length others) (length (newest ∷ others)) (omega arith)) refl
+kept_outer (newest ∷ fresh) names = rw (le-ltb (length (fresh ++ names)) (length names) (omega (arith, length-append fresh names))) (kept_outer fresh names)
+
+killed_outer : (bound : ℕ) (fresh names : List ℕ) (k : ℕ) → Fresh bound (fresh ++ names) → k < length names → (objects : Objects) →
+    killed (length names) (fresh ++ names) objects (Own (local_number names k)) ≡ objects (Own (local_number names k))
+killed_outer bound [] [] k below within objects = refl
+killed_outer bound [] (newest ∷ others) k below within objects = rw (lt-ltb (length others) (length (newest ∷ others)) (omega arith)) refl
+killed_outer bound (newest ∷ fresh) names k below within objects =
+    let less : local_number (fresh ++ names) k < newest = number_below newest (fresh ++ names) k below.1 (omega (arith, length-append fresh names)) in
+    let same : local_number (fresh ++ names) k ≡ local_number names k = outer_number fresh names k within in
+    rw (le-ltb (length (fresh ++ names)) (length names) (omega (arith, length-append fresh names)))
+    (killed_outer newest fresh names k below.1 within (with_content (Own newest) Dead objects) ∙ content_elsewhere newest (local_number names k) Dead objects (λ e. omega arith))
+
+module _ {count : ℕ} {types : List IntType} {names : List ℕ} {registers : List ℤ} (s : State) (ready : Ready count types names registers s) where
   -- a register behind those of the locals is written
-  pub ready_behind : (to : ℕ) (value : ℤ) → scope ≤ to → Ready count scope (slice_set registers to value) locals
+  pub ready_behind : (to : ℕ) (value : ℤ) → length types ≤ to → Ready count types names (slice_set registers to value) s
   ready_behind to value outside = record {
     all = length-set registers to value ∙ ready.all;
+    own = ready.own;
     depth = ready.depth;
-    held = λ k v e.
-        let within : k < length locals = slice_get_within locals k (Some v) e in
-        let depth : length locals ≡ scope = ready.depth in
+    fresh = ready.fresh;
+    held = λ k t e.
+        let within : k < length types = slice_get_within types k t e in
         let other : k ≢ to = omega arith in
-        slice_get-set_other registers to k value other ∙ ready.held k v e;
-    ints = ready.ints;
+        subst (λ register. Stored t register (s.objects (Own (local_number names k)))) (sym (slice_get-set_other registers to k value other)) (ready.held k t e);
   }
 
   -- a local gets a value
-  pub ready_store : (local : ℕ) (value : ℤ) → local < count → is_value types.Int value ≡ true → Ready count scope (slice_set registers local value) (slice_set locals local (Some value))
-  ready_store local value there int = record {
+  pub ready_store : (local : ℕ) (t : IntType) (held : ℕ → Option Scalar) (value : ℤ) → slice_get types local ≡ Some t → local < count → is_value t value ≡ true →
+      Ready count types names (slice_set registers local value) (with_value (local_number names local) t held value s)
+  ready_store local t held value of_type there fits = record {
     all = length-set registers local value ∙ ready.all;
-    depth = length-set locals local (Some value) ∙ ready.depth;
-    held = λ k v e.
-        elim (read_written locals local k (Some value) (Some v) e) [
-          | inl same ↦ rw (same.0) (slice_get-set registers local value (omega (arith, ready.all)) ∙ same.1)
-          | inr other ↦ slice_get-set_other registers local k value other.0 ∙ ready.held k v other.1
-        ];
-    ints = λ k v e.
-        elim (read_written locals local k (Some value) (Some v) e) [
-          | inl same ↦ (let w : value ≡ v = cc (same.1) in rw (← w) int)
-          | inr other ↦ ready.ints k v other.1
-        ];
+    own = ready.own;
+    depth = ready.depth;
+    fresh = ready.fresh;
+    held = λ k u e. by k u e (k == local) refl;
   }
+    where
+      by : (k : ℕ) (u : IntType) → slice_get types k ≡ Some u → (test : Bool) → (k == local) ≡ test →
+          Stored u (slice_get (slice_set registers local value) k) (with_content (Own (local_number names local)) (local_content t (with_scalar 0 (IntegerValue value) held)) s.objects (Own (local_number names k)))
+      by k u e true test =
+          let same : k ≡ local = eqb-true k local test in
+          let type : t ≡ u = cc in
+          let register : slice_get (slice_set registers local value) k ≡ Some value = subst (λ i. slice_get (slice_set registers local value) i ≡ Some value) (sym same) (slice_get-set registers local value (omega (arith, ready.all))) in
+          let object : with_content (Own (local_number names local)) (local_content t (with_scalar 0 (IntegerValue value) held)) s.objects (Own (local_number names k)) ≡ local_content t (with_scalar 0 (IntegerValue value) held) =
+          subst (λ i. with_content (Own (local_number names local)) (local_content t (with_scalar 0 (IntegerValue value) held)) s.objects (Own (local_number names i)) ≡ local_content t (with_scalar 0 (IntegerValue value) held)) (sym same) (content_there (local_number names local) (local_content t (with_scalar 0 (IntegerValue value) held)) s.objects) in
+          subst (λ w. Stored w (slice_get (slice_set registers local value) k) (with_content (Own (local_number names local)) (local_content t (with_scalar 0 (IntegerValue value) held)) s.objects (Own (local_number names k)))) type (record { held = with_scalar 0 (IntegerValue value) held; is = object; value = (value, refl, register, fits) })
+      by k u e false test =
+          let other : k ≢ local = eqb-false k local test in
+          let within : k < length types = slice_get_within types k u e in
+          let here : local < length types = slice_get_within types local t of_type in
+          let apart : local_number names local ≢ local_number names k = numbers_apart s.next_local names local k ready.fresh (omega (arith, ready.depth)) (omega (arith, ready.depth)) (λ same. other (sym same)) in
+          subst (λ c. Stored u (slice_get (slice_set registers local value) k) c) (sym (content_elsewhere (local_number names local) (local_number names k) (local_content t (with_scalar 0 (IntegerValue value) held)) s.objects apart))
+          (subst (λ register. Stored u register (s.objects (Own (local_number names k)))) (sym (slice_get-set_other registers local k value other)) (ready.held k u e))
 
   -- a new local, with no value
-  pub ready_declare : Ready count (scope + 1) registers (locals ++ None ∷ [])
-  ready_declare = record {
+  pub ready_declare : (t : IntType) → Ready count (types ++ t ∷ []) (s.next_local ∷ names) registers (with_new t s)
+  ready_declare t = record {
     all = ready.all;
-    depth = omega (arith, length-append locals (None ∷ []), ready.depth);
-    held = λ k v e. ready.held k v (read_with_none locals k v e);
-    ints = λ k v e. ready.ints k v (read_with_none locals k v e);
+    own = ap (λ others. s.next_local ∷ others) ready.own;
+    depth = omega (arith, length-append types (t ∷ []), ready.depth);
+    fresh = (omega arith, ready.fresh);
+    held = λ k u e. elim (read_appended types t u k e) [ inl older ↦ old k u older | inr last ↦ new k u last.0 last.1 ];
   }
+    where
+      old : (k : ℕ) (u : IntType) → slice_get types k ≡ Some u →
+          Stored u (slice_get registers k) (with_content (Own s.next_local) (local_content t (λ offset. None)) s.objects (Own (local_number (s.next_local ∷ names) k)))
+      old k u e =
+          let within : k < length names = omega (arith, slice_get_within types k u e, ready.depth) in
+          let below : local_number names k < s.next_local = number_below s.next_local names k ready.fresh within in
+          let same : local_number (s.next_local ∷ names) k ≡ local_number names k = older_number s.next_local names k within in
+          subst (λ number. Stored u (slice_get registers k) (with_content (Own s.next_local) (local_content t (λ offset. None)) s.objects (Own number))) (sym same)
+          (subst (λ c. Stored u (slice_get registers k) c) (sym (content_elsewhere s.next_local (local_number names k) (local_content t (λ offset. None)) s.objects (λ e. omega arith))) (ready.held k u e))
 
-  -- the locals behind some are given up
-  pub ready_leave : (outer depth : ℕ) → depth ≡ outer → outer ≤ scope → Ready count outer registers (take depth locals)
-  ready_leave outer depth same within = record {
-    all = ready.all;
-    depth = (let kept : length (take depth locals) ≡ min depth (length locals) = length-take depth locals in omega (arith, kept, ready.depth));
-    held = λ k v e. ready.held k v (read_front depth locals k (Some v) e);
-    ints = λ k v e. ready.ints k v (read_front depth locals k (Some v) e);
-  }
+      new : (k : ℕ) (u : IntType) → k ≡ length types → t ≡ u →
+          Stored u (slice_get registers k) (with_content (Own s.next_local) (local_content t (λ offset. None)) s.objects (Own (local_number (s.next_local ∷ names) k)))
+      new k u last type =
+          let same : local_number (s.next_local ∷ names) k ≡ s.next_local =
+          subst (λ i. local_number (s.next_local ∷ names) i ≡ s.next_local) (ready.depth ∙ sym last) (newest_number s.next_local names) in
+          let object : with_content (Own s.next_local) (local_content t (λ offset. None)) s.objects (Own (local_number (s.next_local ∷ names) k)) ≡ local_content u (λ offset. None) =
+          ap (λ number. with_content (Own s.next_local) (local_content t (λ offset. None)) s.objects (Own number)) same ∙ content_there s.next_local (local_content t (λ offset. None)) s.objects ∙ ap (λ w. local_content w (λ offset. None)) type in
+          record { held = λ offset. None; is = object; value = tt }
+
+-- the locals of a block are given up
+pub ready_leave : {count : ℕ} {types : List IntType} {names : List ℕ} {registers : List ℤ} (s : State) (outer : ℕ) → Within count types names registers s → length names ≡ length types → outer ≡ length names →
+    Ready count types names registers (with_left outer s)
+ready_leave {count} {types} {names} {registers} s outer within depth same =
+    subst (λ n. Ready count types names registers (with_left n s)) (sym same) (record {
+      all = within.ready.all;
+      own = ap (kept (length names)) within.ready.own ∙ kept_outer within.fresh names;
+      depth = depth;
+      fresh = outer_fresh within.fresh s.next_local within.ready.fresh;
+      held = λ k t e.
+          let here : k < length names = omega (arith, slice_get_within types k t e) in
+          let number : local_number (within.fresh ++ names) k ≡ local_number names k = outer_number within.fresh names k here in
+          let object : killed (length names) s.locals s.objects (Own (local_number names k)) ≡ s.objects (Own (local_number names k)) =
+          subst (λ locals. killed (length names) locals s.objects (Own (local_number names k)) ≡ s.objects (Own (local_number names k))) (sym within.ready.own)
+          (killed_outer s.next_local within.fresh names k within.ready.fresh here s.objects) in
+          subst (λ c. Stored t (slice_get registers k) c) (sym object)
+          (subst (λ i. Stored t (slice_get registers k) (s.objects (Own i))) number (within.ready.held k t (read_front types within.more k t e)));
+    })
+  where
+    wider : (names : List ℕ) (bound bound' : ℕ) → bound ≤ bound' → Fresh bound names → Fresh bound' names
+    wider [] bound bound' more below = tt
+    wider (n ∷ names) bound bound' more below = (omega (arith, below.0), below.1)
+
+    outer_fresh : (fresh : List ℕ) (bound : ℕ) → Fresh bound (fresh ++ names) → Fresh bound names
+    outer_fresh [] bound below = below
+    outer_fresh (newest ∷ fresh) bound below = wider names newest bound (omega (arith, below.0)) (outer_fresh fresh newest below.1)

@@ -1,2 +1,6 @@
-pub mod Bounds
+pub mod Inside
+pub mod Deciding
 pub mod Code
+pub mod Laws
+pub mod Growing
+pub mod Switches

@@ -7,8 +7,17 @@ use tac_ir::{Op, PointId, Register};
 /// The points of a function that stand so far, and how many registers they name.
 #[derive(Drop)]
 pub struct Builder {
+    pub alloc: Global,
     pub points: Vec<Op>,
     pub registers: usize,
+}
+
+/// Where a statement goes on: behind it, at a `break` (C17 6.8.6.3) and at a `continue` (C17 6.8.6.2).
+#[derive(Clone, Copy)]
+pub struct Ways {
+    pub onward: PointId,
+    pub broken: PointId,
+    pub continued: PointId,
 }
 
 impl Builder {
@@ -16,7 +25,7 @@ impl Builder {
     ghost use Rattle.tac_ir.specs.declared.Op.TheVariants as O;
     ghost use Rattle.tac_ir.specs.Fits.{NamesBelow};
     ghost use Rattle.tac_build.specs.Code.{HasOp};
-    ghost use Rattle.tac_build.specs.Bounds.{IsNamed, IsReady, Grows};
+    ghost use Rattle.tac_build.specs.Growing.{IsNamed, IsReady, Grows};
 
     /// Neither points nor registers.
     pub fn new(alloc: Global) -> Builder
@@ -24,6 +33,7 @@ impl Builder {
         ensures registers { result.registers ≡ 0 }
     {
         Builder {
+            alloc,
             points: Vec::new(alloc),
             registers: 0,
         }
@@ -34,7 +44,7 @@ impl Builder {
         requires all_named { IsNamed self.old }
         requires op_named { NamesBelow (last.0 + 1) (length self.old.points.items) op }
         ensures code { IfOk result (λ at. HasOp self.new.points.items at.0 op) }
-        ensures grows { OnOk result (Grows self.old self.new 1 (last.0 + 1)) }
+        ensures grows { OnOk result (Grows self.old self.new) }
         ensures ready { IfOk result (λ at. IsReady self.new at.0) }
     {
         self.reach(last)?;
@@ -48,7 +58,7 @@ impl Builder {
         requires { IsNamed self.old }
         ensures code { IfOk result (λ at. HasOp self.new.points.items at.0 O.Reserved) }
         ensures is_new { IfOk result (λ at. at.0 ≡ length self.old.points.items) }
-        ensures grows { OnOk result (Grows self.old self.new 1 0) }
+        ensures grows { OnOk result (Grows self.old self.new) }
         ensures ready { IfOk result (λ at. IsReady self.new at.0) }
     {
         let at = PointId(self.points.len());

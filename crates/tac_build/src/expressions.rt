@@ -1,91 +1,206 @@
 // Expressions, lowered backwards: the operation on the value first, then the operands, the last one first.
 
-ghost use Rattle.std.specs.Prelude.{◌≡◌, ◌+◌, ◌*◌, ◌<◌, ℕ, pos, length, IfOk, OnOk};
-ghost use Rattle.c_num.specs.Conversion.{convert_to};
-ghost use Rattle.c_ast.specs.Typed.{typed_expr, expr_size};
+ghost use Rattle.std.specs.Prelude.{◌≡◌, ◌+◌, ◌<◌, ℕ, pos, length, IfOk, OnOk};
+ghost use Rattle.run_theory.specs.declared.ends.Pos.{Pos};
+ghost use Rattle.c_num.specs.declared.BinOp.TheVariants as B;
+ghost use Rattle.c_meaning.specs.Meaning.{step_operator};
+ghost use Rattle.c_typed.specs.Table.{Interned};
+ghost use Rattle.c_typed.specs.Typed as typed;
+ghost use Rattle.c_typed.specs.Views.{value_in, object_in, values_in};
 ghost use Rattle.tac_ir.specs.Fits.{NamesBelow};
-ghost use Rattle.tac_build.specs.Code.{HasOp, ExprCode};
-ghost use Rattle.tac_build.specs.Bounds.{IsNamed, IsReady, Grows, TruthCode};
+ghost use Rattle.tac_build.specs.Code.{HasOp, ConstantCode, OperatorCode, ExprCode, SteppingCode, gives_old};
+ghost use Rattle.tac_build.specs.Growing.{IsNamed, IsReady, Grows, TruthCode, UpdateCode, StepFrom};
 
 use crate::builder::Builder;
 use crate::operations::{
-    arithmetic, branch, comparison, copy, local_before, logical_not, negation, put_char,
-    register_behind,
+    arithmetic, branch, comparison, complement, conversion, copy, local_before, logical_not,
+    put_char, register_behind, type_of_comparison, type_of_test,
 };
-use c_ast::TypedExpr;
-use c_num::{IntType, convert};
+use c_num::{BinOp, IntType, Relation, common};
+use c_typed::{LibraryFunction, Object, Stepping, Value};
 use std::alloc::AllocError;
 use tac_ir::{Op, PointId, Register};
 
 /// Where `&&` and `||` lead: to the right operand, to the point that gives 1 and to the one that gives 0.
 #[derive(Drop)]
-struct Ways {
+struct Truth {
     more: PointId,
     holds: PointId,
     fails: PointId,
 }
 
 impl Builder {
-    /// An expression, whose value comes to a register.
+    /// An expression, whose value comes to a register. One that is outside of the part that is compiled is refused as if
+    /// memory were short.
     #[cycle(expressions)]
     pub fn expression(
         &mut self,
-        value: &TypedExpr,
+        value: &Value,
+        types: &[IntType],
         to: Register,
         next: PointId,
     ) -> Result<PointId, AllocError>
         requires { IsReady self.old next.0 }
-        ensures code { IfOk result (λ entry. ExprCode self.new.points.items (typed_expr value.now) entry.0 to.0 next.0) }
-        ensures grows { OnOk result (Grows self.old self.new
-            (4 * expr_size (typed_expr value.now)) (to.0 + expr_size (typed_expr value.now))) }
+        ensures code { (table : Interned) → IfOk result (λ entry. ExprCode self.new.points.items types.now (value_in table value.now) entry.0 to.0 next.0) }
+        ensures grows { OnOk result (Grows self.old self.new) }
         ensures ready { IfOk result (λ entry. IsReady self.new entry.0) }
     {
         match value {
-            TypedExpr::Decimal(value) => self.constant(converted(*value, IntType::Int), to, next),
-            TypedExpr::Character(byte) => {
-                self.constant(converted(u32::from(*byte), IntType::Char), to, next)
+            Value::Constant(value) => self.constant(*value, to, next),
+            Value::Grouped(inner) => self.expression(inner, types, to, next),
+            Value::Plus(inner) => self.expression(inner, types, to, next),
+            Value::Cast(inner) => self.expression(inner, types, to, next),
+            Value::CastVoid(inner) => self.expression(inner, types, to, next),
+            Value::Read { object, .. } => {
+                let local = local_before(object, to)?;
+                self.append(copy(local, to, next), to)
             }
-            TypedExpr::EndOfFile => self.constant(-1, to, next),
-            TypedExpr::Local { local, .. } => {
-                let from = local_before(*local, to)?;
-                self.append(copy(from, to, next), to)
+            Value::Assign { object, value, .. } => {
+                let local = local_before(object, to)?;
+                self.value_then(value, types, to, copy(to, local, next))
             }
-            TypedExpr::Assign { local, value, .. } => {
-                let local = local_before(*local, to)?;
-                self.value_then(value, to, copy(to, local, next))
-            }
-            TypedExpr::Negate { operand, .. } => self.value_then(operand, to, negation(to, next)),
-            TypedExpr::Not(operand) => self.value_then(operand, to, logical_not(to, next)),
-            TypedExpr::Arithmetic {
-                operator,
+            Value::StepInteger {
+                stepping,
+                int_type,
+                object,
+                ..
+            } => self.stepping(*stepping, *int_type, object, to, next),
+            Value::LibraryCall {
+                function,
+                arguments,
+                ..
+            } => self.library_call(*function, arguments.as_slice(), types, to, next),
+            _ => self.operation(value, types, to, next),
+        }
+    }
+
+    /// An operator on the values of others (C17 6.5.3.3, 6.5.5 to 6.5.16).
+    #[cycle(expressions)]
+    fn operation(
+        &mut self,
+        value: &Value,
+        types: &[IntType],
+        to: Register,
+        next: PointId,
+    ) -> Result<PointId, AllocError>
+        requires { IsReady self.old next.0 }
+        ensures code { (table : Interned) → IfOk result (λ entry. ExprCode self.new.points.items types.now (value_in table value.now) entry.0 to.0 next.0) }
+        ensures grows { OnOk result (Grows self.old self.new) }
+        ensures ready { IfOk result (λ entry. IsReady self.new entry.0) }
+    {
+        match value {
+            Value::Arithmetic {
+                op,
+                int_type,
                 left,
                 right,
                 ..
             } => {
-                let second = register_behind(to, 1)?;
-                let op = arithmetic(*operator, to, second, next);
-                self.operands(left, right, to, second, op)
+                let second = register_behind(to)?;
+                let op = arithmetic(*op, *int_type, to, second, next);
+                let mid = self.value_then(right, types, second, op)?;
+                self.expression(left, types, to, mid)
             }
-            TypedExpr::Compare {
+            Value::Compare {
                 relation,
                 left,
                 right,
             } => {
-                let second = register_behind(to, 1)?;
-                let op = comparison(*relation, to, second, next);
-                self.operands(left, right, to, second, op)
+                let second = register_behind(to)?;
+                let int_type = type_of_comparison(left, right, types);
+                let op = comparison(*relation, int_type, to, second, to, next);
+                let mid = self.value_then(right, types, second, op)?;
+                self.expression(left, types, to, mid)
             }
-            TypedExpr::And { left, right } => {
-                let ways = self.truth(right, to, next)?;
-                self.value_then(left, to, branch(to, ways.more, ways.fails))
+            _ => self.unary(value, types, to, next),
+        }
+    }
+
+    /// An operator on one value (C17 6.3.1.3, 6.5.3.3, 6.5.16.2).
+    #[cycle(expressions)]
+    fn unary(
+        &mut self,
+        value: &Value,
+        types: &[IntType],
+        to: Register,
+        next: PointId,
+    ) -> Result<PointId, AllocError>
+        requires { IsReady self.old next.0 }
+        ensures code { (table : Interned) → IfOk result (λ entry. ExprCode self.new.points.items types.now (value_in table value.now) entry.0 to.0 next.0) }
+        ensures grows { OnOk result (Grows self.old self.new) }
+        ensures ready { IfOk result (λ entry. IsReady self.new entry.0) }
+    {
+        match value {
+            Value::Converted { int_type, value } => {
+                self.value_then(value, types, to, conversion(*int_type, to, to, next))
             }
-            TypedExpr::Or { left, right } => {
-                let ways = self.truth(right, to, next)?;
-                self.value_then(left, to, branch(to, ways.holds, ways.more))
+            Value::Complement { int_type, operand } => {
+                self.value_then(operand, types, to, complement(*int_type, to, next))
             }
-            TypedExpr::GetChar => self.append(Op::GetChar { to, next }, to),
-            TypedExpr::PutChar(value) => self.value_then(value, to, put_char(to, next)),
-            TypedExpr::Parenthesized(inner) => self.expression(inner, to, next),
+            Value::Not(operand) => {
+                let int_type = type_of_test(operand, types);
+                self.value_then(operand, types, to, logical_not(int_type, to, next))
+            }
+            Value::Minus {
+                int_type,
+                operand,
+                ..
+            } => self.negation(*int_type, operand, types, to, next),
+            Value::AssignArithmetic {
+                op,
+                object_type,
+                int_type,
+                object,
+                value,
+                ..
+            } => {
+                let local = local_before(object, to)?;
+                let second = register_behind(to)?;
+                let at = self.update(*op, *object_type, *int_type, local, to, next)?;
+                self.expression(value, types, second, at)
+            }
+            _ => self.choice(value, types, to, next),
+        }
+    }
+
+    /// An operator that tests its operands in turn (C17 6.5.13 to 6.5.15).
+    #[cycle(expressions)]
+    fn choice(
+        &mut self,
+        value: &Value,
+        types: &[IntType],
+        to: Register,
+        next: PointId,
+    ) -> Result<PointId, AllocError>
+        requires { IsReady self.old next.0 }
+        ensures code { (table : Interned) → IfOk result (λ entry. ExprCode self.new.points.items types.now (value_in table value.now) entry.0 to.0 next.0) }
+        ensures grows { OnOk result (Grows self.old self.new) }
+        ensures ready { IfOk result (λ entry. IsReady self.new entry.0) }
+    {
+        match value {
+            Value::And { left, right } => {
+                let ways = self.truth(right, types, to, next)?;
+                let int_type = type_of_test(left, types);
+                let op = branch(int_type, to, ways.more, ways.fails);
+                self.value_then(left, types, to, op)
+            }
+            Value::Or { left, right } => {
+                let ways = self.truth(right, types, to, next)?;
+                let int_type = type_of_test(left, types);
+                let op = branch(int_type, to, ways.holds, ways.more);
+                self.value_then(left, types, to, op)
+            }
+            Value::Conditional {
+                condition,
+                then,
+                otherwise,
+            } => {
+                let fails = self.expression(otherwise, types, to, next)?;
+                let holds = self.expression(then, types, to, next)?;
+                let op = branch(type_of_test(condition, types), to, holds, fails);
+                self.value_then(condition, types, to, op)
+            }
+            _ => Err(AllocError),
         }
     }
 
@@ -94,85 +209,206 @@ impl Builder {
     #[cycle(expressions)]
     pub fn value_then(
         &mut self,
-        value: &TypedExpr,
+        value: &Value,
+        types: &[IntType],
         to: Register,
         op: Op,
     ) -> Result<PointId, AllocError>
         requires all_named { IsNamed self.old }
         requires op_named { NamesBelow (to.0 + 1) (length self.old.points.items) op }
-        ensures code { IfOk result (λ entry. (at : ℕ) ×
-            ExprCode self.new.points.items (typed_expr value.now) entry.0 to.0 at × HasOp self.new.points.items at op) }
-        ensures grows { OnOk result (Grows self.old self.new
-            (4 * expr_size (typed_expr value.now) + 1) (to.0 + expr_size (typed_expr value.now))) }
+        ensures code { (table : Interned) → IfOk result (λ entry. (at : ℕ) ×
+            ExprCode self.new.points.items types.now (value_in table value.now) entry.0 to.0 at × HasOp self.new.points.items at op) }
+        ensures grows { OnOk result (Grows self.old self.new) }
         ensures ready { IfOk result (λ entry. IsReady self.new entry.0) }
     {
         let at = self.append(op, to)?;
-        self.expression(value, to, at)
+        self.expression(value, types, to, at)
     }
 
-    /// Two operands, whose values come to a register and the second one behind it, and then an operation on these.
+    /// Zero less a value (C17 6.5.3.3 paragraph 3).
     #[cycle(expressions)]
-    fn operands(
+    fn negation(
         &mut self,
-        left: &TypedExpr,
-        right: &TypedExpr,
+        int_type: IntType,
+        operand: &Value,
+        types: &[IntType],
         to: Register,
-        second: Register,
-        op: Op,
+        next: PointId,
     ) -> Result<PointId, AllocError>
-        requires second { second.0 ≡ to.0 + 1 }
-        requires all_named { IsNamed self.old }
-        requires op_named { NamesBelow (second.0 + 1) (length self.old.points.items) op }
-        ensures code { IfOk result (λ entry. (mid : ℕ) × (last : ℕ)
-            × ExprCode self.new.points.items (typed_expr left.now) entry.0 to.0 mid
-            × ExprCode self.new.points.items (typed_expr right.now) mid (to.0 + 1) last
-            × HasOp self.new.points.items last op) }
-        ensures grows { OnOk result (Grows self.old self.new
-            (4 * (expr_size (typed_expr left.now) + expr_size (typed_expr right.now)) + 1)
-            (to.0 + expr_size (typed_expr left.now) + expr_size (typed_expr right.now) + 1)) }
+        requires { IsReady self.old next.0 }
+        ensures code { (table : Interned) → IfOk result (λ entry. (mid : ℕ) × (last : ℕ)
+            × ConstantCode self.new.points.items (pos 0) entry.0 to.0 mid
+            × ExprCode self.new.points.items types.now (value_in table operand.now) mid (to.0 + 1) last
+            × OperatorCode self.new.points.items B.Sub int_type last to.0 next.0) }
+        ensures grows { OnOk result (Grows self.old self.new) }
         ensures ready { IfOk result (λ entry. IsReady self.new entry.0) }
     {
-        let mid = self.value_then(right, second, op)?;
-        self.expression(left, to, mid)
+        let second = register_behind(to)?;
+        let op = arithmetic(BinOp::Sub, int_type, to, second, next);
+        let mid = self.value_then(operand, types, second, op)?;
+        self.constant(0, to, mid)
     }
 
     /// What `&&` and `||` do behind the test of the left operand (C17 6.5.13, 6.5.14).
     #[cycle(expressions)]
-    fn truth(&mut self, right: &TypedExpr, to: Register, next: PointId) -> Result<Ways, AllocError>
+    fn truth(
+        &mut self,
+        right: &Value,
+        types: &[IntType],
+        to: Register,
+        next: PointId,
+    ) -> Result<Truth, AllocError>
         requires { IsReady self.old next.0 }
-        ensures code { IfOk result (λ ways. TruthCode self.new.points.items (typed_expr right.now)
+        ensures code { (table : Interned) → IfOk result (λ ways. TruthCode self.new.points.items types.now (value_in table right.now)
             ways.more.0 ways.holds.0 ways.fails.0 to.0 next.0) }
-        ensures grows { OnOk result (Grows self.old self.new
-            (4 * expr_size (typed_expr right.now) + 3) (to.0 + expr_size (typed_expr right.now))) }
+        ensures grows { OnOk result (Grows self.old self.new) }
         ensures ready { IfOk result (λ ways. IsReady self.new ways.more.0) }
         ensures holds { IfOk result (λ ways. ways.holds.0 < length self.new.points.items) }
         ensures fails { IfOk result (λ ways. ways.fails.0 < length self.new.points.items) }
     {
         let holds = self.constant(1, to, next)?;
         let fails = self.constant(0, to, next)?;
-        let more = self.value_then(right, to, branch(to, holds, fails))?;
-        Ok(Ways { more, holds, fails })
+        let op = branch(type_of_test(right, types), to, holds, fails);
+        let more = self.value_then(right, types, to, op)?;
+        Ok(Truth { more, holds, fails })
+    }
+
+    /// A call of a library function (C17 7.21.7.6, 7.21.7.8, 7.22.4.4).
+    #[cycle(expressions)]
+    fn library_call(
+        &mut self,
+        function: LibraryFunction,
+        arguments: &[Value],
+        types: &[IntType],
+        to: Register,
+        next: PointId,
+    ) -> Result<PointId, AllocError>
+        requires { IsReady self.old next.0 }
+        ensures code { (table : Interned) (groups : ℕ) (place : Pos) → IfOk result (λ entry. ExprCode self.new.points.items types.now
+            (typed.LibraryCall function groups place (values_in table arguments.now)) entry.0 to.0 next.0) }
+        ensures grows { OnOk result (Grows self.old self.new) }
+        ensures ready { IfOk result (λ entry. IsReady self.new entry.0) }
+    {
+        match arguments {
+            [] => match function {
+                LibraryFunction::GetChar => self.append(Op::GetChar { to, next }, to),
+                _ => Err(AllocError),
+            },
+            [value] => match function {
+                LibraryFunction::PutChar => self.value_then(value, types, to, put_char(to, next)),
+                LibraryFunction::Exit => self.value_then(value, types, to, Op::Exit { from: to }),
+                _ => Err(AllocError),
+            },
+            _ => Err(AllocError),
+        }
     }
 
     /// A value for a register.
     pub fn constant(
         &mut self,
-        value: i64,
+        value: i128,
         to: Register,
         next: PointId,
     ) -> Result<PointId, AllocError>
         requires { IsReady self.old next.0 }
-        ensures code { IfOk result (λ at. HasOp self.new.points.items at.0 (Op.Constant to value next)) }
-        ensures grows { OnOk result (Grows self.old self.new 1 (to.0 + 1)) }
+        ensures code { IfOk result (λ at. ConstantCode self.new.points.items value at.0 to.0 next.0) }
+        ensures grows { OnOk result (Grows self.old self.new) }
         ensures ready { IfOk result (λ at. IsReady self.new at.0) }
     {
         self.append(Op::Constant { to, value, next }, to)
     }
+
+    /// What a compound assignment does once the value is in the register behind (C17 6.5.16.2 paragraph 3).
+    fn update(
+        &mut self,
+        op: BinOp,
+        object_type: IntType,
+        int_type: IntType,
+        local: Register,
+        to: Register,
+        next: PointId,
+    ) -> Result<PointId, AllocError>
+        requires ready { IsReady self.old next.0 }
+        requires before { local.0 < to.0 }
+        ensures code { IfOk result (λ at. UpdateCode self.new.points.items op object_type int_type local at.0 to.0 next.0) }
+        ensures grows { OnOk result (Grows self.old self.new) }
+        ensures ready { IfOk result (λ at. IsReady self.new at.0) }
+    {
+        let second = register_behind(to)?;
+        let store = self.append(copy(to, local, next), to)?;
+        let more = self.append(conversion(object_type, to, to, store), to)?;
+        let last = self.append(arithmetic(op, int_type, to, second, more), second)?;
+        self.append(conversion(int_type, local, to, last), to)
+    }
+
+    /// `++` and `--` (C17 6.5.2.4, 6.5.3.1).
+    fn stepping(
+        &mut self,
+        stepping: Stepping,
+        int_type: IntType,
+        object: &Object,
+        to: Register,
+        next: PointId,
+    ) -> Result<PointId, AllocError>
+        requires { IsReady self.old next.0 }
+        ensures code { (table : Interned) → IfOk result (λ entry. SteppingCode self.new.points.items (gives_old stepping) stepping int_type
+            (object_in table object.now) entry.0 to.0 next.0) }
+        ensures grows { OnOk result (Grows self.old self.new) }
+        ensures ready { IfOk result (λ entry. IsReady self.new entry.0) }
+    {
+        let local = local_before(object, to)?;
+        if gives_old(stepping) {
+            let value = register_behind(to)?;
+            let last = self.append(copy(value, local, next), value)?;
+            let mid = self.append(copy(local, to, last), to)?;
+            self.step(stepping, int_type, local, value, mid)
+        } else {
+            let mid = self.append(copy(to, local, next), to)?;
+            self.step(stepping, int_type, local, to, mid)
+        }
+    }
+
+    /// The sum or difference of a local and 1 (C17 6.5.3.1 paragraph 2).
+    fn step(
+        &mut self,
+        stepping: Stepping,
+        int_type: IntType,
+        local: Register,
+        to: Register,
+        next: PointId,
+    ) -> Result<PointId, AllocError>
+        requires ready { IsReady self.old next.0 }
+        requires before { local.0 < to.0 }
+        ensures code { IfOk result (λ entry. StepFrom self.new.points.items stepping int_type local entry.0 to.0 next.0) }
+        ensures grows { OnOk result (Grows self.old self.new) }
+        ensures ready { IfOk result (λ entry. IsReady self.new entry.0) }
+    {
+        let working = common(int_type, IntType::Int);
+        let second = register_behind(to)?;
+        let more = self.append(conversion(int_type, to, to, next), to)?;
+        let op = arithmetic(step_operator(stepping), working, to, second, more);
+        let last = self.append(op, second)?;
+        let mid = self.constant(1, second, last)?;
+        self.append(conversion(working, local, to, mid), to)
+    }
 }
 
-/// The value of a constant of a type.
-fn converted(value: u32, int_type: IntType) -> i64
-    ensures { result ≡ convert_to int_type (pos value) }
+/// Whether the value of a step is that before it.
+fn gives_old(stepping: Stepping) -> bool
+    ensures { result ≡ gives_old stepping }
 {
-    convert(i128::from(value), int_type) as i64
+    match stepping {
+        Stepping::PostIncrement | Stepping::PostDecrement => true,
+        Stepping::PreIncrement | Stepping::PreDecrement => false,
+    }
+}
+
+/// The operator of a step.
+fn step_operator(stepping: Stepping) -> BinOp
+    ensures { result ≡ step_operator stepping }
+{
+    match stepping {
+        Stepping::PreIncrement | Stepping::PostIncrement => BinOp::Add,
+        Stepping::PreDecrement | Stepping::PostDecrement => BinOp::Sub,
+    }
 }

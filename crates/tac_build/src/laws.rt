@@ -2,14 +2,14 @@
 
 ghost use Rattle.std.specs.Prelude.{ℕ, List};
 ghost use Rattle.run_theory.specs.Runs.{Simulates};
-ghost use Rattle.c_ast.specs.Typed.{TypedProgram};
-ghost use Rattle.c_ast.specs.Reference.{reference};
+ghost use Rattle.c_typed.specs.Typed.{Program};
+ghost use Rattle.c_meaning.specs.First.{reference};
 ghost use Rattle.tac_ir.specs.Meaning.{tac_run};
 ghost use Rattle.tac_ir.specs.declared.Tac.{Tac};
-ghost use Rattle.tac_build.specs.Code.{Code};
+ghost use Rattle.tac_build.specs.Laws.{IsCompiled};
 
-/// The code of a program does what the program does, on every input: within a bounded number of steps it answers as
+/// The code of a program does what the program means, on every input: within a bounded number of steps it answers as
 /// the program does within a budget, and it goes on as long as the program does.
 pub fn code_follows_reference()
-    ensures { (program : TypedProgram) (tac : Tac) (input : List ℕ) → Code program tac → Simulates (reference program input) (tac_run tac input) 4 0 }
+    ensures { (program : Program) (tac : Tac) (input : List ℕ) → IsCompiled program tac → Simulates (reference program input) (tac_run tac input) 4 0 }
 {}

@@ -1,25 +1,47 @@
 // The code of a program: its end first, then the block of `main`.
 
-ghost use Rattle.std.specs.Prelude.{◌^◌, ◌≤◌, IfOk};
-ghost use Rattle.c_ast.specs.Typed.{typed_program, program_size};
+ghost use Rattle.std.specs.Prelude.{◌≡◌, ◌∷◌, [], IfOk};
+ghost use Rattle.c_typed.specs.Typed.{FunctionDef};
+ghost use Rattle.c_typed.specs.DefinitionViews.{program_of, ProgramStands};
 ghost use Rattle.tac_ir.specs.Fits.{FitsFrame};
-ghost use Rattle.tac_build.specs.Code.{Code};
+ghost use Rattle.tac_build.specs.Code.{MainCode};
 
-use crate::builder::Builder;
-use c_ast::TypedProgram;
+use crate::builder::{Builder, Ways};
+use c_typed::Program;
 use std::alloc::{AllocError, Global};
 use tac_ir::{Func, Op, Register, Tac};
 
-/// The code of a program, in time linear in its size. Each statement has its points, also behind a `return`.
-pub fn lower(alloc: Global, program: &TypedProgram) -> Result<Tac, AllocError>
-    ensures code { IfOk result (λ tac. Code (typed_program program.now) tac) }
-    ensures fits { program_size (typed_program program.now) ≤ 2 ^ 22 → IfOk result FitsFrame }
+/// The registers that a frame has room for.
+const REGISTERS: usize = 8_388_608;
+
+/// The points whose instructions a function has room for.
+const POINTS: usize = 0x1000_0000;
+
+/// The code of a program's one function, in time linear in its size. Each statement has its points, also behind a `return`. A
+/// program outside of the part that is compiled, or one that needs more registers or points than the machine has room for, which
+/// no program within the limits does, is refused as if memory were short.
+pub fn lower(alloc: Global, program: &Program) -> Result<Tac, AllocError>
+    requires { ProgramStands program.now }
+    ensures code { IfOk result (λ tac. (main : FunctionDef) → (program_of program.now).functions ≡ main ∷ [] → MainCode main tac) }
+    ensures fits { IfOk result FitsFrame }
 {
+    let [main] = program.functions.as_slice() else {
+        return Err(AllocError);
+    };
     let mut builder = Builder::new(alloc);
     let status = Register(0);
     let end = builder.append(Op::Return { from: status }, status)?;
     let exit = builder.constant(0, status, end)?;
-    let entry = builder.block(&program.body, 0, exit)?;
+    let ways = Ways {
+        onward: exit,
+        broken: exit,
+        continued: exit,
+    };
+    let mut types = Vec::new(alloc);
+    let entry = builder.block(main.body.as_slice(), &program.types, &mut types, ways)?;
+    if builder.registers > REGISTERS || builder.points.len() > POINTS {
+        return Err(AllocError);
+    }
     let main = Func {
         points: builder.points,
         entry,

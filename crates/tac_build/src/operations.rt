@@ -1,18 +1,24 @@
-// The operations of expressions and statements on values of type `int`, and the registers that they name.
+// The operations of expressions and statements, and the registers and types that they name.
 
-ghost use Rattle.std.specs.Prelude.{◌≡◌, ◌+◌, ◌<◌, IfOk, OnOk};
-ghost use Rattle.c_num.specs.declared.IntType.TheVariants as types;
+ghost use Rattle.std.specs.Prelude.{◌≡◌, ◌+◌, ◌<◌, IfOk};
+ghost use Rattle.c_typed.specs.Table.{Interned};
+ghost use Rattle.c_typed.specs.Views.{value_in, object_in};
+ghost use Rattle.tac_build.specs.Inside.{common_word_type};
+ghost use Rattle.tac_build.specs.Code.{local_register, or_long, tested_type};
 
+use crate::inside::{common_word_type, local_of, word_type};
 use c_num::{BinOp, IntType, Relation};
+use c_typed::{Object, Value};
 use std::alloc::AllocError;
 use tac_ir::{Op, PointId, Register};
 
-/// The register of a local, which lies before that of a value. A local that isn't in scope, which no checked tree names,
-/// may have no register: it is refused as if memory were short.
-pub fn local_before(local: usize, to: Register) -> Result<Register, AllocError>
-    ensures number { IfOk result (λ register. register.0 ≡ local) }
-    ensures before { OnOk result (local < to.0) }
+/// The register of the local that an object is, which lies before that of a value. An object that is no local in scope, of
+/// which no program of the part that is compiled has one, is refused as if memory were short.
+pub fn local_before(object: &Object, to: Register) -> Result<Register, AllocError>
+    ensures number { (table : Interned) → IfOk result (λ register. register ≡ local_register (object_in table object.now)) }
+    ensures before { IfOk result (λ register. register.0 < to.0) }
 {
+    let local = local_of(object).ok_or(AllocError)?;
     if local < to.0 {
         Ok(Register(local))
     } else {
@@ -21,10 +27,25 @@ pub fn local_before(local: usize, to: Register) -> Result<Register, AllocError>
 }
 
 /// A register behind another. It is out of memory where the numbers of registers end.
-pub fn register_behind(register: Register, count: usize) -> Result<Register, AllocError>
-    ensures { IfOk result (λ behind. behind.0 ≡ register.0 + count) }
+pub fn register_behind(register: Register) -> Result<Register, AllocError>
+    ensures { IfOk result (λ behind. behind.0 ≡ register.0 + 1) }
 {
-    Ok(Register(register.0.checked_add(count).ok_or(AllocError)?))
+    Ok(Register(register.0.checked_add(1).ok_or(AllocError)?))
+}
+
+/// The type of words at which a value is tested. One that no type of words holds, of which no program of the part that is
+/// compiled has one, is tested at `long`.
+pub fn type_of_test(value: &Value, types: &[IntType]) -> IntType
+    ensures { (table : Interned) → result ≡ tested_type types.now (value_in table value.now) }
+{
+    word_type(value, types).unwrap_or(IntType::Long)
+}
+
+/// The type of words at which two values are compared, likewise.
+pub fn type_of_comparison(left: &Value, right: &Value, types: &[IntType]) -> IntType
+    ensures { (table : Interned) → result ≡ or_long (common_word_type types.now (value_in table left.now) (value_in table right.now)) }
+{
+    common_word_type(left, right, types).unwrap_or(IntType::Long)
 }
 
 /// Writes what a register holds to another.
@@ -34,24 +55,36 @@ pub fn copy(from: Register, to: Register, next: PointId) -> Op
     Op::Copy { from, to, next }
 }
 
-/// Negates a register.
-pub fn negation(to: Register, next: PointId) -> Op
-    ensures { result ≡ Op.Negate types.Int to to next }
+/// Writes what a register holds to another, converted to a type (C17 6.3.1.3).
+pub fn conversion(int_type: IntType, from: Register, to: Register, next: PointId) -> Op
+    ensures { result ≡ Op.Convert int_type from to next }
 {
-    Op::Negate {
-        int_type: IntType::Int,
+    Op::Convert {
+        int_type,
+        from,
+        to,
+        next,
+    }
+}
+
+/// The bitwise complement of a register, in its place (C17 6.5.3.3).
+pub fn complement(int_type: IntType, to: Register, next: PointId) -> Op
+    ensures { result ≡ Op.Complement int_type to to next }
+{
+    Op::Complement {
+        int_type,
         operand: to,
         to,
         next,
     }
 }
 
-/// Writes 1 to a register that holds 0, and else 0.
-pub fn logical_not(to: Register, next: PointId) -> Op
-    ensures { result ≡ Op.Not types.Int to to next }
+/// Writes 1 to a register that holds 0, and else 0 (C17 6.5.3.3).
+pub fn logical_not(int_type: IntType, to: Register, next: PointId) -> Op
+    ensures { result ≡ Op.Not int_type to to next }
 {
     Op::Not {
-        int_type: IntType::Int,
+        int_type,
         operand: to,
         to,
         next,
@@ -59,12 +92,18 @@ pub fn logical_not(to: Register, next: PointId) -> Op
 }
 
 /// Arithmetic on a register and a second one, in place of the first.
-pub fn arithmetic(operator: BinOp, to: Register, second: Register, next: PointId) -> Op
-    ensures { result ≡ Op.Arithmetic operator types.Int to second to next }
+pub fn arithmetic(
+    operator: BinOp,
+    int_type: IntType,
+    to: Register,
+    second: Register,
+    next: PointId,
+) -> Op
+    ensures { result ≡ Op.Arithmetic operator int_type to second to next }
 {
     Op::Arithmetic {
         operator,
-        int_type: IntType::Int,
+        int_type,
         left: to,
         right: second,
         to,
@@ -72,21 +111,28 @@ pub fn arithmetic(operator: BinOp, to: Register, second: Register, next: PointId
     }
 }
 
-/// Compares a register with a second one, and writes 1 or 0 in place of the first.
-pub fn comparison(relation: Relation, to: Register, second: Register, next: PointId) -> Op
-    ensures { result ≡ Op.Compare relation types.Int to second to next }
+/// Compares a register with a second one, and writes 1 or 0 to a third.
+pub fn comparison(
+    relation: Relation,
+    int_type: IntType,
+    left: Register,
+    right: Register,
+    to: Register,
+    next: PointId,
+) -> Op
+    ensures { result ≡ Op.Compare relation int_type left right to next }
 {
     Op::Compare {
         relation,
-        int_type: IntType::Int,
-        left: to,
-        right: second,
+        int_type,
+        left,
+        right,
         to,
         next,
     }
 }
 
-/// Hands a register to `putchar`, and writes what that gives in its place.
+/// Hands a register to `putchar`, and writes what that gives in its place (C17 7.21.7.8).
 pub fn put_char(register: Register, next: PointId) -> Op
     ensures { result ≡ Op.PutChar register register next }
 {
@@ -98,11 +144,11 @@ pub fn put_char(register: Register, next: PointId) -> Op
 }
 
 /// Goes on at the first point where the register isn't 0, at the second where it is.
-pub fn branch(condition: Register, nonzero: PointId, zero: PointId) -> Op
-    ensures { result ≡ Op.Branch types.Int condition nonzero zero }
+pub fn branch(int_type: IntType, condition: Register, nonzero: PointId, zero: PointId) -> Op
+    ensures { result ≡ Op.Branch int_type condition nonzero zero }
 {
     Op::Branch {
-        int_type: IntType::Int,
+        int_type,
         condition,
         nonzero,
         zero,

@@ -1,144 +1,255 @@
-// Statements and blocks, lowered backwards: the last item of a block first.
+// Statements and blocks, lowered backwards: the last item of a block first. The types of the locals in scope are those at the
+// point that is lowered: a block declares its locals first, and each is out of scope again once its declaration is lowered.
 
-ghost use Rattle.std.specs.Prelude.{◌≡◌, ℕ, ◌+◌, ◌*◌, IfOk, OnOk};
-ghost use Rattle.c_ast.specs.Typed.{typed_stmt, typed_items, stmt_size, block_size, typed_expr, expr_size};
-ghost use Rattle.tac_build.specs.Code.{HasOp, BranchCode, ExprCode, StmtCode, BlockCode, register};
-ghost use Rattle.tac_build.specs.Bounds.{IsReady, Grows, declared};
+ghost use Rattle.std.specs.Prelude.{◌≡◌, ◌<◌, ℕ, length, option_copied, IfOk, OnOk};
+ghost use Rattle.c_typed.specs.StatementViews.{optional_value_in, stmt_in, StmtStands, block_in, BlockStands, switch_in, SwitchStands};
+ghost use Rattle.c_typed.specs.Typed as typed;
+ghost use Rattle.c_typed.specs.Views.{value_in};
+ghost use Rattle.tac_build.specs.Code.{StmtCode, BlockCode};
+ghost use Rattle.tac_build.specs.Growing.{IsReady, Grows, AreReady, ways_of, TurnsCode};
+ghost use Rattle.tac_build.specs.Switches.{CasesCode, PlacesWithin, DefaultWithin};
 
-use crate::builder::Builder;
-use crate::operations::{branch, copy, register_behind};
-use c_ast::{TypedExpr, TypedItem, TypedStmt};
+use crate::builder::{Builder, Ways};
+use crate::declarations::{declare_items, declare_start};
+use crate::operations::type_of_test;
+use crate::switches::{Cases, Label};
+use c_num::IntType;
+use c_typed::{BlockItem, Stmt, SwitchItem, TypeTable, Value};
 use std::alloc::AllocError;
-use tac_ir::{Op, PointId, Register};
+use tac_ir::{PointId, Register};
 
 impl Builder {
-    /// A statement, where so many locals are in scope.
+    /// A statement. One that is outside of the part that is compiled is refused as if memory were short.
     #[cycle(statements)]
     pub fn statement(
         &mut self,
-        stmt: &TypedStmt,
-        scope: usize,
-        next: PointId,
+        stmt: &Stmt,
+        table: &TypeTable,
+        types: &mut Vec<IntType>,
+        ways: Ways,
     ) -> Result<PointId, AllocError>
-        requires { IsReady self.old next.0 }
-        ensures code { IfOk result (λ entry. StmtCode self.new.points.items (typed_stmt stmt.now) scope entry.0 next.0) }
-        ensures grows { OnOk result (Grows self.old self.new
-            (4 * stmt_size (typed_stmt stmt.now)) (scope + stmt_size (typed_stmt stmt.now))) }
+        requires stands { StmtStands table.now stmt.now }
+        requires ready { AreReady self.old ways }
+        ensures code { IfOk result (λ entry. StmtCode self.new.points.items types.old.items (stmt_in table.now stmt.now) entry.0 (ways_of ways)) }
+        ensures scope { OnOk result (types.new.items ≡ types.old.items) }
+        ensures grows { OnOk result (Grows self.old self.new) }
         ensures ready { IfOk result (λ entry. IsReady self.new entry.0) }
     {
         match stmt {
-            TypedStmt::Block(items) => self.block(items, scope, next),
-            TypedStmt::Empty => Ok(next),
-            TypedStmt::Expression(value) => self.expression(value, Register(scope), next),
-            TypedStmt::If { condition, then } => {
-                let inside = self.statement(then, scope, next)?;
-                let test = Register(scope);
-                self.value_then(condition, test, branch(test, inside, next))
+            Stmt::Block(items) => self.block(items.as_slice(), table, types, ways),
+            Stmt::Empty => Ok(ways.onward),
+            Stmt::Expression(value) => self.value(value, types.as_slice(), ways.onward),
+            Stmt::If { condition, then } => {
+                let inside = self.statement(then, table, types, ways)?;
+                self.condition(condition, types.as_slice(), inside, ways.onward)
             }
-            TypedStmt::IfElse {
+            Stmt::IfElse {
                 condition,
                 then,
                 otherwise,
             } => {
-                let outside = self.statement(otherwise, scope, next)?;
-                let inside = self.statement(then, scope, next)?;
-                let test = Register(scope);
-                self.value_then(condition, test, branch(test, inside, outside))
+                let outside = self.statement(otherwise, table, types, ways)?;
+                let inside = self.statement(then, table, types, ways)?;
+                self.condition(condition, types.as_slice(), inside, outside)
             }
-            TypedStmt::While { condition, body } => self.while_loop(condition, body, scope, next),
-            TypedStmt::Return(value) => {
-                let from = Register(scope);
-                self.value_then(value, from, Op::Return { from })
-            }
+            Stmt::Break => Ok(ways.broken),
+            Stmt::Continue => Ok(ways.continued),
+            Stmt::Return(value) => self.returned(value, types.as_slice()),
+            _ => self.longer_statement(stmt, table, types, ways),
         }
     }
 
-    /// A loop: the point of its branch is reserved, since the body behind it leads back to the condition before it.
+    /// A loop or a `switch` (C17 6.8.4.2, 6.8.5).
     #[cycle(statements)]
-    fn while_loop(
+    fn longer_statement(
         &mut self,
-        condition: &TypedExpr,
-        body: &TypedStmt,
-        scope: usize,
-        next: PointId,
+        stmt: &Stmt,
+        table: &TypeTable,
+        types: &mut Vec<IntType>,
+        ways: Ways,
     ) -> Result<PointId, AllocError>
-        requires { IsReady self.old next.0 }
-        ensures code { IfOk result (λ entry. (test : ℕ) × (inside : ℕ)
-            × ExprCode self.new.points.items (typed_expr condition.now) entry.0 scope test
-            × BranchCode self.new.points.items test scope inside next.0
-            × StmtCode self.new.points.items (typed_stmt body.now) scope inside entry.0) }
-        ensures grows { OnOk result (Grows self.old self.new
-            (4 * (expr_size (typed_expr condition.now) + stmt_size (typed_stmt body.now)) + 1)
-            (scope + expr_size (typed_expr condition.now) + stmt_size (typed_stmt body.now))) }
+        requires stands { StmtStands table.now stmt.now }
+        requires ready { AreReady self.old ways }
+        ensures code { IfOk result (λ entry. StmtCode self.new.points.items types.old.items (stmt_in table.now stmt.now) entry.0 (ways_of ways)) }
+        ensures scope { OnOk result (types.new.items ≡ types.old.items) }
+        ensures grows { OnOk result (Grows self.old self.new) }
         ensures ready { IfOk result (λ entry. IsReady self.new entry.0) }
     {
-        let test = self.reserve()?;
-        let value = Register(scope);
-        let entry = self.expression(condition, value, test)?;
-        let inside = self.statement(body, scope, entry)?;
-        self.fill(test, branch(value, inside, next), value)?;
+        match stmt {
+            Stmt::While { condition, body } => {
+                self.turns(Some(condition), None, body, table, types, ways)
+            }
+            Stmt::DoWhile { body, condition } => {
+                self.do_loop(body, condition, table, types, ways)
+            }
+            Stmt::For {
+                start,
+                condition,
+                step,
+                body,
+            } => {
+                declare_start(start, table, types)?;
+                let (condition, step) = (condition.as_ref(), step.as_ref());
+                let head = self.turns(condition, step, body, table, types, ways)?;
+                self.start(start, types, head)
+            }
+            Stmt::Switch { value, items } => {
+                let cases = self.cases(items.as_slice(), table, types, ways)?;
+                let int_type = type_of_test(value, types.as_slice());
+                let otherwise = cases.default.unwrap_or(ways.onward);
+                let scope = Register(types.len());
+                let tests = self.tests(cases.labels.as_slice(), int_type, scope, otherwise)?;
+                self.value(value, types.as_slice(), tests)
+            }
+            _ => Err(AllocError),
+        }
+    }
+
+    /// A loop that tests its condition first, and makes a step behind its body. The point of the test is reserved, since the
+    /// body behind it leads back to the condition before it (C17 6.8.5.1, 6.8.5.3).
+    #[cycle(statements)]
+    fn turns(
+        &mut self,
+        condition: Option<&Value>,
+        step: Option<&Value>,
+        body: &Stmt,
+        table: &TypeTable,
+        types: &mut Vec<IntType>,
+        ways: Ways,
+    ) -> Result<PointId, AllocError>
+        requires stands { StmtStands table.now body.now }
+        requires ready { AreReady self.old ways }
+        ensures code { IfOk result (λ entry. TurnsCode self.new.points.items types.old.items (optional_value_in table.now (option_copied condition.entry))
+            (optional_value_in table.now (option_copied step.entry)) (stmt_in table.now body.now) entry.0 (ways_of ways)) }
+        ensures scope { OnOk result (types.new.items ≡ types.old.items) }
+        ensures grows { OnOk result (Grows self.old self.new) }
+        ensures ready { IfOk result (λ entry. IsReady self.new entry.0) }
+    {
+        let head = self.head(condition, types.as_slice())?;
+        let next = self.optional(step, types.as_slice(), head.entry)?;
+        let inner = Ways {
+            onward: next,
+            broken: ways.onward,
+            continued: next,
+        };
+        let inside = self.statement(body, table, types, inner)?;
+        self.close(head.test, condition, types.as_slice(), inside, ways.onward)?;
+        Ok(head.entry)
+    }
+
+    /// A loop that tests its condition last (C17 6.8.5.2).
+    #[cycle(statements)]
+    fn do_loop(
+        &mut self,
+        body: &Stmt,
+        condition: &Value,
+        table: &TypeTable,
+        types: &mut Vec<IntType>,
+        ways: Ways,
+    ) -> Result<PointId, AllocError>
+        requires stands { StmtStands table.now body.now }
+        requires ready { AreReady self.old ways }
+        ensures code { IfOk result (λ entry. StmtCode self.new.points.items types.old.items (typed.DoWhile (stmt_in table.now body.now) (value_in table.now condition.now)) entry.0 (ways_of ways)) }
+        ensures scope { OnOk result (types.new.items ≡ types.old.items) }
+        ensures grows { OnOk result (Grows self.old self.new) }
+        ensures ready { IfOk result (λ entry. IsReady self.new entry.0) }
+    {
+        let head = self.head(Some(condition), types.as_slice())?;
+        let inner = Ways {
+            onward: head.entry,
+            broken: ways.onward,
+            continued: head.entry,
+        };
+        let entry = self.statement(body, table, types, inner)?;
+        self.close(
+            head.test,
+            Some(condition),
+            types.as_slice(),
+            entry,
+            ways.onward,
+        )?;
         Ok(entry)
     }
 
-    /// The items of a block, where so many locals are in scope before it.
+    /// The items of a `switch`. One that has two `default`, which no program has, is refused as if memory were short.
+    #[cycle(statements)]
+    fn cases(
+        &mut self,
+        items: &[SwitchItem],
+        table: &TypeTable,
+        types: &mut Vec<IntType>,
+        ways: Ways,
+    ) -> Result<Cases, AllocError>
+        requires stands { SwitchStands table.now items.now }
+        requires ready { AreReady self.old ways }
+        ensures code { IfOk result (λ cases. (entry : ℕ) × CasesCode self.new.points.items types.old.items (switch_in table.now items.now) entry
+            cases.labels.items cases.default (ways_of ways)) }
+        ensures places { IfOk result (λ cases. PlacesWithin (length self.new.points.items) cases.labels.items) }
+        ensures default { IfOk result (λ cases. DefaultWithin (length self.new.points.items) cases.default) }
+        ensures scope { OnOk result (types.new.items ≡ types.old.items) }
+        ensures grows { OnOk result (Grows self.old self.new) }
+        ensures ready { OnOk result (AreReady self.new ways) }
+    {
+        let mut labels = Vec::new(self.alloc);
+        let mut default = None;
+        let mut entry = ways.onward;
+        for index in (0..items.len()).rev() {
+            match &items[index] {
+                SwitchItem::Case(value) => {
+                    let label = Label {
+                        value: *value,
+                        place: entry,
+                    };
+                    labels.push(label)?;
+                }
+                SwitchItem::Default if default.is_none() => default = Some(entry),
+                SwitchItem::Default => return Err(AllocError),
+                SwitchItem::Statement(stmt) => {
+                    let inner = Ways {
+                        onward: entry,
+                        broken: ways.onward,
+                        continued: ways.continued,
+                    };
+                    entry = self.statement(stmt, table, types, inner)?;
+                }
+            }
+        }
+        Ok(Cases { labels, default })
+    }
+
+    /// The items of a block (C17 6.8.2).
     #[cycle(statements)]
     pub fn block(
         &mut self,
-        items: &[TypedItem],
-        outer: usize,
-        next: PointId,
+        items: &[BlockItem],
+        table: &TypeTable,
+        types: &mut Vec<IntType>,
+        ways: Ways,
     ) -> Result<PointId, AllocError>
-        requires { IsReady self.old next.0 }
-        ensures code { IfOk result (λ entry. BlockCode self.new.points.items (typed_items items.now) outer entry.0 next.0) }
-        ensures grows { OnOk result (Grows self.old self.new
-            (4 * block_size (typed_items items.now)) (outer + block_size (typed_items items.now))) }
+        requires stands { BlockStands table.now items.now }
+        requires ready { AreReady self.old ways }
+        ensures code { IfOk result (λ entry. BlockCode self.new.points.items types.old.items (block_in table.now items.now) entry.0 (ways_of ways)) }
+        ensures scope { OnOk result (types.new.items ≡ types.old.items) }
+        ensures grows { OnOk result (Grows self.old self.new) }
         ensures ready { IfOk result (λ entry. IsReady self.new entry.0) }
     {
-        let mut scope = register_behind(Register(outer), declarations(items))?.0;
-        let mut entry = next;
+        declare_items(items, table, types)?;
+        let mut entry = ways.onward;
         for index in (0..items.len()).rev() {
             match &items[index] {
-                TypedItem::Declaration(None) => scope -= 1,
-                TypedItem::Declaration(Some(value)) => {
-                    scope -= 1;
-                    entry = self.declaration(value, scope, entry)?;
+                BlockItem::Local(local) => {
+                    entry = self.first_value(local, types.as_slice(), entry)?;
+                    types.pop();
                 }
-                TypedItem::Statement(stmt) => entry = self.statement(stmt, scope, entry)?,
+                BlockItem::Statement(stmt) => {
+                    let inner = Ways {
+                        onward: entry,
+                        ..ways
+                    };
+                    entry = self.statement(stmt, table, types, inner)?;
+                }
             }
         }
         Ok(entry)
     }
-
-    /// The first value of a local, where so many others are in scope. The value may name the local, so it is evaluated
-    /// behind the local's register (C17 6.2.1 paragraph 7).
-    fn declaration(
-        &mut self,
-        value: &TypedExpr,
-        scope: usize,
-        next: PointId,
-    ) -> Result<PointId, AllocError>
-        requires { IsReady self.old next.0 }
-        ensures code { IfOk result (λ entry. (at : ℕ) × ExprCode self.new.points.items (typed_expr value.now) entry.0 (scope + 1) at
-            × HasOp self.new.points.items at (Op.Copy (register (scope + 1)) (register scope) next)) }
-        ensures grows { OnOk result (Grows self.old self.new
-            (4 * expr_size (typed_expr value.now) + 1) (scope + 1 + expr_size (typed_expr value.now))) }
-        ensures ready { IfOk result (λ entry. IsReady self.new entry.0) }
-    {
-        let to = Register(scope);
-        let from = register_behind(to, 1)?;
-        self.value_then(value, from, copy(from, to, next))
-    }
-}
-
-/// How many of the items are declarations.
-fn declarations(items: &[TypedItem]) -> usize
-    ensures { result ≡ declared items.now }
-{
-    let mut count = 0;
-    for item in items {
-        if let TypedItem::Declaration(_) = item {
-            count += 1;
-        }
-    }
-    count
 }

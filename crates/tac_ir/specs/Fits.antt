@@ -11,7 +11,9 @@ abbrev pub NamesBelow : ℕ → ℕ → Op → Type 0
 NamesBelow registers points O.Reserved = Unit {0}
 NamesBelow registers points (O.Constant to value next) = (to.0 < registers) × (next.0 < points)
 NamesBelow registers points (O.Copy from to next) = (from.0 < registers) × (to.0 < registers) × (next.0 < points)
+NamesBelow registers points (O.Convert type from to next) = (from.0 < registers) × (to.0 < registers) × (next.0 < points)
 NamesBelow registers points (O.Negate type operand to next) = (operand.0 < registers) × (to.0 < registers) × (next.0 < points)
+NamesBelow registers points (O.Complement type operand to next) = (operand.0 < registers) × (to.0 < registers) × (next.0 < points)
 NamesBelow registers points (O.Not type operand to next) = (operand.0 < registers) × (to.0 < registers) × (next.0 < points)
 NamesBelow registers points (O.Arithmetic operator type left right to next) = (left.0 < registers) × (right.0 < registers) × (to.0 < registers) × (next.0 < points)
 NamesBelow registers points (O.Compare relation type left right to next) = (left.0 < registers) × (right.0 < registers) × (to.0 < registers) × (next.0 < points)
@@ -19,6 +21,7 @@ NamesBelow registers points (O.Branch type condition holds fails) = (condition.0
 NamesBelow registers points (O.GetChar to next) = (to.0 < registers) × (next.0 < points)
 NamesBelow registers points (O.PutChar from to next) = (from.0 < registers) × (to.0 < registers) × (next.0 < points)
 NamesBelow registers points (O.Return from) = from.0 < registers
+NamesBelow registers points (O.Exit from) = from.0 < registers
 
 -- A frame has at most 2 ^ 26 bytes, 8 for each register, and a function fewer than 2 ^ 32 instructions.
 pub record FitsFunction (function : Func) : Type 0 where

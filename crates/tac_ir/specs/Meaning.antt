@@ -1,14 +1,15 @@
--- What three-address code does. A state is a point, the values of the registers, the input that is left and the trace.
--- Where a point or a register isn't there, an operand is no value of its type, or arithmetic is undefined, the run is
--- undefined: what is compiled from it owes nothing then.
-use Rattle.std.specs.Prelude.{ℕ, ◌+◌, ℤ, pos, List, [], ◌∷◌, ◌++◌, Option, Some, None, Result, Ok, Err, length, nat_lt, if◌then◌else◌, slice_get, slice_set, replicate}
+-- What three-address code does. A state is a point, the values of the registers, the input that is left and the trace,
+-- which begins with the call of main. Where a point or a register isn't there, an operand is no value of its type, or
+-- arithmetic is undefined, the run is undefined: what is compiled from it owes nothing then.
+use Rattle.std.specs.Prelude.{ℕ, ℤ, pos, List, [], ◌∷◌, ◌++◌, Option, Some, None, Result, Ok, Err, length, nat_lt, if◌then◌else◌, slice_get, slice_set, replicate}
 use Rattle.run_theory.specs.declared.ends.UbKind.TheVariants as Ub
-use Rattle.run_theory.specs.Runs.{Trace, Output, Ended, Undefined, Move, To, Halt, steps, Run}
+use Rattle.run_theory.specs.Runs.{Trace, Output, Called, Returned, Ended, Undefined, Move, To, Halt, steps, Run}
 use Rattle.c_num.specs.declared.IntType.{IntType}
 use Rattle.c_num.specs.declared.ArithUb.{ArithUb}
 use Rattle.c_num.specs.Types.{is_value}
-use Rattle.c_num.specs.Arith.{outcome_of, negated_of, compare_of}
-use Rattle.c_ast.specs.Values.{byte_of, next_char, after_next, is_zero, truth}
+use Rattle.c_num.specs.Conversion.{convert_to}
+use Rattle.c_num.specs.Arith.{outcome_of, negated_of, complement_of, compare_of}
+use Rattle.tac_ir.specs.Values.{byte_of, next_char, after_next, is_zero, truth}
 use Rattle.tac_ir.specs.declared.Op.{Op}
 use Rattle.tac_ir.specs.declared.Op.TheVariants as O
 use Rattle.tac_ir.specs.declared.Tac.{Tac}
@@ -49,14 +50,22 @@ defined (Err ub) state go = lost state
 abbrev pub go_to : ℕ → State → Move State
 go_to next state = To (record state { at = next })
 
+-- main has returned
+abbrev pub returned : State → State
+returned state = record state { trace = state.trace ++ Returned ∷ [] }
+
 abbrev pub execute : Option Op → State → Move State
 execute None state = lost state
 execute (Some O.Reserved) state = lost state
 execute (Some (O.Constant to value next)) state = write to.0 value next.0 state.input state.trace state
 execute (Some (O.Copy from to next)) state =
     read (slice_get state.registers from.0) state (λ value. write to.0 value next.0 state.input state.trace state)
+execute (Some (O.Convert type from to next)) state =
+    read (slice_get state.registers from.0) state (λ value. write to.0 (convert_to type value) next.0 state.input state.trace state)
 execute (Some (O.Negate type from to next)) state =
     operand type (slice_get state.registers from.0) state (λ a. defined (negated_of type a) state (λ value. write to.0 value next.0 state.input state.trace state))
+execute (Some (O.Complement type from to next)) state =
+    operand type (slice_get state.registers from.0) state (λ a. write to.0 (complement_of type a) next.0 state.input state.trace state)
 execute (Some (O.Not type from to next)) state =
     operand type (slice_get state.registers from.0) state (λ a. write to.0 (truth (is_zero a)) next.0 state.input state.trace state)
 execute (Some (O.Arithmetic operator type left right to next)) state =
@@ -69,15 +78,17 @@ execute (Some (O.GetChar to next)) state = write to.0 (next_char state.input) ne
 execute (Some (O.PutChar from to next)) state =
     read (slice_get state.registers from.0) state (λ value. write to.0 (pos (byte_of value)) next.0 state.input (state.trace ++ Output (byte_of value) ∷ []) state)
 execute (Some (O.Return from)) state =
+    read (slice_get state.registers from.0) state (λ value. Halt (Ended (byte_of value)) (returned state))
+execute (Some (O.Exit from)) state =
     read (slice_get state.registers from.0) state (λ value. Halt (Ended (byte_of value)) state)
 
 -- one step
 abbrev pub act : List Op → State → Move State
 act points state = execute (slice_get points state.at) state
 
--- the first state: each register holds 0
+-- the first state: main has been called, and each register holds 0
 abbrev pub initial : Tac → List ℕ → State
-initial tac input = record { at = tac.main.entry.0; registers = replicate tac.main.registers (pos 0); input = input; trace = [] }
+initial tac input = record { at = tac.main.entry.0; registers = replicate tac.main.registers (pos 0); input = input; trace = Called 0 ∷ [] }
 
 -- the run of a program on an input
 abbrev pub tac_run : Tac → List ℕ → Run

@@ -20,10 +20,10 @@ pub struct PointId(pub usize);
 pub enum Op {
     /// A point that is not filled in yet. No run comes to one.
     Reserved,
-    /// Writes a value to a register.
+    /// Writes a value of an integer type to a register.
     Constant {
         to: Register,
-        value: i64,
+        value: i128,
         next: PointId,
     },
     /// Writes what a register holds to another.
@@ -32,8 +32,22 @@ pub enum Op {
         to: Register,
         next: PointId,
     },
+    /// Writes what a register holds, converted to the type (C17 6.3.1.3).
+    Convert {
+        int_type: IntType,
+        from: Register,
+        to: Register,
+        next: PointId,
+    },
     /// Negates a value of the type (C17 6.5.3.3).
     Negate {
+        int_type: IntType,
+        operand: Register,
+        to: Register,
+        next: PointId,
+    },
+    /// The bitwise complement of a value of the type (C17 6.5.3.3).
+    Complement {
         int_type: IntType,
         operand: Register,
         to: Register,
@@ -84,6 +98,10 @@ pub enum Op {
     },
     /// Ends the function with the value of a register.
     Return {
+        from: Register,
+    },
+    /// Ends the program with the value of a register (C17 7.22.4.4).
+    Exit {
         from: Register,
     },
 }

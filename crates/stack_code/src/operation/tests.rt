@@ -41,6 +41,19 @@ fn each_operation(rt: HostRuntime) -> Result<(), Fail> {
         next,
     };
     assert_code(&rt, alloc, op, &[local_to, local_left, load, store])?;
+    let op = Op::Convert {
+        int_type: IntType::Char,
+        from: left,
+        to,
+        next,
+    };
+    let convert = Instr::Convert(IntType::Char);
+    assert_code(
+        &rt,
+        alloc,
+        op,
+        &[local_to, local_left, load, convert, store],
+    )?;
     let int_type = IntType::Long;
     let op = Op::Negate {
         int_type,
@@ -50,6 +63,19 @@ fn each_operation(rt: HostRuntime) -> Result<(), Fail> {
     };
     let negate = Instr::Negate(IntType::Long);
     assert_code(&rt, alloc, op, &[local_to, local_left, load, negate, store])?;
+    let op = Op::Complement {
+        int_type,
+        operand: left,
+        to,
+        next,
+    };
+    let complement = Instr::Complement(IntType::Long);
+    assert_code(
+        &rt,
+        alloc,
+        op,
+        &[local_to, local_left, load, complement, store],
+    )?;
     let op = Op::Not {
         int_type,
         operand: left,
@@ -123,5 +149,7 @@ fn each_operation(rt: HostRuntime) -> Result<(), Fail> {
     )?;
     let op = Op::Return { from: right };
     assert_code(&rt, alloc, op, &[local_right, load, Instr::ReturnValue])?;
+    let op = Op::Exit { from: right };
+    assert_code(&rt, alloc, op, &[local_right, load, Instr::Exit])?;
     Ok(())
 }

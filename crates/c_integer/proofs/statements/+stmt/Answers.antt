@@ -1,52 +1,48 @@
-use Rattle.std.proofs.Common.{◌≡◌, ◌+◌, ◌∙◌, ap, sym, subst, drop, Ok, arith}
-use Rattle.std.proofs.lemmas.Result.{err_from_is_err_and}
-use Rattle.c_ast.specs.Syntax as Core
-use Rattle.c_ast.proofs.SyntaxRows as core_rows
-use Rattle.c_syntax.specs.Views as views
-use Rattle.c_syntax.proofs.SyntaxRows.{stmt_tree-block}
-use Rattle.c_integer.specs.Narrowing.{stmt_of, block_of, ◌>>=◌}
-use Rattle.c_integer.specs.Stopping.{Stops}
-use Rattle.c_integer.proofs.Blocks.{before-none, Stops-then, Extends-push, IsItem-statement, IsBlockSoFar-item, IsBlockSoFar-more, IsBlockSoFar-stops, IsBlockSoFar-all}
+use Rattle.std.proofs.Common.{◌+◌, ◌∙◌, List, refl, sym, ap, subst, arith}
+use Rattle.c_syntax.specs.declared.statement.BlockItem.{BlockItem}
+use Rattle.c_syntax.specs.declared.statement.SwitchItem.{SwitchItem}
+use Rattle.c_syntax.specs.Views.{stmt_tree, block_of, switch_of}
+use Rattle.c_syntax.proofs.SyntaxRows.{stmt_tree-block, stmt_tree-switch}
+use Rattle.c_integer.specs.Outside.{first_of, outside_stmt, outside_block, hidden_by_item, outside_switch}
+use Rattle.c_integer.proofs.Loops.{Left, left-more, left-found, left-none, same, in_block, in_block_item, split_block, in_switch, in_switch_item, split_switch}
 use Rattle.c_integer.proofs.statements.+stmt.Goals as goal
 
-pub narrow_block-loop-item-init : goal.narrow_block-loop-item-init
-narrow_block-loop-item-init t c = rw c.new-narrow.ensures.items (before-none _)
+pub outside_block-returns-in-Some : goal.outside_block-returns-in-Some
+outside_block-returns-in-Some t c =
+    left-found in_block in_block_item hidden_by_item split_block c.args.items.now c.loop-item.item-index c.item-item.result (omega arith) c.item-item.is c.loop-item.invariant
+    (sym c.outside_block_item.ensures ∙ c.in-Some.is)
 
-pub narrow_block-loop-item-preserved : goal.narrow_block-loop-item-preserved
-narrow_block-loop-item-preserved t c =
-    let all = c.args.items.now in
+pub outside_block-loop-item-preserved : goal.outside_block-loop-item-preserved
+outside_block-loop-item-preserved t c =
     let here = c.loop-item.item-index in
-    let item = c.item-item.result in
-    let far = IsBlockSoFar-item all here c.loop-item.narrow.items item (omega arith) c.item-item.is c.loop-item.invariant in
-    IsBlockSoFar-more all (drop (here + 1) all) c.loop-item.narrow.items _ item far c.in_ok-narrow_item.ensures.ok
+    subst (λ now. Left in_block c.args.hidden c.args.items.now (here + 1) now) (sym c.hidden_by_item-hidden.ensures)
+    (left-more in_block in_block_item hidden_by_item split_block c.args.items.now here c.item-item.result (omega arith) c.item-item.is c.loop-item.invariant
+    (sym c.outside_block_item.ensures ∙ c.in_default.is))
 
-pub narrow_block-returns-in_err-narrow_item-clause-err : goal.narrow_block-returns-in_err-narrow_item-clause-err
-narrow_block-returns-in_err-narrow_item-clause-err t c =
-    let all = c.args.items.now in
-    let here = c.loop-item.item-index in
-    let item = c.item-item.result in
-    let far = IsBlockSoFar-item all here c.loop-item.narrow.items item (omega arith) c.item-item.is c.loop-item.invariant in
-    let p = err_from_is_err_and c.from_residual.result c.from_residual.ensures.1 in
-    rw (p.1, p.2) (IsBlockSoFar-stops all (drop (here + 1) all) c.loop-item.narrow.items item c.in_err-narrow_item.field-0.0 far c.in_err-narrow_item.ensures.err)
+pub outside_block-returns : goal.outside_block-returns
+outside_block-returns t c = left-none in_block in_block_item hidden_by_item (λ h. refl) c.args.items.now c.loop-item.item-index (omega arith) c.loop-item.invariant
 
-pub narrow_block-returns-clause-ok : goal.narrow_block-returns-clause-ok
-narrow_block-returns-clause-ok t c = IsBlockSoFar-all c.args.items.now c.loop-item.item-index c.loop-item.narrow.items (omega arith) c.loop-item.invariant
+pub outside_switch-returns-in-Some : goal.outside_switch-returns-in-Some
+outside_switch-returns-in-Some t c =
+    left-found in_switch in_switch_item same split_switch c.args.items.now c.loop-item.item-index c.item-item.result (omega arith) c.item-item.is c.loop-item.invariant
+    (sym c.outside_switch_item.ensures ∙ c.in-Some.is)
 
-pub narrow_item-returns-in_ok-push-in-Statement-clause-ok : goal.narrow_item-returns-in_ok-push-in-Statement-clause-ok
-narrow_item-returns-in_ok-push-in-Statement-clause-ok t c =
-    rw (c.in-Statement.is, c.in_ok-push-in-Statement.ensures.items) (Extends-push _ _ c.args.items.now.items (IsItem-statement c.in-Statement.stmt c.in_ok-stmt-in-Statement.stmt c.in_ok-stmt-in-Statement.ensures.ok))
+pub outside_switch-loop-item-preserved : goal.outside_switch-loop-item-preserved
+outside_switch-loop-item-preserved t c =
+    left-more in_switch in_switch_item same split_switch c.args.items.now c.loop-item.item-index c.item-item.result (omega arith) c.item-item.is c.loop-item.invariant
+    (sym c.outside_switch_item.ensures ∙ c.in_default.is)
 
-pub narrow_stmt-returns-in_ok-narrow_block-in-Block-clause-ok : goal.narrow_stmt-returns-in_ok-narrow_block-in-Block-clause-ok
-narrow_stmt-returns-in_ok-narrow_block-in-Block-clause-ok t c =
-    let block = ap stmt_of (ap views.stmt_tree c.in-Block.is ∙ stmt_tree-block c.in-Block.block) in
-    let made = c.in_ok-narrow_block-in-Block.field-0 in
-    let inner = subst (λ items. block_of (views.block_of items) ≡ Ok (Core.items_tree made.items)) c.deref.ensures.value c.in_ok-narrow_block-in-Block.ensures.ok in
-    block ∙ ap (λ n. n >>= λ b. Ok (Core.Block b)) inner ∙ ap Ok (sym (core_rows.stmt_tree-block made))
+pub outside_switch-returns : goal.outside_switch-returns
+outside_switch-returns t c = left-none in_switch in_switch_item same (λ h. refl) c.args.items.now c.loop-item.item-index (omega arith) c.loop-item.invariant
 
-pub narrow_stmt-returns-in_err-narrow_block-in-Block-clause-err : goal.narrow_stmt-returns-in_err-narrow_block-in-Block-clause-err
-narrow_stmt-returns-in_err-narrow_block-in-Block-clause-err t c =
-    let block = ap stmt_of (ap views.stmt_tree c.in-Block.is ∙ stmt_tree-block c.in-Block.block) in
-    let err = c.in_err-narrow_block-in-Block.field-0.0 in
-    let inner = subst (λ items. Stops (block_of (views.block_of items)) err) c.deref.ensures.value c.in_err-narrow_block-in-Block.ensures.err in
-    let p = err_from_is_err_and c.from_residual.result c.from_residual.ensures.1 in
-    rw (p.1, p.2) (subst (λ n. Stops n err) (sym block) (Stops-then _ (λ b. Ok (Core.Block b)) err inner))
+pub outside_stmt-returns-in-Block : goal.outside_stmt-returns-in-Block
+outside_stmt-returns-in-Block t c =
+    c.outside_block.ensures ∙ ap (λ (items : List BlockItem). outside_block c.args.hidden (block_of items)) c.as_slice.ensures.value
+    ∙ sym (ap (outside_stmt c.args.hidden) (ap stmt_tree c.in-Block.is ∙ stmt_tree-block c.in-Block.block))
+
+pub outside_stmt-returns-in-None-outside_expr-3 : goal.outside_stmt-returns-in-None-outside_expr-3
+outside_stmt-returns-in-None-outside_expr-3 t c =
+    let items = c.in-Switch.items.items in
+    c.outside_switch.ensures ∙ ap (λ (items : List SwitchItem). outside_switch c.args.hidden (switch_of items)) c.as_slice-in-None-outside_expr-3.ensures.value
+    ∙ ap (λ found. first_of found (outside_switch c.args.hidden (switch_of items))) (sym (sym c.outside_expr-in-Switch.ensures ∙ c.in-None-outside_expr-3.is))
+    ∙ sym (ap (outside_stmt c.args.hidden) (ap stmt_tree c.in-Switch.is ∙ stmt_tree-switch c.in-Switch.place c.in-Switch.value c.in-Switch.items))

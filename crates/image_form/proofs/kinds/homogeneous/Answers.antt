@@ -21,4 +21,5 @@ returns-in-Err-number_within c =
     c.in-Err-number_within.ensures))
 
 pub returns : goal.returns
-returns c = homogeneous_stands c.args.bytes.now c.args.at c.in-Ok.found.1 c.in-Ok-small_number.found.1 c.in-Ok-number_within.end c.in-Ok.found.0 c.in-Ok-small_number.found.0 c.in-Ok-number_within.number c.in-Ok.ensures.0 c.in-Ok-small_number.ensures.0 c.in-Ok-number_within.ensures.0 c.in-Ok.ensures.1 c.in-Ok-small_number.ensures.1 c.in-Ok-number_within.ensures.1
+returns c =
+    rw c.from.ensures (rw c.from-2.ensures (homogeneous_stands c.args.bytes.now c.args.at c.in-Ok.found.1 c.in-Ok-small_number.found.1 c.in-Ok-number_within.end c.in-Ok.found.0 c.in-Ok-small_number.found.0 c.in-Ok-number_within.number c.in-Ok.ensures.0 c.in-Ok-small_number.ensures.0 c.in-Ok-number_within.ensures.0 c.in-Ok.ensures.1 c.in-Ok-small_number.ensures.1 c.in-Ok-number_within.ensures.1))

@@ -1,25 +1,38 @@
-use Rattle.std.proofs.Common.{ap, ◌∙◌, subst, arith}
-use Rattle.c_ast.specs.Syntax.{program_tree}
-use Rattle.c_ast.specs.Typed.{program_size}
-use Rattle.c_integer_types.specs.Checking.{NamesFirst}
-use Rattle.c_integer_types.specs.Typing.{violations}
-use Rattle.poolcc.specs.Refused.{stopped_at}
-use Rattle.poolcc.proofs.Refusing.{first_place_violated}
-use Rattle.poolcc.proofs.Sizes.{typed_size}
+use Rattle.std.proofs.Common.{Bool, Option, None, sym, ap, ◌∙◌}
+use Rattle.run_theory.specs.declared.ends.Pos.{Pos}
+use Rattle.c_syntax.specs.Views.{program_tree}
+use Rattle.c_rules.specs.Elaborated as elaborated
+use Rattle.tac_build.specs.Inside.{is_integer_program}
+use Rattle.poolcc.specs.Refused.{later_at}
 use Rattle.poolcc.proofs.text.integer_program.Goals as goal
 
-pub returns-in-Ok-check-clause-size : goal.returns-in-Ok-check-clause-size
-returns-in-Ok-check-clause-size c =
-    let small = typed_size c.args.text.now (program_tree c.in-Ok.program) c.in-Ok.ensures.found in
-    let same = ap program_size c.in-Ok-check.ensures.checked.1 in
-    let short = c.requires in
-    omega arith
-
-pub returns-in-Err-Rule-clause-stop : goal.returns-in-Err-Rule-clause-stop
-returns-in-Err-Rule-clause-stop c =
-    let narrowed = c.in-Ok.ensures.found in
+pub returns-in-Some-clause-stop : goal.returns-in-Some-clause-stop
+returns-in-Some-clause-stop c =
+    let program = program_tree c.in-Ok.program in
     record {
-      program = narrowed.whole;
-      accepted = narrowed.accepted;
-      stops = ap stopped_at narrowed.narrows ∙ first_place_violated (violations (program_tree c.in-Ok.program)) _ (subst (NamesFirst (violations (program_tree c.in-Ok.program))) c.in-Err-Rule.field-0-is c.in-Err-Rule.ensures.checked);
+      program = program;
+      accepted = c.in-Ok-elaborate.ensures.accepted c.args.text.now c.in-Ok.ensures.found;
+      stops = ap (λ (first : Option Pos). later_at first (is_integer_program (elaborated.typed_of program)) program.end) (sym c.first_outside.ensures ∙ c.in-Some.is);
+    }
+
+pub returns-in-Ok-true-clause-found : goal.returns-in-Ok-true-clause-found
+returns-in-Ok-true-clause-found c = (
+  program_tree c.in-Ok.program,
+  record {
+    accepted = c.in-Ok-elaborate.ensures.accepted c.args.text.now c.in-Ok.ensures.found;
+    none_outside = sym c.first_outside.ensures ∙ c.in_default.is;
+    inside = ap is_integer_program (sym c.in-Ok-elaborate.ensures.typed) ∙ sym c.in-Ok-true.ensures ∙ c.in-Ok-true.field-0-test;
+  },
+  c.in-Ok-elaborate.ensures.typed,
+)
+
+pub returns-in-Ok-false-clause-stop : goal.returns-in-Ok-false-clause-stop
+returns-in-Ok-false-clause-stop c =
+    let program = program_tree c.in-Ok.program in
+    let inside = ap is_integer_program (sym c.in-Ok-elaborate.ensures.typed) ∙ sym c.in-Ok-false.ensures ∙ c.in-Ok-false.field-0-test in
+    record {
+      program = program;
+      accepted = c.in-Ok-elaborate.ensures.accepted c.args.text.now c.in-Ok.ensures.found;
+      stops = ap (λ (first : Option Pos). later_at first (is_integer_program (elaborated.typed_of program)) program.end) (sym c.first_outside.ensures ∙ c.in_default.is)
+          ∙ ap (λ (b : Bool). later_at None b program.end) inside;
     }

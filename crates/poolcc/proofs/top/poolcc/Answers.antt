@@ -2,7 +2,7 @@ use Rattle.std.proofs.Common.{◌≡◌, ◌⊎◌, refl, sym, subst}
 use Rattle.pcc_status.specs.declared.status.Status.{Status}
 use Rattle.pcc_status.specs.declared.status.Status.TheVariants as S
 use Rattle.pcc_status.specs.declared.status.Refusal.TheVariants as R
-use Rattle.pool_isa.specs.Machine.{mach}
+use Rattle.poolcc.specs.Compiled.{image_run}
 use Rattle.c_rules.specs.Elaborated as elaborated
 use Rattle.c_meaning.specs.First as meaning
 use Rattle.poolcc.specs.Command.{Names, machine_limits}
@@ -99,7 +99,7 @@ returns-clause-run_complete g c = λ file steps bytes left base form line holds 
     let no_read = λ (e : c.command-answer.result ≡ S.ReadFault).
     no_read_fault _ file (g.F.Files.faults c.args.files.now) (g.F.Files.faults c.command-answer.new.files) _ _ (subst (λ l. Names l file) (sym line) refl) quiet_files quiet_input (c.command-answer.ensures.read_cause e) in
     let no_write = λ (e : c.command-answer.result ≡ S.WriteFault). quiet_out (c.command-answer.ensures.write_cause e) in
-    subst (λ (status : Status). IsToldUnlessMemory (mach form.functions left steps) base status written') (sym same)
+    subst (λ (status : Status). IsToldUnlessMemory (image_run form left steps) base status written') (sym same)
     (image_completed bytes steps left base left' written' short form decoded c.command-answer.result (c.command-answer.ensures.answers.run file steps bytes left base line holds told wrote) no_read no_write)
 
 pub returns-clause-run_bad : goal.returns-clause-run_bad

@@ -1,4 +1,4 @@
-use Rattle.std.proofs.Common.{◌≡◌, ◌^◌, ◌<◌, List, ◌++◌, ◌∷◌, [], length, drop, replicate, reverse, subst, sym, ap, ◌∙◌, arith}
+use Rattle.std.proofs.Common.{◌≡◌, ◌+◌, ◌^◌, ◌<◌, List, ◌++◌, ◌∷◌, [], length, drop, replicate, reverse, subst, sym, ap, ◌∙◌, arith}
 use Rattle.std.specs.List.{flat_map}
 use Rattle.std.proofs.lemmas.List.{reverse-append, length-reverse, length-take}
 use Rattle.byteorder.specs.Endian.{little_bytes}
@@ -19,7 +19,7 @@ invariant_of-self-2 c =
     let made = c.in_ok-entered.ensures in
     let start : entered.start ≡ next_start innermost = ap (λ (a : Activation). a.start) made ∙ c.next_start-start.ensures in
     let bytes : entered.bytes ≡ flat_map (little_bytes 8) words ++ replicate c.args.function.now.extra 0 = ap (λ (a : Activation). a.bytes) made in
-    let left = advanced innermost (drop count innermost.operands) in
+    let left = advanced innermost (drop (c.args.above + count) innermost.operands) in
     let room = roomy_called entered left (reverse callers) words c.args.function.now.extra c.self.invariant start bytes few (omega arith) in
     let is_caller : caller ≡ left = c.replace-caller.ensures.value ∙ c.discard.ensures in
     let is_callee : c.replace-caller.new.dest ≡ entered = c.replace-caller.ensures.after in

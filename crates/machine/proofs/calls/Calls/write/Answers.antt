@@ -4,9 +4,12 @@ use Rattle.std.proofs.lemmas.List.{with_items_is}
 use Rattle.byteorder.specs.Endian.{little_bytes}
 use Rattle.byteorder.specs.Numbers.{length-bytes_low_first}
 use Rattle.pool_isa.specs.Machine.{Activation}
-use Rattle.machine.specs.Steps.{IsRoomy}
+use Rattle.machine.specs.Steps.{CallStack, IsRoomy}
 use Rattle.machine.proofs.Frames.{after_missed, write_here, write_outward, roomy_written, roomy_tried, on_false}
 use Rattle.machine.proofs.calls.Calls.write.Goals as goal
+
+abbrev the_stack : Activation → List Activation → CallStack
+the_stack innermost callers = record { innermost = innermost; callers = callers }
 
 pub invariant_of-self : goal.invariant_of-self
 invariant_of-self c =
@@ -15,8 +18,8 @@ invariant_of-self c =
     let written = write_here c.self.inside.innermost c.write.new.self callers c.args.address c.args.size new (length-bytes_low_first 0 c.args.size c.args.word) c.write.ensures.bytes (sym c.write.ensures.written ∙ c.if-write.true) in
     (roomy_written c.args.address new (c.self.inside.innermost ∷ callers) (c.write.new.self ∷ callers) c.self.invariant written).1
 
-pub returns-then-write : goal.returns-then-write
-returns-then-write c =
+pub returns-then-write-clause-written : goal.returns-then-write-clause-written
+returns-then-write-clause-written c =
     let new = little_bytes c.args.size c.args.word in
     let callers = reverse c.self.inside.callers.items in
     let written = write_here c.self.inside.innermost c.write.new.self callers c.args.address c.args.size new (length-bytes_low_first 0 c.args.size c.args.word) c.write.ensures.bytes (sym c.write.ensures.written ∙ c.if-write.true) in
@@ -38,8 +41,8 @@ invariant_of-self-else-write c =
     let room = roomy_tried c.args.address new c.write_to.result (frame ∷ callers) (c.write.new.self ∷ reverse c.write_to.new.callers) c.self.invariant outward kept in
     subst (λ (fs : List Activation). IsRoomy (c.write.new.self ∷ reverse fs)) (sym stored) room
 
-pub returns-else-write : goal.returns-else-write
-returns-else-write c =
+pub returns-else-write-clause-written : goal.returns-else-write-clause-written
+returns-else-write-clause-written c =
     let new = little_bytes c.args.size c.args.word in
     let frame = c.self.inside.innermost in
     let callers = reverse c.self.inside.callers.items in
@@ -49,3 +52,15 @@ returns-else-write c =
     let stored = with_items_is c.self.inside.callers c.write_to.new.callers (c.write_to.auto.callers ∙ c.deref_mut.ensures.len) in
     let outward = write_outward frame c.write.new.self callers c.args.address c.args.size new sized c.write.ensures.bytes c.write_to.result (reverse c.write_to.new.callers) missed (rw same at c.write_to.ensures.written) in
     rw (← c.self.view_is, stored) outward
+
+pub returns-else-write-clause-kept : goal.returns-else-write-clause-kept
+returns-else-write-clause-kept c =
+    let frame = c.self.inside.innermost in
+    let callers = reverse c.self.inside.callers.items in
+    let missed = sym c.write.ensures.written ∙ c.if-write.false in
+    let same : c.deref_mut.result.now ≡ c.self.inside.callers.items = c.deref_mut.ensures.value in
+    let stored = with_items_is c.self.inside.callers c.write_to.new.callers (c.write_to.auto.callers ∙ c.deref_mut.ensures.len) in
+    let left = after_missed frame frame c.write.new.self c.args.address c.args.size (little_bytes c.args.size c.args.word) refl c.write.ensures.bytes missed in
+    let kept : OnFalse c.write_to.result (the_stack c.write.new.self (reverse c.write_to.new.callers) ≡ the_stack frame callers) =
+    on_false c.write_to.result (λ (e : c.write_to.new.callers ≡ c.deref_mut.result.now). ap (λ f. the_stack f (reverse c.write_to.new.callers)) left ∙ ap (λ (fs : List Activation). the_stack frame (reverse fs)) (e ∙ same)) c.write_to.ensures.kept in
+    rw (← c.self.view_is, stored) kept

@@ -8,8 +8,8 @@ covers-requires-clause-sizes c = have_sizes c.self.inside c.self.invariant
 pub read_word-requires-clause-held : goal.read_word-requires-clause-held
 read_word-requires-clause-held c = word_held c.self.inside c.self.invariant c.args.address c.args.width c.requires.least c.if-covers.ensures
 
-pub returns-then-covers : goal.returns-then-covers
-returns-then-covers c = rw (← c.self.view_is) (ap Some c.read_word.ensures.word ∙ loaded c.self.inside c.self.invariant c.args.address c.args.width c.requires.least c.if-covers.ensures)
+pub returns-then-covers-clause-step : goal.returns-then-covers-clause-step
+returns-then-covers-clause-step c = rw (← c.self.view_is) (ap Some c.read_word.ensures.word ∙ loaded c.self.inside c.self.invariant c.args.address c.args.width c.requires.least c.if-covers.ensures)
 
-pub returns-else-covers : goal.returns-else-covers
-returns-else-covers c = rw (← c.self.view_is) (not_loaded c.self.inside c.self.invariant c.args.address c.args.width c.requires.least c.if-covers.ensures)
+pub returns-else-covers-clause-step : goal.returns-else-covers-clause-step
+returns-else-covers-clause-step c = rw (← c.self.view_is) (not_loaded c.self.inside c.self.invariant c.args.address c.args.width c.requires.least c.if-covers.ensures)

@@ -1,25 +1,26 @@
-use Rattle.std.proofs.Common.{◌≡◌, ◌+◌, ◌*◌, take, drop}
-use Rattle.c_ast.specs.declared.typed.TypedStmt.{size-TypedStmt}
-use Rattle.c_ast.specs.Typed.{typed_items, block_size}
+use Rattle.std.proofs.Common.{◌≡◌, length, take, drop}
+use Rattle.c_typed.specs.StatementViews.{block_in, switch_in}
 use Rattle.tac_build.specs.Code.{BlockCode}
-use Rattle.tac_build.specs.Bounds.{IsReady, Grows, declared}
+use Rattle.tac_build.specs.Growing.{IsReady, Grows, ways_of, with_items}
+use Rattle.tac_build.specs.Switches.{CasesCode, PlacesWithin, DefaultWithin}
 use Rattle.tac_build.proofs.builder.Builder.+statements.Given as goal
 
--- the code of the items from the index on
+-- the code of the items from the index on, and the locals in scope before it
 abbrev pub invariant-block-loop-index : goal.invariant-block-loop-index
 invariant-block-loop-index l = record {
-  depth : l.scope ≡ l.fn.outer + declared (take l.index l.items);
-  code : BlockCode l.self.points.items (typed_items (drop l.index l.items)) l.scope l.entry.0 l.fn.next.0;
-  grows : Grows l.fn.self l.self (4 * block_size (typed_items (drop l.index l.items))) (l.scope + block_size (typed_items (drop l.index l.items)));
+  scope : l.types.items ≡ with_items l.table l.fn.types.items (take l.index l.items);
+  code : BlockCode l.self.points.items (with_items l.table l.fn.types.items (take l.index l.items)) (block_in l.table (drop l.index l.items)) l.entry.0 (ways_of l.fn.ways);
+  grows : Grows l.fn.self l.self;
   ready : IsReady l.self l.entry.0;
 }
 
--- the depth of the tree, and among calls on the same tree the order in which they call one another
-abbrev pub decreases-statement : goal.decreases-statement
-decreases-statement l = 2 * goal.size-statement l
-
-abbrev pub decreases-while_loop : goal.decreases-while_loop
-decreases-while_loop l = 2 * size-TypedStmt l.body.now + 1
-
-abbrev pub decreases-block : goal.decreases-block
-decreases-block l = 2 * goal.size-block l + 1
+-- the items of a switch from the index on, with their labels
+abbrev pub invariant-cases-loop-index : goal.invariant-cases-loop-index
+invariant-cases-loop-index l = record {
+  scope : l.types.items ≡ l.fn.types.items;
+  code : CasesCode l.self.points.items l.fn.types.items (switch_in l.table (drop l.index l.items)) l.entry.0 l.labels.items l.default (ways_of l.fn.ways);
+  places : PlacesWithin (length l.self.points.items) l.labels.items;
+  default : DefaultWithin (length l.self.points.items) l.default;
+  grows : Grows l.fn.self l.self;
+  ready : IsReady l.self l.entry.0;
+}

@@ -1,4 +1,0 @@
-pub mod Reference
-pub mod Syntax
-pub mod Typed
-pub mod Values

@@ -1,3 +1,0 @@
-pub mod Sizes
-mod Blocks
-mod Scopes

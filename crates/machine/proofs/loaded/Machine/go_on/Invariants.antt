@@ -1,0 +1,18 @@
+use Rattle.std.proofs.Common.{◌≡◌, ℕ, ◌+◌, ◌≤◌, List, ◌++◌, Some}
+use Rattle.run_theory.specs.Runs.{Trace, output_of}
+use Rattle.pool_isa.specs.Machine.{History}
+use Rattle.machine.specs.Run.{state_at}
+use Rattle.machine.specs.Loaded.{ready_of, IsLoaded}
+use Rattle.machine.proofs.Running.{Stands, Kept}
+use Rattle.machine.proofs.loaded.Machine.go_on.Given as goal
+
+abbrev pub invariant-loop-turn : goal.invariant-loop-turn
+invariant-loop-turn g l = record {
+  loaded : IsLoaded l.self;
+  kept : Kept (ready_of l.initial.self) (ready_of l.self);
+  spent : l.self.spent ≡ l.initial.self.spent + l._turn;
+  reads_counted : g.I.Source.faults l.initial.input ≤ g.I.Source.faults l.input;
+  writes_counted : g.O.Sink.faults l.initial.out ≤ g.O.Sink.faults l.out;
+  stands : (history : History) (left base : List ℕ) (trace : Trace) → g.I.Source.left l.initial.input ≡ Some left → g.O.Sink.written l.initial.out ≡ Some (base ++ output_of trace)
+      → Stands (ready_of l.initial.self).code (state_at (ready_of l.initial.self) history left trace) base l._turn (ready_of l.self).activations (ready_of l.self).heap (g.I.Source.left l.input) (g.O.Sink.written l.out);
+}

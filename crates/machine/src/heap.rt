@@ -1,0 +1,162 @@
+// The memory of the machine beside the frames: globals and pools.
+
+ghost use Rattle.std.specs.Prelude.{◌≡◌, ℕ, suc, ◌+◌, ◌^◌, ◌<◌, ◌≤◌, ◌-◌, ◌++◌, true, length, replicate, Some, None, Err, IfOk, IfSome, OnOk, OnErr, MatchBool, if◌then◌else◌};
+ghost use Rattle.byteorder.specs.Endian.{little_bytes};
+ghost use Rattle.std.specs.Bool.{OnFalse};
+ghost use Rattle.slab_space.specs.PoolSteps.{index_exhausted, heap_exhausted};
+ghost use Rattle.slab_space.specs.Pools.{new_pools, lives_of, alloc_step, free_step};
+ghost use Rattle.image_form.specs.Form.{IsKind};
+ghost use Rattle.pool_isa.specs.Tally.{new_tally};
+ghost use Rattle.pool_isa.specs.Machine.{in_globals, globals_start, heap_word, with_heap_word, spliced, with_new_pool, without_pool};
+ghost use Rattle.machine.specs.Heaps.{heap_of, PlacesAt, FreesTo};
+
+use crate::tally::Tally;
+use crate::words::number_in;
+use byteorder::{ByteOrder, LittleEndian};
+use image_form::{Globals, MachineLimits};
+use pool_isa::Site;
+use pool_runtime::{AllocEnd, OutOfMemory, PoolId, PoolKind, Pools};
+use std::alloc::{AllocError, Global};
+
+/// The address of the first byte of the globals.
+const GLOBALS_START: u64 = 4096;
+
+/// Globals and pools.
+#[derive(Drop)]
+pub(crate) struct Heap {
+    pub(crate) globals: Vec<u8>,
+    pub(crate) pools: Pools,
+    pub(crate) tally: Tally,
+}
+
+impl Heap {
+    /// The globals begin with their contents, and are zero behind these; there is no pool.
+    pub(crate) fn new(
+        alloc: Global,
+        globals: &Globals,
+        limits: MachineLimits,
+    ) -> Result<Heap, AllocError>
+        requires contents { length globals.now.contents.items ≤ globals.now.size }
+        requires least { 1 ≤ limits.slabs }
+        requires most { limits.slabs ≤ 1048576 }
+        requires index { 1 ≤ limits.index }
+        ensures { IfOk result (λ heap. heap_of heap ≡ record { globals = globals.now.contents.items ++ replicate (globals.now.size - length globals.now.contents.items) 0; pools = new_pools limits.slabs limits.index; tally = new_tally limits.slabs }) }
+    {
+        let size = globals.size as usize;
+        let mut bytes = Vec::with_capacity(alloc, size)?;
+        bytes.extend_from_slice(&globals.contents)?;
+        bytes.resize(size, 0)?;
+        Ok(Heap {
+            globals: bytes,
+            pools: Pools::new(alloc, limits.slabs, limits.index),
+            tally: Tally::new(alloc, limits.slabs),
+        })
+    }
+
+    /// Where the `size` bytes from `address` on stand in the globals, if they lie there.
+    fn offset_of(&self, address: u64, size: usize) -> Option<usize>
+        ensures { result ≡ (if in_globals self.now.globals.items address size then Some (address - globals_start) else None) }
+    {
+        let offset = address.checked_sub(GLOBALS_START)?;
+        let behind = (self.globals.len() as u64).checked_sub(offset)?;
+        if size as u64 <= behind {
+            Some(offset as usize)
+        } else {
+            None
+        }
+    }
+
+    /// The number in the `size` bytes from `address` on, if they lie in the globals or in one live cell or object.
+    pub(crate) fn read(&self, address: u64, size: usize) -> Option<u64>
+        requires low { 1 ≤ size }
+        requires high { size ≤ 8 }
+        ensures word { result ≡ heap_word (heap_of self.now) address size }
+        ensures small { IfSome result (λ number. number < 256 ^ size) }
+    {
+        let Some(offset) = self.offset_of(address, size) else {
+            return self.pools.load(address, size);
+        };
+        Some(number_in(&self.globals[offset..offset + size]))
+    }
+
+    /// Writes the lowest `size` bytes of a word so many bytes behind the start of the globals.
+    fn put(&mut self, offset: usize, word: u64, size: usize)
+        requires high { size ≤ 8 }
+        requires inside { offset + size ≤ length self.old.globals.items }
+        ensures globals { self.new.globals.items ≡ spliced self.old.globals.items offset (little_bytes size word) }
+        ensures pools { self.new.pools ≡ self.old.pools }
+        ensures tally { self.new.tally ≡ self.old.tally }
+    {
+        let mut word_bytes = [0u8; 8];
+        LittleEndian::write_u64(&mut word_bytes, word);
+        self.globals[offset..offset + size].copy_from_slice(&word_bytes[..size]);
+    }
+
+    /// Writes the lowest `size` bytes of a word from `address` on, if they lie in the globals or in one live cell or
+    /// object, and says whether they do.
+    pub(crate) fn write(&mut self, address: u64, word: u64, size: usize) -> bool
+        requires low { 1 ≤ size }
+        requires high { size ≤ 8 }
+        ensures written { MatchBool result (with_heap_word (heap_of self.old) address size word ≡ Some (heap_of self.new)) (with_heap_word (heap_of self.old) address size word ≡ None) }
+        ensures kept { OnFalse result (heap_of self.new ≡ heap_of self.old) }
+    {
+        match self.offset_of(address, size) {
+            Some(offset) => {
+                self.put(offset, word, size);
+                true
+            }
+            None => self.pools.store(address, size, word),
+        }
+    }
+
+    /// Makes a pool for an instruction, and gives its number.
+    pub(crate) fn make_pool(&mut self, site: Site, kind: PoolKind) -> Result<u64, OutOfMemory>
+        requires { IsKind kind }
+        ensures number { IfOk result (λ pool. pool ≡ suc (length self.old.pools.pools)) }
+        ensures ok { OnOk result (heap_of self.new ≡ with_new_pool site kind (heap_of self.old)) }
+        ensures err { OnErr result (heap_of self.new ≡ heap_of self.old) }
+    {
+        if self.tally.reserve().is_err() {
+            return Err(OutOfMemory);
+        }
+        let pool = self.pools.init(kind)?.0;
+        self.tally.pool_made(site, pool);
+        Ok(pool)
+    }
+
+    /// Destroys a living pool.
+    pub(crate) fn destroy(&mut self, pool: PoolId)
+        requires { lives_of self.old.pools pool.0 ≡ true }
+        ensures { heap_of self.new ≡ without_pool pool.0 (heap_of self.old) }
+    {
+        self.pools.destroy(pool);
+        self.tally.pool_destroyed(pool.0);
+    }
+
+    /// Places an object of so many bytes in a living pool, and gives its address; 0 for 0 bytes.
+    pub(crate) fn place(&mut self, pool: PoolId, bytes: u64) -> Result<u64, AllocEnd>
+        requires { lives_of self.old.pools pool.0 ≡ true }
+        ensures ok { IfOk result (λ address. PlacesAt pool.0 bytes (heap_of self.old) address (heap_of self.new)) }
+        ensures heap { result ≡ Err AllocEnd.HeapExhausted → alloc_step self.old.pools pool.0 bytes ≡ heap_exhausted }
+        ensures index { result ≡ Err AllocEnd.IndexExhausted → alloc_step self.old.pools pool.0 bytes ≡ index_exhausted }
+        ensures err { OnErr result (heap_of self.new ≡ heap_of self.old) }
+    {
+        let address = self.pools.alloc(pool, bytes)?;
+        if bytes != 0 {
+            let peak = self.pools.peak(pool);
+            let slabs = self.pools.slabs(pool);
+            let free = self.pools.free_slabs();
+            self.tally.object_placed(pool.0, peak, slabs, free);
+        }
+        Ok(address)
+    }
+
+    /// Frees the object of a living pool that begins at the address, and says whether there is one.
+    pub(crate) fn free(&mut self, pool: PoolId, address: u64) -> bool
+        requires { lives_of self.old.pools pool.0 ≡ true }
+        ensures freed { MatchBool result (FreesTo pool.0 address (heap_of self.old) (heap_of self.new)) (free_step self.old.pools pool.0 address ≡ None) }
+        ensures kept { OnFalse result (heap_of self.new ≡ heap_of self.old) }
+    {
+        self.pools.free(pool, address).is_ok()
+    }
+}

@@ -1,0 +1,3 @@
+mod Once
+mod Ranges
+pub mod NoKinds

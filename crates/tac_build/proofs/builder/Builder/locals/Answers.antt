@@ -1,0 +1,22 @@
+use Rattle.std.proofs.Common.{length, sym, ap, ◌∙◌}
+use Rattle.c_typed.specs.StatementViews.{local_in}
+use Rattle.tac_build.proofs.Points.{grows_on}
+use Rattle.tac_build.proofs.Forms.{filled_stand}
+use Rattle.tac_build.proofs.Scopes.{left, locals_before, locals_more}
+use Rattle.tac_build.proofs.builder.Builder.locals.Goals as goal
+
+pub loop-index-preserved : goal.loop-index-preserved
+loop-index-preserved c =
+    let old = c.loop-index.self in
+    let new = c.first_value.new.self in
+    let stands = filled_stand old new c.in_ok-entry.ensures.grows in
+    record {
+      scope = λ table outer e.
+          c.pop.ensures.rest ∙ left c.loop-index.types.items _ (local_in table c.index-locals-index.result) _ (ap length (sym c.as_slice.ensures.value) ∙ c.as_slice.ensures.len)
+          (c.loop-index.invariant.scope table outer e ∙ locals_before old.points.items new.points.items stands table c.args.locals.now c.loop-index.index c.index-locals-index.result c.loop-index-test.true c.loop-index.auto.index c.index-locals-index.is outer);
+      code = λ table outer e.
+          locals_more old.points.items new.points.items stands table c.args.locals.now c.loop-index.index c.index-locals-index.result c.loop-index-test.true c.loop-index.auto.index c.index-locals-index.is outer
+          c.as_slice.result.now c.in_ok-entry.entry.0 c.loop-index.entry.0 c.args.next.0 (c.as_slice.ensures.value ∙ c.loop-index.invariant.scope table outer e) (c.in_ok-entry.ensures.code table) (c.loop-index.invariant.code table outer e);
+      grows = grows_on _ _ _ c.loop-index.invariant.grows c.in_ok-entry.ensures.grows;
+      ready = c.in_ok-entry.ensures.ready;
+    }

@@ -1,0 +1,10 @@
+use Rattle.std.proofs.Common.{◌≡◌, Some, ap}
+use Rattle.std.specs.Prelude.{option_copied}
+use Rattle.c_typed.specs.StatementViews.{optional_value_in}
+use Rattle.c_typed.specs.Views.{value_in}
+use Rattle.tac_build.proofs.builder.Builder.optional.Goals as goal
+
+pub returns-in-Some-clause-code : goal.returns-in-Some-clause-code
+returns-in-Some-clause-code c = λ table.
+    let e : optional_value_in table (option_copied c.args.value) ≡ Some (value_in table c.in-Some.value.now) = ap (λ value. optional_value_in table (option_copied value)) c.in-Some.is in
+    rw e (c.value.ensures.code table)

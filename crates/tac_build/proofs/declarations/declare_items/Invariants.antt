@@ -1,0 +1,11 @@
+use Rattle.std.proofs.Common.{◌≡◌, drop}
+use Rattle.c_typed.specs.StatementViews.{BlockStands}
+use Rattle.tac_build.specs.Growing.{with_items}
+use Rattle.tac_build.proofs.declarations.declare_items.Given as goal
+
+-- with the items that are left the scope is the whole one
+abbrev pub invariant-loop-item : goal.invariant-loop-item
+invariant-loop-item l = record {
+  stand : BlockStands l.table (drop l.item-index l.items);
+  scope : with_items l.table l.types.items (drop l.item-index l.items) ≡ with_items l.table l.fn.types.items l.items;
+}

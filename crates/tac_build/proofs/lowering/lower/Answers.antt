@@ -1,0 +1,24 @@
+use Rattle.std.proofs.Common.{◌∙◌, sym, arith}
+use Rattle.tac_build.proofs.Items.{only_item}
+use Rattle.tac_build.proofs.Standing.{end_stands}
+use Rattle.tac_build.proofs.Forms.{filled_stand}
+use Rattle.tac_build.proofs.Mains.{all_named, main_code}
+use Rattle.tac_build.proofs.lowering.lower.Goals as goal
+
+pub returns-clause-code : goal.returns-clause-code
+returns-clause-code c = λ main e.
+    let table = c.args.program.now.types in
+    let functions = sym c.as_slice.ensures.value ∙ only_item c.as_slice.result.now c.main-item.result c.in-len1.len_at_least c.in-len1.len_below c.main-item.is in
+    let points = c.block.new.self.points.items in
+    let exit = c.in_ok-exit.exit.0 in
+    let ending = end_stands c.constant.new.self.points.items points (filled_stand c.constant.new.self c.block.new.self c.in_ok-entry.ensures.grows) exit (c.in_ok-end.end.0, c.in_ok-exit.ensures.code, c.in_ok-exit.ensures.grows.stands _ _ c.in_ok-end.ensures.code) in
+    let code = rw (c.new-types.ensures.items, c.as_slice-2.ensures.value) at c.in_ok-entry.ensures.code in
+    main_code table c.main-item.result c.args.program.now.functions.items main _ exit functions e code ending (all_named c.block.new.self c.in_ok-entry.ensures.ready.named)
+
+pub returns-clause-fits : goal.returns-clause-fits
+returns-clause-fits c = record {
+  entry = c.in_ok-entry.ensures.ready.within;
+  operations = all_named c.block.new.self c.in_ok-entry.ensures.ready.named;
+  registers = c.if-builder-gt-REGISTERS.false;
+  points = omega (arith, c.if-len-gt-POINTS.false, c.len.ensures, c.block.new.self.points.ok);
+}

@@ -1,0 +1,151 @@
+// Conditions, and expressions whose value comes to the first register behind those of the locals in scope.
+
+ghost use Rattle.std.specs.Prelude.{◌≡◌, ◌<◌, ◌≤◌, Some, length, slice_set, option_copied, IfOk, OnOk};
+ghost use Rattle.c_typed.specs.Table.{Interned};
+ghost use Rattle.c_typed.specs.Typed as typed;
+ghost use Rattle.c_typed.specs.Views.{value_in};
+ghost use Rattle.c_typed.specs.StatementViews.{optional_value_in};
+ghost use Rattle.tac_build.specs.Code.{ExprCode, Ways, ConditionCode, OptionalCode, StmtCode};
+ghost use Rattle.tac_build.specs.Growing.{IsNamed, IsReady, Grows, HeadCode, loop_test};
+
+use crate::builder::Builder;
+use crate::operations::{branch, type_of_test};
+use c_num::IntType;
+use c_typed::Value;
+use std::alloc::AllocError;
+use tac_ir::{Op, PointId, Register};
+
+/// Where the condition of a loop begins, and the point of its test, which is filled in last.
+#[derive(Clone, Copy)]
+pub struct Head {
+    pub entry: PointId,
+    pub test: PointId,
+}
+
+impl Builder {
+    /// An expression.
+    pub fn value(
+        &mut self,
+        value: &Value,
+        types: &[IntType],
+        next: PointId,
+    ) -> Result<PointId, AllocError>
+        requires { IsReady self.old next.0 }
+        ensures code { (table : Interned) → IfOk result (λ entry. ExprCode self.new.points.items types.now (value_in table value.now) entry.0 (length types.now) next.0) }
+        ensures grows { OnOk result (Grows self.old self.new) }
+        ensures ready { IfOk result (λ entry. IsReady self.new entry.0) }
+    {
+        self.expression(value, types, Register(types.len()), next)
+    }
+
+    /// An expression, or nothing.
+    pub fn optional(
+        &mut self,
+        value: Option<&Value>,
+        types: &[IntType],
+        next: PointId,
+    ) -> Result<PointId, AllocError>
+        requires { IsReady self.old next.0 }
+        ensures code { (table : Interned) → IfOk result (λ entry. OptionalCode self.new.points.items types.now (optional_value_in table (option_copied value.entry)) entry.0 next.0) }
+        ensures grows { OnOk result (Grows self.old self.new) }
+        ensures ready { IfOk result (λ entry. IsReady self.new entry.0) }
+    {
+        match value {
+            Some(value) => self.value(value, types, next),
+            None => Ok(next),
+        }
+    }
+
+    /// The value that a function returns (C17 6.8.6.4). A `return` without one is refused as if memory were short.
+    pub fn returned(
+        &mut self,
+        value: &Option<Value>,
+        types: &[IntType],
+    ) -> Result<PointId, AllocError>
+        requires { IsNamed self.old }
+        ensures code { (table : Interned) (ways : Ways) → IfOk result (λ entry. StmtCode self.new.points.items types.now (typed.Return (optional_value_in table value.now)) entry.0 ways) }
+        ensures grows { OnOk result (Grows self.old self.new) }
+        ensures ready { IfOk result (λ entry. IsReady self.new entry.0) }
+    {
+        match value {
+            Some(value) => {
+                let from = Register(types.len());
+                self.value_then(value, types, from, Op::Return { from })
+            }
+            None => Err(AllocError),
+        }
+    }
+
+    /// A condition, which leads to the first point where it isn't 0, and to the second where it is (C17 6.8.4.1).
+    pub fn condition(
+        &mut self,
+        value: &Value,
+        types: &[IntType],
+        holds: PointId,
+        fails: PointId,
+    ) -> Result<PointId, AllocError>
+        requires holds { IsReady self.old holds.0 }
+        requires fails { fails.0 < length self.old.points.items }
+        ensures code { (table : Interned) → IfOk result (λ entry. ConditionCode self.new.points.items types.now (Some (value_in table value.now)) entry.0 holds.0 fails.0) }
+        ensures grows { OnOk result (Grows self.old self.new) }
+        ensures ready { IfOk result (λ entry. IsReady self.new entry.0) }
+    {
+        let to = Register(types.len());
+        let op = branch(type_of_test(value, types), to, holds, fails);
+        self.value_then(value, types, to, op)
+    }
+
+    /// The condition of a loop, whose test is to be filled in.
+    pub fn head(&mut self, condition: Option<&Value>, types: &[IntType]) -> Result<Head, AllocError>
+        requires { IsNamed self.old }
+        ensures code { (table : Interned) → IfOk result (λ head. HeadCode self.new.points.items types.now (optional_value_in table (option_copied condition.entry)) head) }
+        ensures is_new { IfOk result (λ head. length self.old.points.items ≤ head.test.0) }
+        ensures test { IfOk result (λ head. head.test.0 < length self.new.points.items) }
+        ensures grows { OnOk result (Grows self.old self.new) }
+        ensures ready { IfOk result (λ head. IsReady self.new head.entry.0) }
+    {
+        let test = self.reserve()?;
+        match condition {
+            Some(value) => {
+                let entry = self.value(value, types, test)?;
+                Ok(Head { entry, test })
+            }
+            None => Ok(Head { entry: test, test }),
+        }
+    }
+
+    /// Fills in the test of a loop's condition, which leads into the loop where it isn't 0, and out of it where it is (C17
+    /// 6.8.5 paragraph 4). Without a condition the test leads into the loop (C17 6.8.5.3 paragraph 2).
+    pub fn close(
+        &mut self,
+        test: PointId,
+        condition: Option<&Value>,
+        types: &[IntType],
+        inside: PointId,
+        outside: PointId,
+    ) -> Result<(), AllocError>
+        requires test { test.0 < length self.old.points.items }
+        requires inside { IsReady self.old inside.0 }
+        requires outside { outside.0 < length self.old.points.items }
+        ensures points { (table : Interned) → OnOk result (self.new.points.items
+            ≡ slice_set self.old.points.items test.0 (loop_test types.now (optional_value_in table (option_copied condition.entry)) inside.0 outside.0)) }
+        ensures registers { OnOk result (self.old.registers ≤ self.new.registers) }
+        ensures named { OnOk result (IsNamed self.new) }
+    {
+        let value = Register(types.len());
+        match condition {
+            Some(condition) => {
+                let op = branch(type_of_test(condition, types), value, inside, outside);
+                self.fill(test, op, value)
+            }
+            None => {
+                let op = Op::Constant {
+                    to: value,
+                    value: 0,
+                    next: inside,
+                };
+                self.fill(test, op, value)
+            }
+        }
+    }
+}
