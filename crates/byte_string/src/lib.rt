@@ -42,6 +42,3 @@ impl ByteString {
         self.bytes.as_slice()
     }
 }
-
-#[cfg(test)]
-mod tests;

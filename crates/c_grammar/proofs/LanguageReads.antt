@@ -3,7 +3,7 @@ use Rattle.std.proofs.Common.{◌≡◌, ℕ, ◌+◌, ◌<◌, ◌≤◌, Bool,
 use Rattle.std.proofs.lemmas.Bool.{leb-true}
 use Rattle.grammar_table.specs.Table.{Sym, Token, Tree, Node, leaves, Is, token, IsPart, first, after}
 use Rattle.grammar_table.specs.Runs.{level_of, next_row}
-use Rattle.grammar_table.specs.Laws.{Reads}
+use Rattle.grammar_table.specs.Laws.{ReadsTrees}
 use Rattle.c_grammar.specs.declared.kind.Kind.{Kind}
 use Rattle.c_grammar.specs.declared.kind.Kind.TheVariants.{Name, Question}
 use Rattle.c_grammar.specs.Kinds.{binary_right, is_assignment, is}
@@ -88,7 +88,7 @@ module _ {Leaf : Type 0} (kind_of : Leaf → Kind) (sample : Kind → Leaf) wher
       let tight = (first_token form left_level own_row own_left).tight in
       omega (arith, tight, own_level)
 
-  pub reads : Reads (language kind_of sample) (Ends kind_of) (Stands kind_of)
+  pub reads : ReadsTrees (language kind_of sample) (Ends kind_of) (Stands kind_of)
   reads = record {
     chooses = λ sort level form parts text own_sort own_row own_left own_level trees stands.
         subst (λ s. Chosen kind_of sample s level form (leaves parts ++ text)) own_sort (chosen_form kind_of sample form level parts text own_row own_left own_level trees (subst (λ s. Stands kind_of s level (Node form parts) text) (sym own_sort) stands));

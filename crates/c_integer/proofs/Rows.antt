@@ -1,6 +1,6 @@
 -- Small programs, evaluated: each is written on one line, and a place is that of a column.
 use Rattle.std.proofs.Common.{◌≡◌, ℕ, List, [], ◌∷◌, Option, Some, None, codes, refl}
-use Rattle.run_theory.specs.declared.ends.Pos.{Pos}
+use Rattle.text_place.specs.declared.place.Pos.{Pos}
 use Rattle.c_num.specs.declared.IntType.TheVariants as types
 use Rattle.c_syntax.specs.declared.operator.PrefixOperator.TheVariants as prefix
 use Rattle.c_syntax.specs.declared.operator.BinaryOperator.TheVariants as binary

@@ -12,7 +12,7 @@
 use Rattle.std.specs.Prelude.{ℕ, Bool, true, false, ◌&&◌, ◌||◌, not, if◌then◌else◌, List, [], ◌∷◌, Option, Some, None, nat_eq, codes}
 use Rattle.std.specs.List.{list_any}
 use Rattle.std.specs.Str.{bytes_eq}
-use Rattle.run_theory.specs.declared.ends.Pos.{Pos}
+use Rattle.text_place.specs.declared.place.Pos.{Pos}
 use Rattle.c_syntax.specs.declared.operator.PrefixOperator.{PrefixOperator}
 use Rattle.c_syntax.specs.declared.operator.PrefixOperator.TheVariants as prefix
 use Rattle.c_syntax.specs.declared.operator.BinaryOperator.{BinaryOperator}

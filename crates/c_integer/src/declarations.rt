@@ -7,7 +7,7 @@ ghost use Rattle.c_integer.specs.Outside.{is_empty, is_plain, is_plain_name, dec
 use crate::expressions::outside_expr;
 use crate::names::declares_main;
 use c_syntax::{Declaration, Declarator, Direct, Init, InitDeclarator, SimpleKind, Suffix};
-use run_theory::Pos;
+use text_place::Pos;
 
 /// Whether a declarator is a name, in parentheses or not, and says no more.
 #[cycle(plain)]

@@ -10,7 +10,7 @@ use c_syntax::{
     BinaryOperator, Declarator, Direct, Expr, Parameter, PrefixOperator, SimpleKind, Suffix,
     TypeName,
 };
-use run_theory::Pos;
+use text_place::Pos;
 
 /// The functions that are compiled.
 const COMPILED: [&[u8]; 3] = [b"getchar", b"putchar", b"exit"];

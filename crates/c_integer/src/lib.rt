@@ -9,7 +9,5 @@ mod expressions;
 mod names;
 mod program;
 mod statements;
-#[cfg(test)]
-mod tests;
 
 pub use program::first_outside;

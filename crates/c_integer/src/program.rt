@@ -7,7 +7,7 @@ ghost use Rattle.c_integer.specs.Outside.{place_of_base, outside_item, outside};
 use crate::names::declares_main;
 use crate::statements::outside_block;
 use c_syntax::{Base, Item, Program};
-use run_theory::Pos;
+use text_place::Pos;
 
 /// The place of the first node of a program that is not compiled yet, in the order of the text. The program violates no
 /// type rule.

@@ -7,7 +7,7 @@ ghost use Rattle.c_integer.specs.Outside.{outside_start, hidden_by_start, outsid
 use crate::declarations::{hidden_behind, outside_declaration};
 use crate::expressions::{outside_expr, outside_value};
 use c_syntax::{BlockItem, ForFirst, Stmt, SwitchItem};
-use run_theory::Pos;
+use text_place::Pos;
 
 /// What a `for` begins with.
 fn outside_start(hidden: bool, first: &ForFirst) -> Option<Pos>

@@ -1,7 +1,7 @@
 -- A text divides in one way, or has one first fault, and never both; one of the two is so.
 use Rattle.std.proofs.Common.{◌≡◌, ◌⊎◌, inl, inr, ℕ, zero, suc, ◌≤◌, List, [], ◌∷◌, ◌++◌, Result, Ok, Err, Bool, true, length, take, drop, sym, refl, ap, ◌∙◌, subst, append_assoc, arith, length-drop}
-use Rattle.run_theory.specs.declared.ends.Pos.{Pos}
-use Rattle.run_theory.specs.Places.{first_place, place_behind}
+use Rattle.text_place.specs.declared.place.Pos.{Pos}
+use Rattle.text_place.specs.Places.{first_place, place_behind}
 use Rattle.c_token.specs.declared.token.Lexeme.{Lexeme}
 use Rattle.c_token.specs.declared.token.Lexeme.TheVariants as L
 use Rattle.c_token.specs.declared.token.Token.{Token}

@@ -4,7 +4,7 @@ use Rattle.std.specs.Prelude.{slice_index, nat_le}
 use Rattle.std.specs.List.{prefix_len}
 use Rattle.std.proofs.lemmas.Bool.{cond_both, and_parts, leb-true}
 use Rattle.std.proofs.lemmas.List.Sums.{prefix_len-le-length}
-use Rattle.run_theory.specs.declared.ends.Pos.{Pos}
+use Rattle.text_place.specs.declared.place.Pos.{Pos}
 use Rattle.c_token.specs.declared.token.Symbol.{Symbol}
 use Rattle.c_token.specs.declared.token.Lexeme.{Lexeme}
 use Rattle.c_lexer.specs.declared.lex_err.LexErr.{LexErr}

@@ -1,7 +1,7 @@
 -- Integer constants, character constants and literals (C17 6.4.4.1, 6.4.4.4, 6.4.5).
 use Rattle.std.specs.Prelude.{ℕ, zero, suc, ◌+◌, ◌-◌, ◌*◌, ◌^◌, List, [], ◌∷◌, ◌++◌, Option, Some, None, Bool, true, false, ◌&&◌, ◌||◌, not, ◌==◌, nat_lt, nat_le, if◌then◌else◌, is_some, length, take, drop, slice_index, Result, Ok, Err}
 use Rattle.std.specs.List.{list_all, prefix_len}
-use Rattle.run_theory.specs.declared.ends.Pos.{Pos}
+use Rattle.text_place.specs.declared.place.Pos.{Pos}
 use Rattle.c_num.specs.declared.IntType.{IntType}
 use Rattle.c_num.specs.declared.IntType.TheVariants as T
 use Rattle.c_num.specs.Types.{width_of, is_signed}

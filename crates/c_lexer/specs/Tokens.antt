@@ -4,8 +4,8 @@
 -- passed, or a token, or a fault, which refuses the text.
 use Rattle.std.specs.Prelude.{◌≡◌, ℕ, ◌+◌, ◌-◌, ◌≤◌, List, [], ◌∷◌, Bool, true, ◌&&◌, ◌||◌, ◌==◌, length, take, drop, Vec, Result, Ok, Err}
 use Rattle.std.specs.declared.alloc.Global.{Global}
-use Rattle.run_theory.specs.declared.ends.Pos.{Pos}
-use Rattle.run_theory.specs.Places.{place_behind}
+use Rattle.text_place.specs.declared.place.Pos.{Pos}
+use Rattle.text_place.specs.Places.{place_behind}
 use Rattle.c_token.specs.declared.token.Lexeme.{Lexeme}
 use Rattle.c_token.specs.declared.token.Lexeme.TheVariants as L
 use Rattle.c_token.specs.declared.token.Token.{Token}

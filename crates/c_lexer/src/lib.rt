@@ -13,8 +13,6 @@ mod numbers;
 mod punctuators;
 mod quoted;
 mod tables;
-#[cfg(test)]
-mod tests;
 mod words;
 
 pub use laws::{

@@ -10,7 +10,7 @@ use crate::front::Front;
 use crate::lex_err::LexErr;
 use c_num::IntType;
 use c_token::Lexeme;
-use run_theory::Pos;
+use text_place::Pos;
 
 /// The base of an integer constant.
 #[derive(Clone, Copy, Debug)]

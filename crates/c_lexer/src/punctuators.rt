@@ -7,7 +7,7 @@ use crate::front::Front;
 use crate::lex_err::LexErr;
 use crate::tables::punctuator_symbol;
 use c_token::{Lexeme, Symbol};
-use run_theory::Pos;
+use text_place::Pos;
 
 /// The punctuator that begins a text, which stands at `place`.
 pub(crate) fn punctuator(text: &[u8], place: Pos) -> Result<Front, LexErr>

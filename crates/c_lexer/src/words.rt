@@ -11,8 +11,8 @@ use crate::front::Front;
 use crate::lex_err::LexErr;
 use crate::tables::word_symbol;
 use c_token::{ByteString, Lexeme};
-use run_theory::Pos;
 use std::alloc::{AllocError, Global};
+use text_place::Pos;
 
 /// The greatest number of bytes of a name.
 const NAME_LIMIT: usize = 255;

@@ -1,10 +1,10 @@
-"""The digests that src/tests.rt compares with: what the operators give on all 8-bit operands and on the corners of each width.
+"""The digests that crates/base_tests/src/integers.rt compares with: what the operators give on all 8-bit operands and on the corners of each width.
 
 An independent account of the rules: values are Python's integers, a conversion goes through bytes, and overflow is what
 does not fit those bytes. Each answer is mixed into a digest in the manner of FNV-1a, by words of 64 bits: 0 and the
 value of a result; 1, 2 and 3 for an overflow, a division by zero and a bad shift; the value of a total operator.
 
-    python3 digests.py        prints the tables of src/tests.rt
+    python3 digests.py        prints the tables of crates/base_tests/src/integers.rt
 """
 
 TYPES = [("Char", 1, True), ("UChar", 1, False), ("Short", 2, True), ("UShort", 2, False),

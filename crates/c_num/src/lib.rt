@@ -125,6 +125,3 @@ pub fn common(a: IntType, b: IntType) -> IntType
         (_, _) => IntType::Int,
     }
 }
-
-#[cfg(test)]
-mod tests;

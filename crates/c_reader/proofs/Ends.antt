@@ -14,7 +14,7 @@ use Rattle.c_grammar.proofs.LanguageFollowed.{left_expr}
 use Rattle.c_grammar.proofs.LanguageTells.{is_same}
 use Rattle.c_grammar.proofs.LanguagePlaces.{misfit, only}
 use Rattle.c_token.specs.Leaves.{Leaf, kind_of, sample}
-use Rattle.c_reader.specs.Grammar.{grammar, Parse}
+use Rattle.c_reader_tokens.specs.Grammar.{grammar, Parse}
 use Rattle.c_reader.specs.Readings.{nesting_limit, EndsText, IsThere}
 
 pub real : (kind : Kind) → kind_of (sample kind) ≡ kind

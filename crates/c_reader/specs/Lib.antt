@@ -1,13 +1,3 @@
-pub mod Grammar
-pub mod Shapes
 pub mod Readings
-pub mod Rows
-pub mod RowForms
-pub mod Lists
-pub mod StmtForms
-pub mod StmtLists
-pub mod Steps
-pub mod Choices
 pub mod ItemForms
 pub mod ItemLists
-pub mod Terms

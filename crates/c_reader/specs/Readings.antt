@@ -1,22 +1,20 @@
 -- What the parts of the reader answer: what a reader by the table of the grammar comes to, and the syntax tree of what it
 -- read.
 use Rattle.std.specs.Prelude.{◌≡◌, ℕ, List, [], ◌∷◌, Result, Ok, Err}
-use Rattle.run_theory.specs.declared.ends.Pos.{Pos}
-use Rattle.grammar_table.specs.Table.{height}
-use Rattle.grammar_table.specs.Runs.{Job, Fault, Bad, Deep, Done, Failed, Run}
+use Rattle.text_place.specs.declared.place.Pos.{Pos}
+use Rattle.grammar_table.specs.Runs.{Deep}
 use Rattle.grammar_table.specs.Prefixes.{Accepted, IsMisfit, IsTooDeep}
-use Rattle.c_grammar.specs.declared.kind.Kind.{Kind}
 use Rattle.c_grammar.specs.declared.kind.Kind.TheVariants.{End}
-use Rattle.c_grammar.specs.Forms.{Sort, Form, Program}
-use Rattle.c_token.specs.Leaves.{Leaf, kind_of, leaves_of}
+use Rattle.c_grammar.specs.Forms.{Program}
+use Rattle.c_token.specs.Leaves.{Leaf, kind_of}
 use Rattle.c_syntax.specs.Trees.{ProgramTree}
 use Rattle.c_syntax.specs.declared.declaration.Program as memory_program
 use Rattle.c_syntax.specs.Views.{program_tree}
-use Rattle.c_reader.specs.declared.token.Read.{Read}
-use Rattle.c_reader.specs.declared.syntax_err.SyntaxErr.{SyntaxErr}
-use Rattle.c_reader.specs.declared.syntax_err.SyntaxErr.TheVariants.{At, TooDeep, OutOfMemory}
-use Rattle.c_reader.specs.Grammar.{grammar, Parse}
-use Rattle.c_reader.specs.Shapes.{place_of, program_of}
+use Rattle.c_reader_tokens.specs.declared.token.Read.{Read}
+use Rattle.c_reader_tokens.specs.declared.syntax_err.SyntaxErr.{SyntaxErr}
+use Rattle.c_reader_tokens.specs.declared.syntax_err.SyntaxErr.TheVariants.{At, TooDeep, OutOfMemory}
+use Rattle.c_reader_tokens.specs.Grammar.{grammar}
+use Rattle.c_reader_tokens.specs.Shapes.{place_of, program_of}
 
 -- ---- programs
 
@@ -65,44 +63,3 @@ IsReadUnlessMemory (Ok program) tree = program_tree program ≡ tree
 IsReadUnlessMemory (Err (At place)) tree = ⊥
 IsReadUnlessMemory (Err (TooDeep place)) tree = ⊥
 IsReadUnlessMemory (Err OutOfMemory) tree = Unit {0}
-
--- ---- parts
-
--- A reader with a job and so much room comes to a fault at a token that stands at the place.
-pub record FailsAt (fault : Fault) (job : Job Leaf Kind Sort Form) (room : ℕ) (text : List Leaf) (place : Pos) : Type 0 where
-  pub behind : List Leaf
-  pub run : Run grammar job room text (Failed fault behind)
-  pub stands : place_of behind ≡ place
-
-abbrev pub Fails : Job Leaf Kind Sort Form → ℕ → List Leaf → SyntaxErr → Type 0
-Fails job room text (At place) = FailsAt Bad job room text place
-Fails job room text (TooDeep place) = FailsAt Deep job room text place
-Fails job room text OutOfMemory = Unit {0}
-
--- It comes to a tree of that height, which stands for this syntax tree, and to what is behind it.
-pub record Reads {A : Type 0} (job : Job Leaf Kind Sort Form) (room : ℕ) (text : List Leaf) (shape_of : Parse → A) (tree : A) (high : ℕ) (behind : List Leaf) : Type 0 where
-  pub parse : Parse
-  pub run : Run grammar job room text (Done parse behind)
-  pub shape : shape_of parse ≡ tree
-  pub measured : height grammar parse ≡ high
-
--- ---- tokens
-
--- A token of this kind stands at the front.
-pub record Begins (kind : Kind) (leaves : List Leaf) : Type 0 where
-  pub leaf : Leaf
-  pub behind : List Leaf
-  pub parts : leaves ≡ leaf ∷ behind
-  pub is_kind : kind_of leaf ≡ kind
-
--- A token of this kind at this place stands at the front, and then these.
-pub record Passes (kind : Kind) (leaves : List Leaf) (place : Pos) (behind : List Leaf) : Type 0 where
-  pub leaf : Leaf
-  pub parts : leaves ≡ leaf ∷ behind
-  pub is_kind : kind_of leaf ≡ kind
-  pub stands : leaf.place ≡ place
-
--- What a part of the reader with a job and so much room answers.
-abbrev pub Gives : {V A : Type 0} → Job Leaf Kind Sort Form → ℕ → List Leaf → (Parse → A) → (V → A) → Result (Read V) SyntaxErr → Type 0
-Gives job room text shape_of tree_of (Ok read) = Reads job room text shape_of (tree_of read.value) read.height (leaves_of read.rest.now)
-Gives job room text shape_of tree_of (Err fault) = Fails job room text fault

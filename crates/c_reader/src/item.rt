@@ -7,22 +7,20 @@ ghost use Rattle.c_grammar.specs.declared.words.Words.TheVariants.{NoWord};
 ghost use Rattle.c_grammar.specs.Forms as forms;
 ghost use Rattle.c_token.specs.Leaves.{leaves_of};
 ghost use Rattle.c_syntax.specs.Views.{base_tree, declarator_tree, item_tree, member_tree};
-ghost use Rattle.c_reader.specs.Shapes as shapes;
-ghost use Rattle.c_reader.specs.Lists.{folds};
-ghost use Rattle.c_reader.specs.Rows.{GivesPart, GivesElement, TellsRow, Tells};
-ghost use Rattle.c_reader.specs.Steps.{EndsWords};
+ghost use Rattle.c_reader_tokens.specs.Shapes as shapes;
+ghost use Rattle.c_reader_tokens.specs.Lists.{folds};
+ghost use Rattle.c_reader_tokens.specs.Rows.{GivesPart, GivesElement, TellsRow, Tells};
+ghost use Rattle.c_reader_tokens.specs.Steps.{EndsWords};
 ghost use Rattle.c_reader.specs.ItemForms.{item_form, items_form, tail_form, after_form, members_opt_form, members_form, member_more_form};
 ghost use Rattle.c_reader.specs.ItemLists.{item_before, member_before, member_declarator_before, struct_from, after_of};
 
-use crate::declaration::{read_declarators, read_first_value};
-use crate::declarator::{read_declarator, read_simple};
-use crate::name::pass_name;
-use crate::part::{Part, has_room};
-use crate::statement::read_block_items;
-use crate::syntax_err::SyntaxErr;
-use crate::token::{first_kind, first_place, pass, room_below};
-use crate::words::{PassedWords, pass_words, words_type};
 use c_grammar::{Kind, Words};
+use c_reader_expressions::{read_declarator, read_simple};
+use c_reader_statements::{read_block_items, read_declarators, read_first_value};
+use c_reader_tokens::{
+    Part, PassedWords, SyntaxErr, first_kind, first_place, has_room, pass, pass_name, pass_words,
+    room_below, words_type,
+};
 use c_syntax::{
     Base, Block, Declarator, InitDeclarator, Item, Member, Name, Pos, Simple, SimpleKind,
 };
@@ -276,10 +274,10 @@ fn read_function(
     alloc: Global,
     tokens: &[Token],
     room: u32,
-    base: Base,
-    declarator: Declarator,
+    base: Box<Base>,
+    declarator: Box<Declarator>,
 ) -> Result<Part<'_, Item>, SyntaxErr>
-    ensures gives { GivesPart (Whole forms.Body 0) room (leaves_of tokens.now) (shapes.body_of (base_tree base) (declarator_tree declarator)) item_tree result }
+    ensures gives { GivesPart (Whole forms.Body 0) room (leaves_of tokens.now) (shapes.body_of (base_tree base.value) (declarator_tree declarator.value)) item_tree result }
     ensures shorter { IfOk result (λ part. length part.rest.now < length tokens.now) }
 {
     if !first_kind(tokens)?.is(Kind::OpenBrace) {
@@ -290,8 +288,8 @@ fn read_function(
     let items = read_block_items(alloc, opening.rest, below)?;
     Ok(Part {
         value: Item::Function {
-            base,
-            declarator,
+            base: Box::into_inner(base),
+            declarator: Box::into_inner(declarator),
             body: Block {
                 place: opening.place,
                 items: items.value,
@@ -306,9 +304,9 @@ fn read_declared(
     alloc: Global,
     tokens: &[Token],
     room: u32,
-    base: Base,
+    base: Box<Base>,
 ) -> Result<Part<'_, Item>, SyntaxErr>
-    ensures gives { GivesPart (Whole forms.Declared 0) room (leaves_of tokens.now) (shapes.declared_of (base_tree base)) item_tree result }
+    ensures gives { GivesPart (Whole forms.Declared 0) room (leaves_of tokens.now) (shapes.declared_of (base_tree base.value)) item_tree result }
     ensures shorter { IfOk result (λ part. length part.rest.now < length tokens.now) }
 {
     if !first_kind(tokens)?.begins_declarator() {
@@ -316,7 +314,8 @@ fn read_declared(
     }
     has_room(tokens, 1, room)?;
     let declarator = read_declarator(alloc, tokens, room)?;
-    read_after_declarator(alloc, declarator.rest, room, base, declarator.value)
+    let boxed = Box::new(alloc, declarator.value)?;
+    read_after_declarator(alloc, declarator.rest, room, base, boxed)
 }
 
 /// Reads what follows the first declarator of an item.
@@ -324,10 +323,10 @@ fn read_after_declarator(
     alloc: Global,
     tokens: &[Token],
     room: u32,
-    base: Base,
-    declarator: Declarator,
+    base: Box<Base>,
+    declarator: Box<Declarator>,
 ) -> Result<Part<'_, Item>, SyntaxErr>
-    ensures gives { GivesPart (Whole forms.AfterDeclarator 0) room (leaves_of tokens.now) (after_of (base_tree base) (declarator_tree declarator)) item_tree result }
+    ensures gives { GivesPart (Whole forms.AfterDeclarator 0) room (leaves_of tokens.now) (after_of (base_tree base.value) (declarator_tree declarator.value)) item_tree result }
     ensures shorter { IfOk result (λ part. length part.rest.now < length tokens.now) }
 {
     match after_row(first_kind(tokens)?) {
@@ -338,13 +337,13 @@ fn read_after_declarator(
         Some(AfterRow::Values) => {
             let init = read_first_value(alloc, tokens, room)?;
             let first = InitDeclarator {
-                declarator,
+                declarator: Box::into_inner(declarator),
                 init: init.value,
             };
             let declarators = read_declarators(alloc, init.rest, room, first)?;
             Ok(Part {
                 value: Item::Declaration {
-                    base,
+                    base: Box::into_inner(base),
                     declarators: declarators.value,
                 },
                 rest: declarators.rest,
@@ -378,9 +377,9 @@ fn read_struct_tail(
     alloc: Global,
     tokens: &[Token],
     room: u32,
-    base: Base,
+    base: Box<Base>,
 ) -> Result<Part<'_, Item>, SyntaxErr>
-    ensures gives { GivesPart (Whole forms.StructTail 0) room (leaves_of tokens.now) (shapes.tail_of (base_tree base)) item_tree result }
+    ensures gives { GivesPart (Whole forms.StructTail 0) room (leaves_of tokens.now) (shapes.tail_of (base_tree base.value)) item_tree result }
     ensures shorter { IfOk result (λ part. length part.rest.now < length tokens.now) }
 {
     match tail_row(first_kind(tokens)?) {
@@ -388,7 +387,7 @@ fn read_struct_tail(
             let semicolon = pass(tokens, Kind::Semicolon)?;
             Ok(Part {
                 value: Item::Declaration {
-                    base,
+                    base: Box::into_inner(base),
                     declarators: Vec::new(alloc),
                 },
                 rest: semicolon.rest,
@@ -412,7 +411,8 @@ fn read_struct_item(alloc: Global, tokens: &[Token], room: u32) -> Result<Part<'
     let word = pass(tokens, Kind::Struct)?;
     let name = pass_name(alloc, word.rest)?;
     let base = read_struct(alloc, name.rest, room, word.place, name.name)?;
-    read_struct_tail(alloc, base.rest, room, base.value)
+    let boxed = Box::new(alloc, base.value)?;
+    read_struct_tail(alloc, base.rest, room, boxed)
 }
 
 /// Reads `struct`, its name, its members where they are there, and what words may stand behind these. The place is that of
@@ -478,7 +478,8 @@ fn read_typed_item(
 {
     let word = pass(tokens, kind)?;
     let base = read_base(alloc, word.rest, room, word.place, words)?;
-    read_declared(alloc, base.rest, room, base.value)
+    let boxed = Box::new(alloc, base.value)?;
+    read_declared(alloc, base.rest, room, boxed)
 }
 
 /// The rows of an item.

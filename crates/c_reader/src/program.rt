@@ -8,15 +8,13 @@ ghost use Rattle.c_grammar.specs.Chooses.{begins_item};
 ghost use Rattle.c_token.specs.Leaves.{leaves_of};
 ghost use Rattle.c_syntax.specs.Trees.{ProgramTree};
 ghost use Rattle.c_syntax.specs.Views.{program_tree};
-ghost use Rattle.c_reader.specs.Shapes.{program_of};
+ghost use Rattle.c_reader_tokens.specs.Shapes.{program_of};
 ghost use Rattle.c_reader.specs.Readings.{IsProgram, Refuses, IsReadUnlessMemory};
-ghost use Rattle.c_reader.specs.Rows.{GivesPart};
+ghost use Rattle.c_reader_tokens.specs.Rows.{GivesPart};
 
 use crate::item::read_items;
-use crate::part::Part;
-use crate::syntax_err::SyntaxErr;
-use crate::token::{first_kind, first_place, pass};
 use c_grammar::Kind;
+use c_reader_tokens::{Part, SyntaxErr, first_kind, first_place, pass};
 use c_syntax::Program;
 use c_token::Token;
 use std::alloc::Global;

@@ -1,6 +1,2 @@
 mod Refusals
-mod Growing
-pub mod Named
-mod LocalTables
-pub mod Noted
-pub mod Findings
+mod Literals

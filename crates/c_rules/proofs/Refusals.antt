@@ -1,6 +1,6 @@
 -- What programs of one fault each are refused for, and that those without any are accepted.
 use Rattle.std.specs.Prelude.{◌≡◌, ℕ, List, [], ◌∷◌, Option, Some, None, codes, refl}
-use Rattle.run_theory.specs.declared.ends.Pos.{Pos}
+use Rattle.text_place.specs.declared.place.Pos.{Pos}
 use Rattle.c_num.specs.declared.IntType.TheVariants as I
 use Rattle.c_num.specs.Conversion.{convert_to}
 use Rattle.c_num.specs.Arith.{outcome_of, negated_of, complement_of}
@@ -671,3 +671,35 @@ s225 = (program ((Trees.Function (Trees.Plain (words (at_place 1 1) (Trees.Integ
 s225-refused : refusal s225 ≡ Some (record { kind = T.T14; place = at_place 1 25 })
 unfolding convert_to outcome_of negated_of complement_of
 s225-refused = refl
+
+-- int main(void) { int (*p)(void) = (void *)NULL; return 0; }
+abbrev s230 : Trees.ProgramTree
+s230 = (program ((Trees.Function (Trees.Plain (words (at_place 1 1) (Trees.IntegerWords I.Int))) (Trees.Declarator 0 (Trees.DeclaredName (name (codes "main") (at_place 1 5))) (Trees.FunctionSuffix (Trees.Parameter (words (at_place 1 10) Trees.VoidWord) Trees.NoDeclarator Trees.NoParameters) Trees.NoSuffixes)) (at_place 1 16) (Trees.Declare (declaration (words (at_place 1 18) (Trees.IntegerWords I.Int)) ((init_declarator (Trees.Declarator 0 (Trees.Nested (Trees.Declarator 1 (Trees.DeclaredName (name (codes "p") (at_place 1 24))) Trees.NoSuffixes)) (Trees.FunctionSuffix (Trees.Parameter (words (at_place 1 27) Trees.VoidWord) Trees.NoDeclarator Trees.NoParameters) Trees.NoSuffixes)) (Some (Trees.InitValue (Trees.Cast (at_place 1 35) (Trees.TypeName (words (at_place 1 36) Trees.VoidWord) (Trees.Declared (Trees.Declarator 1 Trees.NoName Trees.NoSuffixes))) (Trees.Null (at_place 1 43)))))) ∷ [])) (Trees.Perform (Trees.Return (at_place 1 49) (Some (Trees.Integer 0 I.Int (at_place 1 56)))) Trees.Close))) ∷ []) (at_place 1 59))
+
+s230-refused : refusal s230 ≡ Some (record { kind = T.T10; place = at_place 1 35 })
+unfolding convert_to outcome_of negated_of complement_of
+s230-refused = refl
+
+-- int main(void) { int (*p)(void) = (void *)0; return; }
+abbrev s231 : Trees.ProgramTree
+s231 = (program ((Trees.Function (Trees.Plain (words (at_place 1 1) (Trees.IntegerWords I.Int))) (Trees.Declarator 0 (Trees.DeclaredName (name (codes "main") (at_place 1 5))) (Trees.FunctionSuffix (Trees.Parameter (words (at_place 1 10) Trees.VoidWord) Trees.NoDeclarator Trees.NoParameters) Trees.NoSuffixes)) (at_place 1 16) (Trees.Declare (declaration (words (at_place 1 18) (Trees.IntegerWords I.Int)) ((init_declarator (Trees.Declarator 0 (Trees.Nested (Trees.Declarator 1 (Trees.DeclaredName (name (codes "p") (at_place 1 24))) Trees.NoSuffixes)) (Trees.FunctionSuffix (Trees.Parameter (words (at_place 1 27) Trees.VoidWord) Trees.NoDeclarator Trees.NoParameters) Trees.NoSuffixes)) (Some (Trees.InitValue (Trees.Cast (at_place 1 35) (Trees.TypeName (words (at_place 1 36) Trees.VoidWord) (Trees.Declared (Trees.Declarator 1 Trees.NoName Trees.NoSuffixes))) (Trees.Integer 0 I.Int (at_place 1 43)))))) ∷ [])) (Trees.Perform (Trees.Return (at_place 1 46) None) Trees.Close))) ∷ []) (at_place 1 54))
+
+s231-refused : refusal s231 ≡ Some (record { kind = T.T22; place = at_place 1 46 })
+unfolding convert_to outcome_of negated_of complement_of
+s231-refused = refl
+
+-- int f(void); int y = f(); int main(void) { return 0; }
+abbrev s232 : Trees.ProgramTree
+s232 = (program ((Trees.Declaration (Trees.Plain (words (at_place 1 1) (Trees.IntegerWords I.Int))) ((init_declarator (Trees.Declarator 0 (Trees.DeclaredName (name (codes "f") (at_place 1 5))) (Trees.FunctionSuffix (Trees.Parameter (words (at_place 1 7) Trees.VoidWord) Trees.NoDeclarator Trees.NoParameters) Trees.NoSuffixes)) None) ∷ [])) ∷ (Trees.Declaration (Trees.Plain (words (at_place 1 14) (Trees.IntegerWords I.Int))) ((init_declarator (Trees.Declarator 0 (Trees.DeclaredName (name (codes "y") (at_place 1 18))) Trees.NoSuffixes) (Some (Trees.InitValue (Trees.Call (Trees.Named (name (codes "f") (at_place 1 22))) (at_place 1 23) Trees.NoArguments)))) ∷ [])) ∷ (Trees.Function (Trees.Plain (words (at_place 1 27) (Trees.IntegerWords I.Int))) (Trees.Declarator 0 (Trees.DeclaredName (name (codes "main") (at_place 1 31))) (Trees.FunctionSuffix (Trees.Parameter (words (at_place 1 36) Trees.VoidWord) Trees.NoDeclarator Trees.NoParameters) Trees.NoSuffixes)) (at_place 1 42) (Trees.Perform (Trees.Return (at_place 1 44) (Some (Trees.Integer 0 I.Int (at_place 1 51)))) Trees.Close)) ∷ []) (at_place 1 54))
+
+s232-refused : refusal s232 ≡ Some (record { kind = T.T17; place = at_place 1 22 })
+unfolding convert_to outcome_of negated_of complement_of
+s232-refused = refl
+
+-- int f(void); int main(void) { return (int)f; }
+abbrev s233 : Trees.ProgramTree
+s233 = (program ((Trees.Declaration (Trees.Plain (words (at_place 1 1) (Trees.IntegerWords I.Int))) ((init_declarator (Trees.Declarator 0 (Trees.DeclaredName (name (codes "f") (at_place 1 5))) (Trees.FunctionSuffix (Trees.Parameter (words (at_place 1 7) Trees.VoidWord) Trees.NoDeclarator Trees.NoParameters) Trees.NoSuffixes)) None) ∷ [])) ∷ (Trees.Function (Trees.Plain (words (at_place 1 14) (Trees.IntegerWords I.Int))) (Trees.Declarator 0 (Trees.DeclaredName (name (codes "main") (at_place 1 18))) (Trees.FunctionSuffix (Trees.Parameter (words (at_place 1 23) Trees.VoidWord) Trees.NoDeclarator Trees.NoParameters) Trees.NoSuffixes)) (at_place 1 29) (Trees.Perform (Trees.Return (at_place 1 31) (Some (Trees.Cast (at_place 1 38) (Trees.TypeName (words (at_place 1 39) (Trees.IntegerWords I.Int)) Trees.NoDeclarator) (Trees.Named (name (codes "f") (at_place 1 43)))))) Trees.Close)) ∷ []) (at_place 1 46))
+
+s233-refused : refusal s233 ≡ Some (record { kind = T.T16; place = at_place 1 38 })
+unfolding convert_to outcome_of negated_of complement_of
+s233-refused = refl

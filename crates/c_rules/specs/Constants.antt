@@ -1,20 +1,18 @@
 -- Integer constant expressions and address constants (C17 6.6).
-use Rattle.std.specs.Prelude.{ℕ, Bool, true, false, not, ◌&&◌, ◌||◌, nat_lt, if◌then◌else◌, List, [], ◌∷◌, ◌++◌, Option, Some, None, Result, Ok, Err, ℤ, pos, negsuc, ◌+ℤ◌}
-use Rattle.std.specs.Ordering.{int_eq}
+use Rattle.std.specs.Prelude.{ℕ, Bool, true, false, ◌&&◌, ◌||◌, nat_lt, if◌then◌else◌, List, [], ◌∷◌, ◌++◌, Option, Some, None, Result, Ok, Err, ℤ, pos, negsuc, ◌+ℤ◌}
 use Rattle.c_num.specs.declared.IntType.{IntType}
 use Rattle.c_num.specs.declared.BinOp.{BinOp}
 use Rattle.c_num.specs.declared.ArithUb.{ArithUb}
 use Rattle.c_num.specs.declared.Relation.{Relation}
 use Rattle.c_num.specs.Conversion.{convert_to}
 use Rattle.c_num.specs.Arith.{outcome_of, compare_of}
-use Rattle.c_typed.specs.Types.{CType, Void, Struct, Pointer, same_type}
-use Rattle.c_rules.specs.Names.{contains}
+use Rattle.c_typed.specs.Types.{CType, Pointer, same_type, is_like_void}
 use Rattle.c_rules.specs.Known.{Address, NoAddress, Outside, Element}
 use Rattle.c_rules.specs.declared.constness.Constness.{Constness}
 use Rattle.c_rules.specs.declared.constness.Constness.TheVariants.{NotConstant, Undefined, Constant}
 use Rattle.c_typed.specs.declared.part.Part.{Part}
 use Rattle.c_typed.specs.declared.part.Part.TheVariants as Parts
-use Rattle.c_typed.specs.Values.{Name}
+use Rattle.c_typed.specs.Values.{Name, not_zero}
 
 abbrev pub outcome_constness : Result ℤ ArithUb → Constness
 outcome_constness (Ok value) = Constant value
@@ -45,9 +43,6 @@ truth false = Constant (pos 0)
 
 abbrev pub comparison : Relation → Constness → Constness → Constness
 comparison relation a b = both_constness (λ x y. truth (compare_of relation x y)) a b
-
-abbrev pub not_zero : ℤ → Bool
-not_zero z = not (int_eq z (pos 0))
 
 abbrev pub is_constant : Constness → Bool
 is_constant NotConstant = false
@@ -98,12 +93,6 @@ abbrev pub member_address : Address → ℕ → CType → Address
 member_address NoAddress number c_type = NoAddress
 member_address (Element root steps struct count index) number c_type = if nat_lt index count then Element root (steps ++ Parts.Member index number ∷ []) c_type 1 0 else Outside
 member_address _ number c_type = Outside
-
--- the target is treated as void (a structure that the text never completes is, too)
-abbrev pub is_like_void : List (List ℕ) → CType → Bool
-is_like_void completed Void = true
-is_like_void completed (Struct tag) = not (contains completed tag)
-is_like_void completed _ = false
 
 -- A pointer converts to `T *` where what it points to is a T (this project's rule).
 abbrev pub retyped : List (List ℕ) → CType → Address → Address

@@ -1,6 +1,6 @@
 -- The typed tree of a program that violates no rule.
 use Rattle.std.specs.Prelude.{ℕ, suc, Bool, true, false, nat_le, bytes_eq, if◌then◌else◌, List, [], ◌∷◌, ◌++◌, length, Option, Some, None, ℤ, pos}
-use Rattle.run_theory.specs.declared.ends.Pos.{Pos}
+use Rattle.text_place.specs.declared.place.Pos.{Pos}
 use Rattle.c_num.specs.declared.IntType.{IntType}
 use Rattle.c_num.specs.declared.IntType.TheVariants as I
 use Rattle.c_num.specs.Conversion.{convert_to}
@@ -208,7 +208,9 @@ abbrev mutual
   literals_in (Trees.PostIncrement operand) = literals_in operand
   literals_in (Trees.PostDecrement operand) = literals_in operand
   literals_in (Trees.Prefix operator place operand) = literals_in operand
-  literals_in (Trees.Cast place type_name operand) = literals_in operand
+  literals_in (Trees.SizeofExpr place operand) = literals_in operand
+  literals_in (Trees.SizeofType place type_name) = literals_in_type type_name
+  literals_in (Trees.Cast place type_name operand) = literals_in_type type_name ++ literals_in operand
   literals_in (Trees.Binary operator left right) = literals_in left ++ literals_in right
   literals_in (Trees.Conditional condition taken otherwise) = literals_in condition ++ literals_in taken ++ literals_in otherwise
   literals_in (Trees.Assign operator object value) = literals_in object ++ literals_in value
@@ -217,6 +219,34 @@ abbrev mutual
   pub literals_in_arguments : ArgumentsTree → List LiteralDef
   literals_in_arguments Trees.NoArguments = []
   literals_in_arguments (Trees.Argument value others) = literals_in value ++ literals_in_arguments others
+
+  pub literals_in_type : TypeTree → List LiteralDef
+  literals_in_type (Trees.TypeName words declarator) = literals_in_optional declarator
+
+  pub literals_in_optional : OptionalTree → List LiteralDef
+  literals_in_optional Trees.NoDeclarator = []
+  literals_in_optional (Trees.Declared declarator) = literals_in_declarator declarator
+
+  -- those in lengths of arrays
+  pub literals_in_declarator : DeclaratorTree → List LiteralDef
+  literals_in_declarator (Trees.Declarator stars direct suffixes) = literals_in_direct direct ++ literals_in_suffixes suffixes
+
+  pub literals_in_direct : DirectTree → List LiteralDef
+  literals_in_direct (Trees.Nested declarator) = literals_in_declarator declarator
+  literals_in_direct _ = []
+
+  pub literals_in_suffixes : SuffixesTree → List LiteralDef
+  literals_in_suffixes Trees.NoSuffixes = []
+  literals_in_suffixes (Trees.ArraySuffix length others) = literals_in_length length ++ literals_in_suffixes others
+  literals_in_suffixes (Trees.FunctionSuffix parameters others) = literals_in_parameters parameters ++ literals_in_suffixes others
+
+  pub literals_in_length : LengthTree → List LiteralDef
+  literals_in_length Trees.NoLength = []
+  literals_in_length (Trees.ArrayLength value) = literals_in value
+
+  pub literals_in_parameters : ParametersTree → List LiteralDef
+  literals_in_parameters Trees.NoParameters = []
+  literals_in_parameters (Trees.Parameter words declarator others) = literals_in_optional declarator ++ literals_in_parameters others
 
 abbrev mutual
   pub literals_in_init : InitTree → List LiteralDef
@@ -237,7 +267,7 @@ literals_in_value (Some value) = literals_in value
 
 abbrev pub literals_in_declarators : List InitDeclaratorTree → List LiteralDef
 literals_in_declarators [] = []
-literals_in_declarators (first ∷ others) = literals_in_first first.init ++ literals_in_declarators others
+literals_in_declarators (first ∷ others) = literals_in_declarator first.declarator ++ literals_in_first first.init ++ literals_in_declarators others
 
 abbrev pub literals_in_start : ForTree → List LiteralDef
 literals_in_start Trees.ForNothing = []
@@ -266,14 +296,26 @@ abbrev mutual
 
   pub literals_in_switch : SwitchTree → List LiteralDef
   literals_in_switch Trees.SwitchEnd = []
-  literals_in_switch (Trees.Case place value others) = literals_in_switch others
+  literals_in_switch (Trees.Case place value others) = literals_in value ++ literals_in_switch others
   literals_in_switch (Trees.Default place others) = literals_in_switch others
   literals_in_switch (Trees.SwitchStmt one others) = literals_in_stmt one ++ literals_in_switch others
 
+abbrev pub literals_in_each : List DeclaratorTree → List LiteralDef
+literals_in_each [] = []
+literals_in_each (first ∷ others) = literals_in_declarator first ++ literals_in_each others
+
+abbrev pub literals_in_members : List MemberTree → List LiteralDef
+literals_in_members [] = []
+literals_in_members (member ∷ members) = literals_in_each member.declarators ++ literals_in_members members
+
+abbrev pub literals_in_base : BaseTree → List LiteralDef
+literals_in_base (Trees.Plain words) = []
+literals_in_base (Trees.StructBody place name members) = literals_in_members members
+
 abbrev pub literals_in_items : List ItemTree → List LiteralDef
 literals_in_items [] = []
-literals_in_items (Trees.Declaration base declarators ∷ items) = literals_in_declarators declarators ++ literals_in_items items
-literals_in_items (Trees.Function base declarator place body ∷ items) = literals_in_block body ++ literals_in_items items
+literals_in_items (Trees.Declaration base declarators ∷ items) = literals_in_base base ++ literals_in_declarators declarators ++ literals_in_items items
+literals_in_items (Trees.Function base declarator place body ∷ items) = literals_in_base base ++ literals_in_declarator declarator ++ literals_in_block body ++ literals_in_items items
 
 -- ---- items
 

@@ -1,6 +1,6 @@
 -- The rules of expressions, of the names of types and of declarators (C17 6.5, 6.7.6, 6.7.7).
 use Rattle.std.specs.Prelude.{ℕ, zero, suc, min, Bool, true, false, not, ◌||◌, if◌then◌else◌, List, [], ◌∷◌, length, Option, Some, None, ℤ, pos, neg_ℤ}
-use Rattle.run_theory.specs.declared.ends.Pos.{Pos}
+use Rattle.text_place.specs.declared.place.Pos.{Pos}
 use Rattle.c_num.specs.declared.IntType.TheVariants as I
 use Rattle.c_num.specs.Conversion.{convert_to}
 use Rattle.c_syntax.specs.Trees
@@ -10,7 +10,8 @@ use Rattle.c_rules.specs.declared.violation.Violation.{Violation}
 use Rattle.c_typed.specs.Types
 use Rattle.c_typed.specs.Types.{CType, CTypes, Void, Integer, Pointer, Array, Struct, Function, NoTypes, MoreTypes}
 use Rattle.c_typed.specs.Layouts.{is_complete}
-use Rattle.c_rules.specs.Names.{Scope, Meaning, Library, meaning_of, declares_tag, contains, is_library}
+use Rattle.c_rules.specs.Names.{Scope, Meaning, Library, meaning_of, declares_tag, is_library}
+use Rattle.c_typed.specs.Names.{contains}
 use Rattle.c_rules.specs.Known.{Checked, Known, known_already, give, refuse, also, require, with_known, given, given_two, given_three, unless, as_value, value_of_type, object_at, integer_value, OfLibrary, grouped, NullAddress, Element}
 use Rattle.c_rules.specs.declared.constness.Constness.{Constness}
 use Rattle.c_rules.specs.declared.constness.Constness.TheVariants.{NotConstant, Undefined, Constant}
@@ -187,7 +188,7 @@ abbrev mutual
   expr scope (Trees.Literal bytes place) = give (object_at (Array (Integer I.Char) (suc (length bytes))) (typed.Literal place bytes) (Element (Text place) [] (Array (Integer I.Char) (suc (length bytes))) 1 0))
   expr scope (Trees.Null place) = give (record (value_of_type (Pointer Void) typed.NullPointer) { is_null = true; address = NullAddress })
   expr scope (Trees.EndOfFile place) = give (integer_value Types.int (Constant (neg_ℤ (pos 1))) (typed.Constant (neg_ℤ (pos 1))))
-  expr scope (Trees.Parenthesized place inner) = given (expr scope inner) (λ known. give (record known { typed = grouped known.typed }))
+  expr scope (Trees.Parenthesized place inner) = given (expr scope inner) (λ known. give (record known { typed = grouped (place_of inner) known.typed }))
   expr scope (Trees.Index array index) =
       given_two (as_value (place_of array) (expr scope array)) (as_value (place_of index) (expr scope index)) (Operators.indexed scope (place_of array) (place_of index))
   expr scope (Trees.Call function open_place arguments) =

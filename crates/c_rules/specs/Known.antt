@@ -2,12 +2,13 @@
 -- needed for that.
 use Rattle.std.specs.Prelude.{ℕ, suc, Bool, true, false, not, ◌&&◌, ◌||◌, ◌==◌, nat_lt, nat_le, if◌then◌else◌, List, [], ◌∷◌, ◌++◌, Option, Some, None, pos}
 use Rattle.std.specs.Ordering.{int_eq}
-use Rattle.run_theory.specs.declared.ends.Pos.{Pos}
+use Rattle.text_place.specs.declared.place.Pos.{Pos}
 use Rattle.c_rules.specs.declared.rule.TypeRule.{TypeRule}
 use Rattle.c_rules.specs.declared.rule.TypeRule.TheVariants as T
 use Rattle.c_rules.specs.declared.violation.Violation.{Violation}
 use Rattle.c_rules.specs.declared.constness.Constness.{Constness}
 use Rattle.c_rules.specs.declared.constness.Constness.TheVariants.{NotConstant, Constant}
+use Rattle.c_typed.specs.Places.{is_same_place}
 use Rattle.c_typed.specs.declared.part.Part.{Part}
 use Rattle.c_typed.specs.declared.part.Part.TheVariants as Parts
 use Rattle.c_typed.specs.Values.{Name}
@@ -47,9 +48,6 @@ rule_number T.T24 = 24
 
 abbrev pub is_before : Pos → Pos → Bool
 is_before a b = nat_lt a.line b.line || ((a.line == b.line) && nat_lt a.column b.column)
-
-abbrev pub is_same_place : Pos → Pos → Bool
-is_same_place a b = (a.line == b.line) && (a.column == b.column)
 
 abbrev pub comes_first : Violation → Violation → Bool
 comes_first a b = is_before a.place b.place || (is_same_place a.place b.place && nat_le (rule_number a.kind) (rule_number b.kind))
@@ -167,10 +165,15 @@ value_address (OfObject object) (Array element length) stored = first_element st
 value_address (OfObject object) _ stored = NoAddress
 value_address _ _ stored = stored
 
+-- where an object that begins at the place is read: one in parentheses where that in them is
+abbrev pub read_place : Pos → Object → Pos
+read_place place (GroupedObject inner_place inner) = inner_place
+read_place place _ = place
+
 -- the value of a typed tree, which may be that of an array
 abbrev pub value_of_typed : Pos → Bool → TypedExpr → Value
 value_of_typed place is_array (OfValue value) = value
-value_of_typed place is_array (OfObject object) = if is_array then Decay place object else Read place object
+value_of_typed place is_array (OfObject object) = if is_array then Decay (read_place place object) object else Read (read_place place object) object
 value_of_typed place is_array (OfFunction function) = FunctionValue function
 value_of_typed place is_array (OfLibrary function groups) = NullPointer
 
@@ -199,9 +202,9 @@ value_in known = value_from known_place known.c_type known.typed
     known_place : Pos
     known_place = record { line = 1; column = 1 }
 
--- in parentheses
-abbrev pub grouped : TypedExpr → TypedExpr
-grouped (OfValue value) = OfValue (Grouped value)
-grouped (OfObject object) = OfObject (GroupedObject object)
-grouped (OfFunction function) = OfFunction (GroupedFunction function)
-grouped (OfLibrary function groups) = OfLibrary function (suc groups)
+-- in parentheses; its own first token stands at the place
+abbrev pub grouped : Pos → TypedExpr → TypedExpr
+grouped place (OfValue value) = OfValue (Grouped value)
+grouped place (OfObject object) = OfObject (GroupedObject (read_place place object) object)
+grouped place (OfFunction function) = OfFunction (GroupedFunction function)
+grouped place (OfLibrary function groups) = OfLibrary function (suc groups)

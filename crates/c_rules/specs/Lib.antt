@@ -8,8 +8,3 @@ pub mod Initializers
 pub mod Statements
 pub mod Programs
 pub mod Elaborated
-pub mod Finding
-pub mod NameTables
-pub mod LocalTables
-pub mod Checkers
-pub mod Staying

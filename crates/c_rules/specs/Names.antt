@@ -38,10 +38,6 @@ pub data Meaning : Type 0 where
   Outer : (c_type : Option CType) → Meaning
   Library : (function : LibraryFunction) (c_type : CType) → Meaning
 
-abbrev pub contains : List (List ℕ) → List ℕ → Bool
-contains [] name = false
-contains (first ∷ others) name = bytes_eq first name || contains others name
-
 -- Is the tag declared no later than there?
 abbrev pub declares_tag : List NameTree → NameTree → Bool
 declares_tag [] use_of = false

@@ -1,6 +1,6 @@
 -- What the operators ask of their operands, and what they give (C17 6.5), where the operands are known.
 use Rattle.std.specs.Prelude.{ℕ, Bool, true, false, not, ◌&&◌, ◌||◌, if◌then◌else◌, List, [], ◌∷◌, ◌++◌, Option, Some, None, pos, neg_ℤ, bytes_eq, ◌+◌}
-use Rattle.run_theory.specs.declared.ends.Pos.{Pos}
+use Rattle.text_place.specs.declared.place.Pos.{Pos}
 use Rattle.c_num.specs.declared.IntType.{IntType}
 use Rattle.c_num.specs.declared.IntType.TheVariants as I
 use Rattle.c_num.specs.declared.BinOp.{BinOp}
@@ -21,7 +21,8 @@ use Rattle.c_rules.specs.declared.violation.Violation.{Violation}
 use Rattle.c_typed.specs.Types
 use Rattle.c_typed.specs.Types.{CType, CTypes, Void, Integer, Pointer, Array, Struct, Function, NoTypes, MoreTypes}
 use Rattle.c_typed.specs.Layouts.{MemberDef, is_complete, layout_of, members_by_tag}
-use Rattle.c_rules.specs.Names.{Scope, Meaning, NoMeaning, Local, Outer, Library, meaning_of, contains}
+use Rattle.c_rules.specs.Names.{Scope, Meaning, NoMeaning, Local, Outer, Library, meaning_of}
+use Rattle.c_typed.specs.Names.{contains}
 use Rattle.c_rules.specs.Known
 use Rattle.c_rules.specs.Known.{Checked, Known, TypedExpr, OfValue, OfObject, OfFunction, OfLibrary, value_in, value_of_typed, give, unknown, refuse, also, require, with_known, given, given_two, given_three, at, unless, as_value, value_of_type, object_at, integer_value, Address, NoAddress, NullAddress, FunctionAddress}
 use Rattle.c_rules.specs.declared.constness.Constness.{Constness}
@@ -55,6 +56,10 @@ converted place (Pointer target) known =
     else if Types.same_type (Pointer target) known.c_type then value_in known
     else typed.Repointed place target (value_in known)
 converted place c_type known = value_in known
+
+-- a value that is left as it is, but for a null pointer constant
+abbrev pub unconverted_value : Known → Value
+unconverted_value known = if known.is_null then typed.MadeNull (value_in known) else value_in known
 
 -- the value of a call may be left unused there
 abbrev pub dropped : Value → Value
@@ -110,10 +115,10 @@ abbrev pub of_type : Option CType → (CType → Checked Known) → Checked Know
 of_type None rule = unknown
 of_type (Some c_type) rule = rule c_type
 
--- a function outside, which has to be defined somewhere, or an object
+-- A function outside, which has to be defined somewhere, or an object. One that is not has its declared type all the same.
 abbrev pub outer_name : Scope → NameTree → CType → Checked Known
 outer_name scope name (Function result parameters) =
-    require (contains scope.defined name.bytes) T.T23 name.place
+    also (unless (contains scope.defined name.bytes) T.T23 name.place)
     (give (record { c_type = Function result parameters; typed = OfFunction (typed.Function name.bytes); constness = NotConstant; is_null = false; address = FunctionAddress name.bytes }))
 outer_name scope name c_type = give (object_at c_type (typed.Global name.bytes) (Known.Element (values.Outer name.bytes) [] c_type 1 0))
 
@@ -236,7 +241,7 @@ stepped scope stepping whole operand_place operand =
     (give (value_of_type object.c_type (step_value stepping whole object.c_type (object_in object.typed))))))
 
 abbrev pub not_constness : Constness → Constness
-not_constness constness = Constants.map_constness (λ z. Constants.truth (not (Constants.not_zero z))) constness
+not_constness constness = Constants.map_constness (λ z. Constants.truth (not (values.not_zero z))) constness
 
 abbrev pub logical_not : Condition → Known
 logical_not operand = integer_value Types.int (not_constness operand.constness) (typed.Not operand.test)
@@ -277,14 +282,15 @@ size_of scope place c_type = require (is_complete scope.structs c_type) T.T05 pl
 abbrev pub cast_pointer : Pos → CType → Known → Value
 cast_pointer whole target value = if Types.is_function target then value_in value else typed.Repointed whole target (value_in value)
 
--- a cast (C17 6.5.4)
+-- A cast (C17 6.5.4): an integer constant of value 0 that is cast to `void *` is a null pointer constant, a pointer that is cast
+-- is none (C17 6.3.2.3 paragraph 3).
 abbrev pub cast_to : Scope → Pos → CType → Known → Checked Known
 cast_to scope whole Void value = give (value_of_type Void (typed.CastVoid (dropped (value_in value))))
 cast_to scope whole (Integer int_type) value =
     require (Types.is_integer value.c_type) T.T16 whole
     (give (integer_value (Integer int_type) (Constants.converted int_type value.constness) (typed.Cast (typed.Converted int_type (value_in value)))))
 cast_to scope whole (Pointer target) value =
-    if value.is_null then give (record (value_of_type (Pointer target) (typed.Cast (typed.MadeNull (value_in value)))) { is_null = Types.is_void target; address = NullAddress })
+    if value.is_null then give (record (value_of_type (Pointer target) (typed.Cast (typed.MadeNull (value_in value)))) { is_null = Types.is_void target && Types.is_integer value.c_type; address = NullAddress })
     else require ((Types.is_object_pointer (Pointer target) && Types.is_object_pointer value.c_type) || (Types.is_function_pointer (Pointer target) && Types.is_function_pointer value.c_type)) T.T16 whole
     (give (record (value_of_type (Pointer target) (typed.Cast (cast_pointer whole target value))) { address = Constants.address_as scope.completed (Pointer target) value.address }))
 cast_to scope whole _ value = refuse T.T16 whole
@@ -356,12 +362,12 @@ agreed_pointer a b =
     else if Types.same_type a.c_type b.c_type then a.c_type
     else Pointer Void
 
--- `==` and `!=` (C17 6.5.9)
+-- `==` and `!=` (C17 6.5.9): neither pointer is converted to the type of the other
 abbrev pub equated : Relation → Pos → Known → Known → Checked Known
 equated relation whole a b =
     if both_integers a b then compared relation a b
     else require (pointers_agree a b) T.T11 whole
-    (give (value_of_type Types.int (typed.ComparePointers relation whole (converted whole (agreed_pointer a b) a) (converted whole (agreed_pointer a b) b))))
+    (give (value_of_type Types.int (typed.ComparePointers relation whole (unconverted_value a) (unconverted_value b))))
 
 -- `&&` and `||` (C17 6.5.13, 6.5.14)
 abbrev pub both : Condition → Condition → Known
@@ -527,13 +533,13 @@ passed whole (MoreTypes first others) (argument ∷ arguments) =
 passed whole _ _ = give typed.NoValues
 
 -- what `free` is given needs no conversion
-abbrev pub unconverted_value : Option Known → Value
-unconverted_value None = typed.NullPointer
-unconverted_value (Some known) = if known.is_null then typed.MadeNull (value_in known) else value_in known
+abbrev pub unconverted_argument : Option Known → Value
+unconverted_argument None = typed.NullPointer
+unconverted_argument (Some known) = unconverted_value known
 
 abbrev pub unconverted : List ArgumentValue → Values
 unconverted [] = typed.NoValues
-unconverted (argument ∷ arguments) = typed.MoreValues (unconverted_value argument.value) (unconverted arguments)
+unconverted (argument ∷ arguments) = typed.MoreValues (unconverted_argument argument.value) (unconverted arguments)
 
 abbrev pub is_free : TypedExpr → Bool
 is_free (OfLibrary L.Free groups) = true

@@ -1,6 +1,6 @@
 -- The rules of programs (C17 6.9), and what a program violates.
 use Rattle.std.specs.Prelude.{ℕ, Bool, true, false, not, ◌&&◌, ◌||◌, if◌then◌else◌, List, [], ◌∷◌, ◌++◌, Option, Some, None, bytes_eq, codes}
-use Rattle.run_theory.specs.declared.ends.Pos.{Pos}
+use Rattle.text_place.specs.declared.place.Pos.{Pos}
 use Rattle.c_syntax.specs.Trees
 use Rattle.c_syntax.specs.Trees.{NameTree, WordsTree, SimpleTree, ExprTree, ArgumentsTree, TypeTree, OptionalTree, DeclaratorTree, DirectTree, SuffixesTree, LengthTree, ParametersTree, InitTree, InitsTree, InitDeclaratorTree, MemberTree, BaseTree, ItemTree, BlockTree, ProgramTree}
 use Rattle.c_rules.specs.declared.rule.TypeRule.TheVariants as T
@@ -8,7 +8,8 @@ use Rattle.c_rules.specs.declared.violation.Violation.{Violation}
 use Rattle.c_typed.specs.Types
 use Rattle.c_typed.specs.Types.{CType, Void, Integer, Struct, Function, NoTypes, same_type}
 use Rattle.c_typed.specs.Layouts.{MemberDef, is_complete, members_by_tag}
-use Rattle.c_rules.specs.Names.{Scope, FileName, file_name, is_library, contains, with_local, in_function, with_file_name}
+use Rattle.c_rules.specs.Names.{Scope, FileName, file_name, is_library, with_local, in_function, with_file_name}
+use Rattle.c_typed.specs.Names.{contains}
 use Rattle.c_rules.specs.Known.{Checked, also, require, given, at, unless, give, least}
 use Rattle.c_rules.specs.Expressions.{LengthRole, Required, Adjusted, Initialized, words_type, declared_type, optional_type, declared_name, optional_name, name_place, is_void_alone, adds, parameter_type}
 use Rattle.c_rules.specs.Initializers.{first_of, initial_length}

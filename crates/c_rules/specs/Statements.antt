@@ -1,7 +1,7 @@
 -- The rules of declarations in blocks and of statements (C17 6.7, 6.8).
 use Rattle.std.specs.Prelude.{Bool, true, false, not, ◌||◌, if◌then◌else◌, List, [], ◌∷◌, ◌++◌, Option, Some, None, ℤ}
 use Rattle.std.specs.Ordering.{int_eq}
-use Rattle.run_theory.specs.declared.ends.Pos.{Pos}
+use Rattle.text_place.specs.declared.place.Pos.{Pos}
 use Rattle.c_num.specs.declared.IntType.{IntType}
 use Rattle.c_num.specs.Types.{promoted}
 use Rattle.c_num.specs.Conversion.{convert_to}
@@ -65,15 +65,15 @@ declaration scope tree =
 
 -- What surrounds a statement: the result of its function, where that has a type, and whether `break` and `continue` may
 -- stand there (C17 6.8.6).
-pub record Around : Type 0 where
+pub record FunctionContext : Type 0 where
   pub result : Option CType
   pub may_break : Bool
   pub may_continue : Bool
 
-abbrev pub within_loop : Around → Around
+abbrev pub within_loop : FunctionContext → FunctionContext
 within_loop around = record around { may_break = true; may_continue = true }
 
-abbrev pub within_switch : Around → Around
+abbrev pub within_switch : FunctionContext → FunctionContext
 within_switch around = record around { may_break = true }
 
 abbrev pub value_rules : Scope → ExprTree → List Violation
@@ -131,7 +131,7 @@ for_start scope (Trees.ForExpression value) = record { found = value_rules scope
 for_start scope (Trees.ForDeclaration tree) = declaration scope tree
 
 abbrev mutual
-  pub stmt : Scope → Around → StmtTree → List Violation
+  pub stmt : Scope → FunctionContext → StmtTree → List Violation
   stmt scope around (Trees.BlockStmt place items) = block (entered scope) around items
   stmt scope around (Trees.Empty place) = []
   stmt scope around (Trees.Expression value) = value_rules scope value
@@ -149,12 +149,12 @@ abbrev mutual
   stmt scope around (Trees.Continue place) = unless around.may_continue T.T20 place
   stmt scope around (Trees.Return place value) = return_rules scope around.result place value
 
-  pub block : Scope → Around → BlockTree → List Violation
+  pub block : Scope → FunctionContext → BlockTree → List Violation
   block scope around Trees.Close = []
   block scope around (Trees.Declare tree others) = let passed = declaration scope tree in passed.found ++ block passed.scope around others
   block scope around (Trees.Perform one others) = stmt scope around one ++ block scope around others
 
-  pub switch_items : Scope → Around → Option IntType → List ℤ → Bool → SwitchTree → List Violation
+  pub switch_items : Scope → FunctionContext → Option IntType → List ℤ → Bool → SwitchTree → List Violation
   switch_items scope around int_type labels has_default Trees.SwitchEnd = []
   switch_items scope around int_type labels has_default (Trees.Case place value others) =
       let stated = as_constant (place_of value) (expr scope value) in

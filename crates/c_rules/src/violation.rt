@@ -1,10 +1,11 @@
 // Violations of type rules.
 
 ghost use Rattle.std.specs.Prelude.{◌≡◌};
-ghost use Rattle.c_rules.specs.Known.{is_before, is_same_place, rule_number};
+ghost use Rattle.c_rules.specs.Known.{is_before, rule_number};
+ghost use Rattle.c_typed.specs.Places.{is_same_place};
 
 use crate::rule::TypeRule;
-use run_theory::Pos;
+use text_place::Pos;
 
 /// A type rule, and where it is violated.
 #[derive(Clone, Copy, Debug, PartialEq, Eq)]

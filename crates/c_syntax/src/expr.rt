@@ -4,7 +4,7 @@ use crate::name::Name;
 use crate::operator::{AssignOperator, BinaryOperator, PrefixOperator};
 use byte_string::ByteString;
 use c_num::IntType;
-use run_theory::Pos;
+use text_place::Pos;
 
 /// An expression (C17 6.5). Where its first token is one of its own, it holds the place of that token.
 #[cycle(expr)]

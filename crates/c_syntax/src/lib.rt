@@ -17,5 +17,5 @@ pub use declaration::{Base, Declaration, Init, InitDeclarator, Item, Member, Pro
 pub use expr::{Declarator, Direct, Expr, Parameter, Simple, SimpleKind, Suffix, TypeName};
 pub use name::Name;
 pub use operator::{AssignOperator, BinaryOperator, PrefixOperator};
-pub use run_theory::Pos;
 pub use statement::{Block, BlockItem, ForFirst, Stmt, SwitchItem};
+pub use text_place::Pos;

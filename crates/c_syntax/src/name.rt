@@ -1,7 +1,7 @@
 // Names.
 
 use byte_string::ByteString;
-use run_theory::Pos;
+use text_place::Pos;
 
 /// A name (C17 6.4.2.1) and its place.
 #[derive(Debug, Drop)]

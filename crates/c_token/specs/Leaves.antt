@@ -1,7 +1,7 @@
 -- What the grammar sees of tokens: each is a leaf, of a kind.
 use Rattle.std.specs.Prelude.{ℕ, List, [], ◌∷◌, map}
-use Rattle.run_theory.specs.declared.ends.Pos.{Pos}
-use Rattle.run_theory.specs.Places.{first_place}
+use Rattle.text_place.specs.declared.place.Pos.{Pos}
+use Rattle.text_place.specs.Places.{first_place}
 use Rattle.c_grammar.specs.declared.kind.Kind.{Kind}
 use Rattle.c_grammar.specs.declared.kind.Kind.TheVariants as K
 use Rattle.c_num.specs.declared.IntType.TheVariants.{Int}

@@ -6,7 +6,7 @@ ghost use Rattle.c_token.specs.Leaves.{kind_of_symbol, kind_of_lexeme};
 use byte_string::ByteString;
 use c_grammar::Kind;
 use c_num::IntType;
-use run_theory::Pos;
+use text_place::Pos;
 
 /// A token that has one spelling: a word or punctuator of the grammar.
 #[derive(Clone, Copy, Debug, PartialEq, Eq)]

@@ -17,3 +17,4 @@ mod Structures
 mod Tags
 pub mod TypedStays
 pub mod StatementsStay
+pub mod StatementItems

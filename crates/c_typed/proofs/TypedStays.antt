@@ -1,6 +1,6 @@
 -- What a typed tree stands for stays while a table grows. A vector in a tree shows as a row, which stands for what its items do.
 use Rattle.std.proofs.Common.{◌≡◌, ℕ, Bool, List, [], ◌∷◌, Box, Vec, Global, refl, sym, ap, subst, ◌∙◌}
-use Rattle.run_theory.specs.declared.ends.Pos.{Pos}
+use Rattle.text_place.specs.declared.place.Pos.{Pos}
 use Rattle.c_typed.specs.declared.c_type.CType as number
 use Rattle.c_typed.specs.declared.typed.LibraryFunction.{LibraryFunction}
 use Rattle.c_typed.specs.declared.typed.Designator.TheBlock.{hidden-the_row-Value-0, items_hidden-the_row-Value-0, items-the_row-Value}
@@ -143,9 +143,9 @@ module _ (old new : Interned) (grows : Grows old new) where
     object_stays (O.Literal place bytes c_type) h =
         let kept = stays old new grows c_type h.0 in
         ((kept.0, kept.1 ∙ h.1), refl)
-    object_stays (O.Grouped' p inner) h =
+    object_stays (O.Grouped' place p inner) h =
         let kept = object_stays inner h in
-        (kept.0, ap Typed.GroupedObject kept.1)
+        (kept.0, ap (Typed.GroupedObject place) kept.1)
     object_stays (O.Pointed' place p pointer) h =
         let kept = value_stays pointer h in
         (kept.0, ap (Typed.Pointed place) kept.1)

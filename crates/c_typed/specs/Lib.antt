@@ -1,3 +1,5 @@
+pub mod Names
+pub mod Places
 pub mod Types
 pub mod Layouts
 pub mod Table

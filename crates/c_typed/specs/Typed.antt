@@ -1,7 +1,7 @@
 -- The typed tree of a program: names are resolved, and conversions, reads of objects and uses of calls are nodes of their
 -- own. Each node but those marked free stands for one of the text.
 use Rattle.std.specs.Prelude.{ℕ, Bool, List, Option, ℤ}
-use Rattle.run_theory.specs.declared.ends.Pos.{Pos}
+use Rattle.text_place.specs.declared.place.Pos.{Pos}
 use Rattle.c_num.specs.declared.IntType.{IntType}
 use Rattle.c_num.specs.declared.BinOp.{BinOp}
 use Rattle.c_num.specs.declared.Relation.{Relation}
@@ -60,7 +60,8 @@ mutual
     Local : (number : ℕ) → Object
     Global : (name : List ℕ) → Object
     Literal : (place : Pos) (bytes : List ℕ) → Object
-    GroupedObject : (inner : Object) → Object
+    -- in parentheses; the place is where its value is read
+    GroupedObject : (place : Pos) (inner : Object) → Object
     Pointed : (place : Pos) (pointer : Value) → Object
     Element : (place : Pos) (pointer number : Value) → Object
     ElementOf : (place : Pos) (number pointer : Value) → Object

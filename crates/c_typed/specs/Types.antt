@@ -4,6 +4,7 @@ use Rattle.std.specs.Bool.{beq}
 use Rattle.c_num.specs.declared.IntType.{IntType}
 use Rattle.c_num.specs.declared.IntType.TheVariants as I
 use Rattle.c_num.specs.Types.{width_of, is_signed}
+use Rattle.c_typed.specs.Names.{contains}
 
 mutual
   pub data CType : Type 0 where
@@ -53,6 +54,12 @@ is_integer _ = false
 abbrev pub is_void : CType → Bool
 is_void Void = true
 is_void _ = false
+
+-- treated as void: a structure that the text never completes is, too
+abbrev pub is_like_void : List (List ℕ) → CType → Bool
+is_like_void completed Void = true
+is_like_void completed (Struct tag) = not (contains completed tag)
+is_like_void completed _ = false
 
 abbrev pub is_array : CType → Bool
 is_array (Array element length) = true

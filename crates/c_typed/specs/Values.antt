@@ -1,6 +1,7 @@
 -- Values, places and objects (C17 6.2.4, 6.2.6).
-use Rattle.std.specs.Prelude.{ℕ, Bool, List, ℤ}
-use Rattle.run_theory.specs.declared.ends.Pos.{Pos}
+use Rattle.std.specs.Prelude.{ℕ, Bool, not, List, ℤ, pos}
+use Rattle.std.specs.Ordering.{int_eq}
+use Rattle.text_place.specs.declared.place.Pos.{Pos}
 use Rattle.c_typed.specs.declared.part.Part.{Part}
 use Rattle.c_typed.specs.Types.{CType}
 
@@ -42,3 +43,6 @@ pub data Content : Type 0 where
   Dead : Content
   Raw : (size : ℕ) → Content
   Row : (is_static : Bool) (c_type : CType) (count : ℕ) (held : List Held) → Content
+
+abbrev pub not_zero : ℤ → Bool
+not_zero z = not (int_eq z (pos 0))

@@ -53,7 +53,7 @@ abbrev mutual
   object_in table (O.Local number) = Typed.Local number
   object_in table (O.Global name) = Typed.Global name
   object_in table (O.Literal place bytes c_type) = Typed.Literal place bytes
-  object_in table (O.Grouped' p inner) = Typed.GroupedObject (object_in table inner)
+  object_in table (O.Grouped' place p inner) = Typed.GroupedObject place (object_in table inner)
   object_in table (O.Pointed' place p pointer) = Typed.Pointed place (value_in table pointer)
   object_in table (O.Element' place p pointer q number) = Typed.Element place (value_in table pointer) (value_in table number)
   object_in table (O.ElementOf' place p number q pointer) = Typed.ElementOf place (value_in table number) (value_in table pointer)
@@ -118,7 +118,7 @@ abbrev mutual
   ObjectStands table (O.Local number) = Unit {0}
   ObjectStands table (O.Global name) = Unit {0}
   ObjectStands table (O.Literal place bytes c_type) = Stands table c_type × (type_in table c_type ≡ Array (Integer I.Char) (suc (length bytes)))
-  ObjectStands table (O.Grouped' p inner) = ObjectStands table inner
+  ObjectStands table (O.Grouped' place p inner) = ObjectStands table inner
   ObjectStands table (O.Pointed' place p pointer) = ValueStands table pointer
   ObjectStands table (O.Element' place p pointer q number) = ValueStands table pointer × ValueStands table number
   ObjectStands table (O.ElementOf' place p number q pointer) = ValueStands table number × ValueStands table pointer

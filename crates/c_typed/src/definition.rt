@@ -6,7 +6,7 @@ use crate::statement::BlockItem;
 use crate::type_table::TypeTable;
 use byte_string::ByteString;
 use c_num::IntType;
-use run_theory::Pos;
+use text_place::Pos;
 
 /// An object that lives as long as the program (C17 6.2.4 paragraph 3).
 #[derive(Drop)]

@@ -11,8 +11,6 @@ mod extent;
 mod part;
 mod statement;
 mod structure;
-#[cfg(test)]
-mod tests;
 mod type_table;
 mod typed;
 

@@ -195,6 +195,13 @@ impl TypeTable {
         requires b { Stands self.now b }
         ensures { result ≡ same_type (type_in self.now a) (type_in self.now b) }
     {
+        self.are_same(a, b)
+    }
+
+    /// The same of any two numbers, of which nothing is said where one stands for no type.
+    pub fn are_same(&self, a: CType, b: CType) -> bool
+        ensures { Stands self.now a → Stands self.now b → result ≡ same_type (type_in self.now a) (type_in self.now b) }
+    {
         let _ = &self.alloc;
         a == b
     }

@@ -3,7 +3,7 @@
 use crate::c_type::CType;
 use byte_string::ByteString;
 use c_num::{BinOp, IntType, Relation};
-use run_theory::Pos;
+use text_place::Pos;
 
 /// The library functions (C17 7.21.7, 7.22.3, 7.22.4.4).
 #[derive(Clone, Copy, Debug, PartialEq, Eq)]
@@ -205,8 +205,11 @@ pub enum Object {
         bytes: ByteString,
         c_type: CType,
     },
-    /// An object in parentheses.
-    Grouped(Box<Object>),
+    /// An object in parentheses. Its value is read at the place of what stands in them.
+    Grouped {
+        place: Pos,
+        inner: Box<Object>,
+    },
     /// What a pointer points to (C17 6.5.3.2).
     Pointed {
         place: Pos,

@@ -2,7 +2,7 @@
 use Rattle.std.proofs.Common.{◌≡◌, ℕ, ◌+◌, ◌-◌, false, if◌then◌else◌, List, [], ◌∷◌, ◌++◌, length, take, Option, Some, None, option_map, is_some, Vec, Global, Bor, refl, sym, ap, ◌∙◌, arith, length-append, take_at}
 use Rattle.std.proofs.lemmas.Bool.{false≢true}
 use Rattle.std.proofs.lemmas.Option.{none-some, same_Some}
-use Rattle.run_theory.specs.declared.ends.Pos.{Pos}
+use Rattle.text_place.specs.declared.place.Pos.{Pos}
 use Rattle.c_syntax.specs.declared.declaration.Init.{Init}
 use Rattle.c_syntax.specs.declared.declaration.Init.TheVariants as I
 use Rattle.c_syntax.specs.Trees as Trees
@@ -21,12 +21,12 @@ use Rattle.c_typed.specs.Table.{Interned, type_in, known_in, Grows, TagStands, t
 use Rattle.c_typed.specs.DefinitionViews.{all_first}
 use Rattle.c_typed.proofs.Grown.{tag_stays}
 use Rattle.c_rules.specs.Names.{Scope}
-use Rattle.c_rules.specs.Finding.{each_in}
+use Rattle.c_types_state.specs.Finding.{each_in}
 use Rattle.c_rules.specs.Initializers as rules
 use Rattle.c_rules.specs.Elaborated as elaborated
 use Rattle.c_types.specs.declared.initializers.Target.{Target}
 use Rattle.c_types.specs.NamedItems.{named_in_init, named_in_inits}
-use Rattle.c_types.specs.FirstValues.{Holds}
+use Rattle.c_types.specs.FirstValues.{HoldsFirst}
 
 -- a literal alone is no text where it is none, or the elements are no characters
 pub no_text-literal : (element : CType) (tree : ExprTree) → rules.literal_alone (Trees.InitValue tree) ≡ None → rules.is_text element (Trees.Inits (Trees.InitValue tree) Trees.NoInits) ≡ false
@@ -60,7 +60,7 @@ popped all old new x n is len taken =
     taken ∙ ap (take (n - 1)) is ∙ take_at old (x ∷ []) (n - 1) (omega arith)
 
 -- the row within, one step further
-pub held-within : {held : List Held} {old pushed mid new : Target} → pushed.first.items ≡ old.first.items → Holds held pushed mid → new.parts.items ≡ old.parts.items → new.first.items ≡ mid.first.items → Holds held old new
+pub held-within : {held : List Held} {old pushed mid new : Target} → pushed.first.items ≡ old.first.items → HoldsFirst held pushed mid → new.parts.items ≡ old.parts.items → new.first.items ≡ mid.first.items → HoldsFirst held old new
 held-within {held = held} same holds parts first =
     record { parts = parts; first = ap all_first first ∙ holds.first ∙ ap (λ firsts. all_first firsts ++ held) same }
 

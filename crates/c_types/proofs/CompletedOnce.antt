@@ -9,11 +9,11 @@ use Rattle.c_syntax.specs.declared.declaration.Base.TheVariants as O
 use Rattle.c_syntax.specs.declared.declaration.Item.{Item}
 use Rattle.c_syntax.specs.declared.declaration.Item.TheVariants as P
 use Rattle.c_syntax.specs.Views.{base_tree, item_tree}
-use Rattle.c_rules.specs.Names.{contains}
-use Rattle.c_rules.specs.NameTables.{with_once}
-use Rattle.c_rules.specs.Checkers.{names_of}
+use Rattle.c_typed.specs.Names.{contains}
+use Rattle.c_types_state.specs.NameTables.{with_once}
+use Rattle.c_types_state.specs.Checkers.{names_of}
 use Rattle.c_rules.specs.Programs.{each_once, completed_by, completed_in}
-use Rattle.c_rules.proofs.Named.{contains_names, names_with}
+use Rattle.c_types_state.proofs.Named.{contains_names, names_with}
 
 -- ---- items
 

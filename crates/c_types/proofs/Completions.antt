@@ -1,6 +1,6 @@
 -- A pass over a structure with its members, which completes it.
 use Rattle.std.proofs.Common.{◌≡◌, ℕ, Bool, true, false, not, if◌then◌else◌, List, [], ◌∷◌, ◌++◌, map, Option, Some, None, refl, sym, ap, subst, ◌∙◌}
-use Rattle.run_theory.specs.declared.ends.Pos.{Pos}
+use Rattle.text_place.specs.declared.place.Pos.{Pos}
 use Rattle.c_syntax.specs.Trees.{NameTree, MemberTree}
 use Rattle.c_typed.specs.declared.c_type.CType as number
 use Rattle.c_typed.specs.declared.c_type.StructId as tag
@@ -14,14 +14,14 @@ use Rattle.c_rules.specs.declared.violation.Violation.{Violation}
 use Rattle.c_rules.specs.declared.rule.TypeRule.TheVariants as T
 use Rattle.c_rules.specs.Known.{give, unless}
 use Rattle.c_rules.specs.Names.{Scope}
-use Rattle.c_rules.specs.NameTables.{State, scope_of}
-use Rattle.c_rules.specs.Finding.{Finds, IsType, noted}
+use Rattle.c_types_state.specs.NameTables.{State, scope_of}
+use Rattle.c_types_state.specs.Finding.{Finds, IsType, noted}
 use Rattle.c_rules.specs.Programs.{all_members, is_completed_before, with_struct}
-use Rattle.c_check.specs.declared.pass.Pass.{Pass}
-use Rattle.c_check.specs.declared.pass.NamedType as memory_named
-use Rattle.c_check.specs.Named.{NamedType, named_at}
-use Rattle.c_check.specs.Passes.{named_type, AllNamedStand, Names}
-use Rattle.c_check.proofs.Passing.{with_checker}
+use Rattle.c_types_expressions.specs.declared.pass.Pass.{Pass}
+use Rattle.c_types_expressions.specs.declared.pass.NamedType as memory_named
+use Rattle.c_types_expressions.specs.Named.{NamedType, named_at}
+use Rattle.c_types_expressions.specs.Passes.{named_type, AllNamedStand, Names}
+use Rattle.c_types_expressions.proofs.Passing.{with_checker}
 use Rattle.c_types.specs.NamedItems.{named_in_all_members}
 use Rattle.c_types.specs.Made.{Covers, Reaches}
 use Rattle.c_types.proofs.Covering.{covers-then, covers-finds, covers-noted, covers-same, covers-named}

@@ -1,21 +1,18 @@
 -- Passes over parts of a text, one after another.
-use Rattle.std.proofs.Common.{◌≡◌, Bool, List, [], ◌∷◌, ◌++◌, Option, Some, None, refl, sym, ap, subst, ◌∙◌}
-use Rattle.std.proofs.Common.{append-nil, append_assoc}
-use Rattle.run_theory.specs.declared.ends.Pos.{Pos}
+use Rattle.std.proofs.Common.{◌≡◌, List, [], ◌∷◌, ◌++◌, Option, Some, refl, sym, ap, subst, ◌∙◌}
+use Rattle.std.proofs.Common.{append-nil}
 use Rattle.c_typed.specs.Table.{Interned, Grows}
 use Rattle.c_typed.proofs.Grown.{grows_refl, grows_trans}
-use Rattle.c_rules.specs.declared.rule.TypeRule.{TypeRule}
 use Rattle.c_rules.specs.declared.violation.Violation.{Violation}
 use Rattle.c_rules.specs.Names.{Scope}
-use Rattle.c_rules.specs.Known.{Checked, unless, at}
-use Rattle.c_rules.specs.NameTables.{State, scope_of, Leads}
-use Rattle.c_rules.specs.Finding.{Finds, noted, lesser}
-use Rattle.c_rules.specs.Staying.{Stays}
-use Rattle.c_check.specs.declared.pass.NamedType as memory_named
-use Rattle.c_check.specs.declared.pass.Pass.{Pass}
-use Rattle.c_check.specs.Named.{NamedType}
-use Rattle.c_check.specs.Passes.{Names, Passes}
-use Rattle.c_check.proofs.Naming.{names-none, names-grow, names-then}
+use Rattle.c_rules.specs.Known.{Checked}
+use Rattle.c_types_state.specs.NameTables.{State, scope_of, ScopeGrows}
+use Rattle.c_types_state.specs.Finding.{Finds, noted, lesser}
+use Rattle.c_types_state.specs.Staying.{Stays}
+use Rattle.c_types_expressions.specs.declared.pass.Pass.{Pass}
+use Rattle.c_types_expressions.specs.Named.{NamedType}
+use Rattle.c_types_expressions.specs.Passes.{Names, Passes}
+use Rattle.c_types_expressions.proofs.Naming.{names-none, names-grow, names-then}
 use Rattle.c_types.specs.Made.{Covers, Makes, IsBoth}
 
 -- ---- violations, one list behind another
@@ -77,7 +74,7 @@ covers-noted {s = s} {t = t} found is same =
     }
 
 -- another scope
-pub covers-leads : {s t : Pass} {there : Scope} → Leads there s.checker t.checker → t.named.items ≡ s.named.items → Covers [] [] there s t
+pub covers-leads : {s t : Pass} {there : Scope} → ScopeGrows there s.checker t.checker → t.named.items ≡ s.named.items → Covers [] [] there s t
 covers-leads {s = s} {t = t} leads same =
     record {
       grows = subst (λ (table : Interned). Grows s.checker.table table) (sym leads.table) (grows_refl s.checker.table);

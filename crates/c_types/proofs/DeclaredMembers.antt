@@ -1,34 +1,34 @@
 -- The members of a structure, one after another.
-use Rattle.std.proofs.Common.{◌≡◌, ℕ, ◌+◌, ◌<◌, ◌≤◌, length, drop, get_or, append-nil, Bool, true, false, not, ◌||◌, List, [], ◌∷◌, ◌++◌, map, Option, Some, None, Vec, refl, sym, ap, subst, ◌∙◌}
+use Rattle.std.proofs.Common.{◌≡◌, ℕ, ◌+◌, ◌<◌, ◌≤◌, length, drop, get_or, append-nil, Bool, true, false, not, ◌||◌, List, [], ◌∷◌, ◌++◌, map, Option, Some, None, refl, sym, ap, subst, ◌∙◌}
 use Rattle.std.specs.Prelude.{bytes_eq}
 use Rattle.std.proofs.lemmas.List.{drop_more}
 use Rattle.std.proofs.Math.ListN.{drop_of_length-le}
-use Rattle.run_theory.specs.declared.ends.Pos.{Pos}
-use Rattle.c_syntax.specs.Trees.{NameTree, WordsTree, DeclaratorTree, MemberTree}
+use Rattle.text_place.specs.declared.place.Pos.{Pos}
+use Rattle.c_syntax.specs.Trees.{NameTree, DeclaratorTree, MemberTree}
 use Rattle.c_typed.specs.declared.c_type.CType as number
 use Rattle.c_typed.specs.declared.structure.Member as memory_member
 use Rattle.c_typed.specs.Types.{CType}
 use Rattle.c_typed.specs.Layouts.{MemberDef, is_complete}
 use Rattle.c_typed.specs.Kept.{IsObject}
-use Rattle.c_typed.specs.Table.{Interned, MemberEntry, Grows, Stands, type_in, structs_in, known_in, member_def, member_defs, member_entries, IsCompleteMember, AreComplete}
-use Rattle.c_typed.proofs.Grown.{grows_refl, grows_trans, stays}
-use Rattle.c_rules.specs.declared.violation.Violation.{Violation}
+use Rattle.c_typed.specs.Table.{Interned, MemberEntry, Grows, Stands, type_in, structs_in, known_in, member_defs, member_entries, IsCompleteMember, AreComplete}
+use Rattle.c_typed.proofs.Grown.{stays}
 use Rattle.c_rules.specs.declared.rule.TypeRule.TheVariants as T
 use Rattle.c_rules.specs.Known.{Checked, given, with_known, unless}
-use Rattle.c_rules.specs.Names.{Scope, contains}
-use Rattle.c_rules.specs.NameTables.{State, scope_of}
-use Rattle.c_rules.specs.Checkers.{names_of}
+use Rattle.c_rules.specs.Names.{Scope}
+use Rattle.c_typed.specs.Names.{contains}
+use Rattle.c_types_state.specs.NameTables.{State, scope_of}
+use Rattle.c_types_state.specs.Checkers.{names_of}
 use Rattle.c_rules.specs.Expressions.{Required, declared_type, declared_name, name_place, words_type}
-use Rattle.c_rules.specs.Finding.{Finds, IsType, AllStand, each_in, noted}
+use Rattle.c_types_state.specs.Finding.{Finds, IsType, AllStand, each_in, noted}
 use Rattle.c_rules.specs.Programs.{has_member, member_clash, with_member, declared_members, all_members}
-use Rattle.c_rules.proofs.Findings.{finds-then, finds-known}
-use Rattle.c_check.specs.declared.pass.Pass.{Pass}
-use Rattle.c_check.specs.Derived.{element_rule, IsElement}
-use Rattle.c_check.specs.Named.{NamedType, named_at, named_in_declarator}
-use Rattle.c_check.specs.Passes.{Names, Passes}
-use Rattle.c_check.proofs.Giving.{stands-now}
-use Rattle.c_check.proofs.Naming.{names-grow, names-then}
-use Rattle.c_check.proofs.Passing.{with_checker}
+use Rattle.c_types_state.proofs.Findings.{finds-then, finds-known}
+use Rattle.c_types_expressions.specs.declared.pass.Pass.{Pass}
+use Rattle.c_types_expressions.specs.Derived.{element_rule, IsElement}
+use Rattle.c_types_expressions.specs.Named.{named_at, named_in_declarator}
+use Rattle.c_types_expressions.specs.Passes.{Names, Passes}
+use Rattle.c_types_expressions.proofs.Giving.{stands-now}
+use Rattle.c_types_expressions.proofs.Naming.{names-grow, names-then}
+use Rattle.c_types_expressions.proofs.Passing.{with_checker}
 use Rattle.c_types.specs.declared.structures.Members.{Members}
 use Rattle.c_types.specs.NamedItems.{named_in_members, named_in_all_members}
 use Rattle.c_types.specs.Made.{Covers}

@@ -1,5 +1,5 @@
 -- The parameters of a function's own list.
-use Rattle.std.proofs.Common.{◌≡◌, Bool, true, false, if◌then◌else◌, List, [], ◌∷◌, Box, Vec, Global, refl, sym, ap, ◌∙◌}
+use Rattle.std.proofs.Common.{◌≡◌, Bool, if◌then◌else◌, List, ◌∷◌, Box, Vec, Global, refl, sym, ap, ◌∙◌}
 use Rattle.c_syntax.specs.declared.expr.Declarator.{Declarator}
 use Rattle.c_syntax.specs.declared.expr.Parameter.{Parameter}
 use Rattle.c_syntax.specs.declared.expr.Direct.{Direct, roll-Direct, roll-out-Direct}

@@ -13,7 +13,7 @@ use Rattle.c_typed.specs.DefinitionViews.{global_in, function_in, TypesStand, Fu
 use Rattle.c_typed.proofs.Grown.{stays}
 use Rattle.c_typed.proofs.StatementsStay.{block_stays}
 use Rattle.c_rules.specs.Elaborated.{is_object_type, global_of, with_global, each_global}
-use Rattle.c_rules.specs.Finding.{each_in}
+use Rattle.c_types_state.specs.Finding.{each_in}
 use Rattle.c_types.specs.declared.defined.Defined.{Defined}
 use Rattle.c_types.specs.Outside.{HasDefined}
 

@@ -1,16 +1,15 @@
 -- Names outside functions, and the types that were named with them.
-use Rattle.std.proofs.Common.{◌≡◌, rules, ℕ, Bool, true, false, not, is_none, if◌then◌else◌, List, [], ◌∷◌, ◌++◌, Option, Some, None, refl, sym, ap, subst, ◌∙◌}
+use Rattle.std.proofs.Common.{◌≡◌, rules, ℕ, Bool, true, false, not, is_none, if◌then◌else◌, List, [], ◌∷◌, Option, Some, None, refl, sym, ap, ◌∙◌}
 use Rattle.std.specs.Prelude.{bytes_eq}
 use Rattle.std.proofs.lemmas.Option.{none-some}
 use Rattle.std.proofs.lemmas.Slice.Eq.{bytes_eq-Decides}
 use Rattle.c_typed.specs.declared.c_type.CType as number
-use Rattle.c_typed.specs.Types.{CType}
 use Rattle.c_typed.specs.Table.{Interned, Stands, type_in, KnownStands, known_in, Grows}
 use Rattle.c_typed.proofs.Grown.{stays}
-use Rattle.c_rules.specs.declared.file_name.FileEntry.{FileEntry}
+use Rattle.c_types_state.specs.declared.file_name.FileEntry.{FileEntry}
 use Rattle.c_rules.specs.Names.{FileName, file_name, library_named, is_library}
-use Rattle.c_rules.specs.NameTables.{IsFileEntry, file_row}
-use Rattle.c_rules.specs.Finding.{AllStand, each_in}
+use Rattle.c_types_state.specs.NameTables.{IsFileEntry, file_row}
+use Rattle.c_types_state.specs.Finding.{AllStand, each_in}
 use Rattle.c_types.specs.Outside.{row_of}
 
 -- a type, where there is one, stays while a table grows

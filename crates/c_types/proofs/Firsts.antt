@@ -1,11 +1,11 @@
 -- First values: what is found of them, and what they store.
-use Rattle.std.proofs.Common.{◌≡◌, ℕ, ◌+◌, Bool, true, false, if◌then◌else◌, List, [], ◌∷◌, ◌++◌, Option, Some, None, Result, Ok, Err, OnOk, drop, ◌<◌, length, get_or, refl, sym, ap, subst, ◌∙◌}
+use Rattle.std.proofs.Common.{◌≡◌, ℕ, ◌+◌, Bool, true, if◌then◌else◌, List, [], ◌∷◌, ◌++◌, Result, Ok, Err, OnOk, drop, ◌<◌, length, get_or, refl, sym, ap, subst, ◌∙◌}
 use Rattle.std.proofs.Common.{append-nil, append_assoc}
 use Rattle.std.proofs.lemmas.List.{drop_more}
-use Rattle.run_theory.specs.declared.ends.Pos.{Pos}
+use Rattle.text_place.specs.declared.place.Pos.{Pos}
 use Rattle.c_typed.specs.Table.{Interned}
 use Rattle.c_typed.specs.Types.{CType}
-use Rattle.c_typed.specs.Values.{Held, Scalar}
+use Rattle.c_typed.specs.Values.{Held}
 use Rattle.c_typed.specs.declared.definition.First as memory_first
 use Rattle.c_typed.specs.DefinitionViews.{all_first, first_of}
 use Rattle.c_rules.specs.declared.rule.TypeRule.{TypeRule}
@@ -15,13 +15,12 @@ use Rattle.c_rules.specs.Names.{Scope}
 use Rattle.c_rules.specs.Known.{Known, unless, at}
 use Rattle.c_rules.specs.Operators.{fits}
 use Rattle.c_rules.specs.Initializers.{known_first}
-use Rattle.c_rules.specs.Elaborated as elaborated
-use Rattle.c_rules.specs.NameTables.{State, scope_of}
-use Rattle.c_rules.specs.Finding.{noted, lesser}
-use Rattle.c_check.specs.declared.pass.Pass.{Pass}
-use Rattle.c_check.specs.Named.{NamedType}
+use Rattle.c_types_state.specs.NameTables.{State, scope_of}
+use Rattle.c_types_state.specs.Finding.{noted, lesser}
+use Rattle.c_types_expressions.specs.declared.pass.Pass.{Pass}
+use Rattle.c_types_expressions.specs.Named.{NamedType}
 use Rattle.c_types.specs.declared.initializers.Target.{Target}
-use Rattle.c_types.specs.FirstValues.{Holds, scalar_found}
+use Rattle.c_types.specs.FirstValues.{HoldsFirst, scalar_found}
 use Rattle.c_types.specs.Made.{Covers}
 use Rattle.c_types.proofs.Covering.{covers-none, covers-same, covers-then, covers-noted}
 
@@ -61,11 +60,11 @@ pub all_first-append : (xs ys : List memory_first.First) → all_first (xs ++ ys
 all_first-append [] ys = refl
 all_first-append (x ∷ xs) ys = ap (λ held. first_of x ++ held) (all_first-append xs ys) ∙ sym (append_assoc (first_of x) (all_first xs) (all_first ys))
 
-pub holds-none : (t : Target) → Holds [] t t
+pub holds-none : (t : Target) → HoldsFirst [] t t
 holds-none t = record { parts = refl; first = sym (append-nil (all_first t.first.items)) }
 
 -- one more
-pub holds-one : {held : List Held} {old new : Target} (first : memory_first.First) → new.parts.items ≡ old.parts.items → new.first.items ≡ old.first.items ++ first ∷ [] → first_of first ≡ held → Holds held old new
+pub holds-one : {held : List Held} {old new : Target} (first : memory_first.First) → new.parts.items ≡ old.parts.items → new.first.items ≡ old.first.items ++ first ∷ [] → first_of first ≡ held → HoldsFirst held old new
 holds-one {held = held} {old = old} {new = new} first same is means =
     record {
       parts = same;

@@ -1,7 +1,7 @@
 -- What is made of a function with its body.
 use Rattle.std.proofs.Common.{◌≡◌, ℕ, ◌≤◌, arith, length, true, false, List, [], ◌∷◌, ◌++◌, map, Option, Some, None, Vec, Global, unwrap_or, refl, sym, ap, subst, ◌∙◌}
 use Rattle.std.proofs.Common.{append-nil, append_assoc}
-use Rattle.run_theory.specs.declared.ends.Pos.{Pos}
+use Rattle.text_place.specs.declared.place.Pos.{Pos}
 use Rattle.c_syntax.specs.Trees.{NameTree, DeclaratorTree, BlockTree}
 use Rattle.c_typed.specs.declared.c_type.CType as number
 use Rattle.c_typed.specs.declared.statement.BlockItem as memory_item
@@ -16,16 +16,16 @@ use Rattle.c_typed.proofs.StatementsStay.{block_stays}
 use Rattle.c_rules.specs.Names.{Scope}
 use Rattle.c_rules.specs.Known.{Checked, with_known}
 use Rattle.c_rules.specs.Expressions.{Required, declared_type}
-use Rattle.c_rules.specs.Statements.{Around, block}
+use Rattle.c_rules.specs.Statements.{FunctionContext, block}
 use Rattle.c_rules.specs.Programs.{Filed, declare_outside, own_parameters, entered_function, result_of, function_item}
 use Rattle.c_rules.specs.Elaborated.{type_or_void, defined_function}
 use Rattle.c_rules.specs.Elaborated as elaborated
-use Rattle.c_rules.specs.NameTables.{State, scope_of, Leads}
-use Rattle.c_rules.specs.Finding.{Finds, AllStand, IsType, each_in}
-use Rattle.c_rules.specs.Staying.{Stays}
-use Rattle.c_check.specs.declared.pass.Pass.{Pass}
-use Rattle.c_check.specs.Named.{NamedType, named_at, named_in_declarator}
-use Rattle.c_check.specs.Passes.{Names, Passes}
+use Rattle.c_types_state.specs.NameTables.{State, scope_of, ScopeGrows}
+use Rattle.c_types_state.specs.Finding.{Finds, AllStand, IsType, each_in}
+use Rattle.c_types_state.specs.Staying.{Stays}
+use Rattle.c_types_expressions.specs.declared.pass.Pass.{Pass}
+use Rattle.c_types_expressions.specs.Named.{NamedType, named_at, named_in_declarator}
+use Rattle.c_types_expressions.specs.Passes.{Names, Passes}
 use Rattle.c_types.specs.declared.defined.Defined.{Defined}
 use Rattle.c_types.specs.NamedItems.{named_in_block, named_in_function}
 use Rattle.c_types.specs.Made.{Covers, Makes, IsBlock}
@@ -68,7 +68,7 @@ module _ (base : Option CType) (declarator : DeclaratorTree) (body : BlockTree) 
   abbrev its_inside : Scope → Scope
   its_inside scope = (entered_function (its_file scope).scope (own_parameters declarator)).scope
 
-  abbrev its_around : Scope → Around
+  abbrev its_around : Scope → FunctionContext
   its_around scope = record { result = result_of (its_type scope).known; may_break = false; may_continue = false }
 
   module _ {s0 s1 s3 s4 : Pass} {c2 : State} {declared own : Option number.CType}
@@ -123,7 +123,7 @@ module _ (base : Option CType) (declarator : DeclaratorTree) (body : BlockTree) 
         function-leave outer none = omega arith
 
         module _ (s8 : Pass) (outer : ℕ) (none : outer ≡ 0) (leave : LeavesBlock outer s7.checker s8.checker) (kept : s8.named.items ≡ s7.named.items) where
-          left : Leads (record (scope_of s7.checker) { inner = []; outer = [] }) s7.checker s8.checker
+          left : ScopeGrows (record (scope_of s7.checker) { inner = []; outer = [] }) s7.checker s8.checker
           left = leave [] [] no_outer (sym none)
 
           made : Makes IsBlock (function_item (scope_of s0.checker) name.place base declarator body (Some name)).found (elaborated.block_of (its_inside (scope_of s0.checker)) (result_of (its_type (scope_of s0.checker)).known) body) (named_in_function (scope_of s0.checker) base declarator body (Some name)) (function_item (scope_of s0.checker) name.place base declarator body (Some name)).scope s0 s8 items

@@ -1,6 +1,6 @@
 -- The scope of a function with its body.
 use Rattle.std.proofs.Common.{◌≡◌, ℕ, length, Bool, true, false, if◌then◌else◌, List, [], ◌∷◌, ◌++◌, Option, Some, None, refl, sym, ◌∙◌}
-use Rattle.run_theory.specs.declared.ends.Pos.{Pos}
+use Rattle.text_place.specs.declared.place.Pos.{Pos}
 use Rattle.c_syntax.specs.Trees
 use Rattle.c_syntax.specs.Trees.{NameTree, WordsTree, OptionalTree, ParametersTree, InitDeclaratorTree, BlockTree}
 use Rattle.c_typed.specs.Types.{CType}
@@ -8,7 +8,7 @@ use Rattle.c_rules.specs.Names.{Scope, LocalName, in_function}
 use Rattle.c_rules.specs.Expressions.{words_type, optional_name, is_void_alone}
 use Rattle.c_rules.specs.Statements.{with_declared, declare_local, declare_locals, declaration}
 use Rattle.c_rules.specs.Programs.{Filed, enter_parameters, entered_function, parameter_local}
-use Rattle.c_rules.specs.NameTables.{State, scope_of, Leads}
+use Rattle.c_types_state.specs.NameTables.{State, scope_of, ScopeGrows}
 use Rattle.c_types.specs.Parts.{behind_block}
 use Rattle.c_types.specs.Outside.{IsOutside}
 
@@ -60,4 +60,4 @@ outside-again scope outside = λ i. record scope { inner = sym outside.0 i; oute
 
 -- a pass leaves the innermost block
 abbrev pub LeavesBlock : ℕ → State → State → Type 0
-LeavesBlock outer old new = (inside around : List LocalName) → (scope_of old).outer ≡ inside ++ around → length around ≡ outer → Leads (record (scope_of old) { inner = inside; outer = around }) old new
+LeavesBlock outer old new = (inside around : List LocalName) → (scope_of old).outer ≡ inside ++ around → length around ≡ outer → ScopeGrows (record (scope_of old) { inner = inside; outer = around }) old new

@@ -1,7 +1,7 @@
 -- Literals as initializers, and the forms of lists in braces.
 use Rattle.std.proofs.Common.{◌≡◌, ℕ, suc, ◌+◌, false, List, [], ◌∷◌, ◌++◌, slice_get, Some, None, length, get_or, refl, sym, ap, subst, ◌∙◌, arith}
 use Rattle.std.proofs.lemmas.Option.{none-some, same_Some}
-use Rattle.run_theory.specs.declared.ends.Pos.{Pos}
+use Rattle.text_place.specs.declared.place.Pos.{Pos}
 use Rattle.c_syntax.specs.declared.expr.Expr.{Expr}
 use Rattle.c_syntax.specs.declared.expr.Expr.TheVariants as E
 use Rattle.c_syntax.specs.declared.declaration.Init.{Init}
@@ -12,7 +12,7 @@ use Rattle.c_typed.specs.Types.{CType}
 use Rattle.c_rules.specs.Initializers as rules
 use Rattle.c_rules.specs.Expressions.{Initialized}
 use Rattle.c_rules.specs.Programs as programs
-use Rattle.c_check.specs.Roles.{length_by}
+use Rattle.c_types_expressions.specs.Roles.{length_by}
 use Rattle.c_rules.specs.declared.rule.TypeRule.TheVariants as T
 use Rattle.c_rules.specs.Names.{Scope}
 use Rattle.c_rules.specs.Known.{at}

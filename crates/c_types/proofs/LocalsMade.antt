@@ -1,7 +1,7 @@
 -- The locals of a declaration, one after another.
 use Rattle.std.proofs.Common.{◌≡◌, List, [], ◌∷◌, ◌++◌, map, Option, Vec, refl, sym, ap, subst, ◌∙◌}
 use Rattle.std.proofs.Common.{append-nil, append_assoc}
-use Rattle.run_theory.specs.declared.ends.Pos.{Pos}
+use Rattle.text_place.specs.declared.place.Pos.{Pos}
 use Rattle.c_syntax.specs.Trees.{InitDeclaratorTree}
 use Rattle.c_typed.specs.declared.c_type.CType as number
 use Rattle.c_typed.specs.declared.statement.LocalDef as memory_local
@@ -17,12 +17,12 @@ use Rattle.c_rules.specs.Names.{Scope}
 use Rattle.c_rules.specs.Expressions.{words_type}
 use Rattle.c_rules.specs.Statements.{declare_local, declare_locals}
 use Rattle.c_rules.specs.Elaborated.{local_of, locals_of, declare_each}
-use Rattle.c_rules.specs.NameTables.{State, scope_of}
-use Rattle.c_rules.specs.Finding.{Finds, AllStand, IsType, each_in}
-use Rattle.c_rules.proofs.Findings.{seen-known}
-use Rattle.c_check.specs.declared.pass.Pass.{Pass}
-use Rattle.c_check.proofs.Giving.{stands-now}
-use Rattle.c_check.proofs.Passing.{with_checker}
+use Rattle.c_types_state.specs.NameTables.{State, scope_of}
+use Rattle.c_types_state.specs.Finding.{Finds, AllStand, IsType, each_in}
+use Rattle.c_types_state.proofs.Findings.{seen-known}
+use Rattle.c_types_expressions.specs.declared.pass.Pass.{Pass}
+use Rattle.c_types_expressions.proofs.Giving.{stands-now}
+use Rattle.c_types_expressions.proofs.Passing.{with_checker}
 use Rattle.c_types.specs.NamedItems.{named_in_local, named_in_locals}
 use Rattle.c_types.specs.Made.{Makes, IsLocal, IsLocals, AddsItems}
 use Rattle.c_types.proofs.Covering.{covers-then, covers-same, covers-finds}

@@ -1,7 +1,7 @@
 -- What is made of a declarator outside functions.
 use Rattle.std.proofs.Common.{◌≡◌, Bool, false, List, [], ◌∷◌, ◌++◌, Option, Some, None, Vec, Global, refl, sym, ap, subst, ◌∙◌}
 use Rattle.std.proofs.Common.{append-nil, option_map, is_some}
-use Rattle.run_theory.specs.declared.ends.Pos.{Pos}
+use Rattle.text_place.specs.declared.place.Pos.{Pos}
 use Rattle.c_syntax.specs.declared.declaration.Init as memory_init
 use Rattle.c_syntax.specs.Views.{init_tree}
 use Rattle.c_syntax.specs.Trees.{NameTree, InitTree, InitDeclaratorTree}
@@ -17,19 +17,19 @@ use Rattle.c_rules.specs.Expressions.{LengthRole, declared_type, declared_name}
 use Rattle.c_rules.specs.Initializers.{first_of}
 use Rattle.c_rules.specs.Programs.{Filed, declare_outside, role_of, has_first, first_rules, file_declarator, file_declarators}
 use Rattle.c_rules.specs.Elaborated.{held_of, first_held, global_of, declared_global, declared_globals, each_global}
-use Rattle.c_rules.specs.NameTables.{State, scope_of}
-use Rattle.c_rules.specs.Finding.{Finds, AllStand, IsType, each_in}
-use Rattle.c_rules.proofs.Findings.{seen-known}
-use Rattle.c_check.specs.declared.pass.Pass.{Pass}
-use Rattle.c_check.specs.Named.{NamedType, named_at, named_in_declarator}
-use Rattle.c_check.specs.Passes.{Names, Passes}
-use Rattle.c_check.proofs.Giving.{stands-now}
-use Rattle.c_check.proofs.Passing.{passes-one, with_checker}
+use Rattle.c_types_state.specs.NameTables.{State, scope_of}
+use Rattle.c_types_state.specs.Finding.{Finds, AllStand, IsType, each_in}
+use Rattle.c_types_state.proofs.Findings.{seen-known}
+use Rattle.c_types_expressions.specs.declared.pass.Pass.{Pass}
+use Rattle.c_types_expressions.specs.Named.{NamedType, named_at, named_in_declarator}
+use Rattle.c_types_expressions.specs.Passes.{Names, Passes}
+use Rattle.c_types_expressions.proofs.Giving.{stands-now}
+use Rattle.c_types_expressions.proofs.Passing.{passes-one, with_checker}
 use Rattle.c_types.specs.declared.defined.Defined.{Defined}
 use Rattle.c_types.specs.declared.initializers.Target.{Target}
 use Rattle.c_types.specs.NamedItems.{named_in_init, named_in_first, named_in_file_declarator, named_in_file_declarators}
 use Rattle.c_types.specs.Made.{Covers, Makes, IsFirst}
-use Rattle.c_types.specs.FirstValues.{Holds}
+use Rattle.c_types.specs.FirstValues.{HoldsFirst}
 use Rattle.c_types.specs.Outside.{HasDefined, outside_rule}
 use Rattle.c_types.proofs.Covering.{covers-none, covers-then, covers-same, covers-passes, covers-named, makes-same, makes-behind}
 use Rattle.c_types.proofs.Filed.{each_stays}
@@ -96,7 +96,7 @@ first-none {s = s} first none = record { covers = covers-none s; made = ap all_f
 -- those of an initializer
 pub first-some : {s t : Pass} (c_type : Option CType) (init : InitTree) (target target' : Target) → target.parts.items ≡ [] → target.first.items ≡ []
     → Covers (first_of (scope_of s.checker) c_type init) (named_in_init (scope_of s.checker) init) (scope_of s.checker) s t
-    → Holds (held_of (scope_of s.checker) target.parts.items 0 c_type init) target target'
+    → HoldsFirst (held_of (scope_of s.checker) target.parts.items 0 c_type init) target target'
     → Makes IsFirst (first_of (scope_of s.checker) c_type init) (held_of (scope_of s.checker) [] 0 c_type init) (named_in_init (scope_of s.checker) init) (scope_of s.checker) s t target'.first
 first-some {s = s} c_type init target target' no_parts no_first covers holds =
     record {

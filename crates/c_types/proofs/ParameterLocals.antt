@@ -1,34 +1,31 @@
 -- The parameters of a function, as its first locals.
-use Rattle.std.proofs.Common.{◌≡◌, ℕ, zero, suc, arith, ◌+◌, ◌<◌, ◌≤◌, length, take, drop, get_or, Bool, true, false, if◌then◌else◌, List, [], ◌∷◌, ◌++◌, map, Option, Some, None, refl, sym, ap, subst, ◌∙◌}
+use Rattle.std.proofs.Common.{◌≡◌, ℕ, zero, suc, arith, ◌<◌, length, take, get_or, true, false, if◌then◌else◌, List, [], ◌∷◌, ◌++◌, Option, Some, None, refl, sym, ap, subst, ◌∙◌}
 use Rattle.std.proofs.Common.{append-nil, append_assoc}
-use Rattle.std.proofs.lemmas.List.{take_at, drop_more}
-use Rattle.std.proofs.Math.ListN.{drop_of_length-le}
-use Rattle.run_theory.specs.declared.ends.Pos.{Pos}
+use Rattle.std.proofs.lemmas.List.{take_at}
+use Rattle.text_place.specs.declared.place.Pos.{Pos}
 use Rattle.c_syntax.specs.Trees
 use Rattle.c_syntax.specs.Trees.{NameTree, WordsTree, OptionalTree, ParametersTree}
 use Rattle.c_typed.specs.declared.c_type.CType as number
 use Rattle.c_typed.specs.Types.{CType}
 use Rattle.c_typed.specs.Table.{Interned, Grows, KnownStands, known_in, type_in, Stands}
 use Rattle.c_typed.proofs.Grown.{grows_refl, grows_trans}
-use Rattle.c_rules.specs.declared.violation.Violation.{Violation}
 use Rattle.c_rules.specs.declared.rule.TypeRule.TheVariants as T
 use Rattle.c_rules.specs.Known.{at, given, with_known, known_already}
-use Rattle.c_rules.specs.Names.{Scope, LocalName, with_local, in_function, entered}
-use Rattle.c_rules.specs.NameTables.{State, scope_of, Leads}
+use Rattle.c_rules.specs.Names.{Scope, with_local, in_function, entered}
+use Rattle.c_types_state.specs.NameTables.{State, scope_of, ScopeGrows}
 use Rattle.c_rules.specs.Expressions.{Adjusted, optional_type, words_type, optional_name, parameter_type, is_void_alone}
-use Rattle.c_rules.specs.Finding.{Finds, IsType, IsOption, each_in, noted, lesser}
+use Rattle.c_types_state.specs.Finding.{Finds, IsType, IsOption, each_in, lesser}
 use Rattle.c_rules.specs.Programs.{Filed, enter_parameters, entered_function, parameter_local, unnamed}
-use Rattle.c_rules.proofs.Findings.{finds-then, stays-type}
-use Rattle.c_check.specs.declared.pass.Pass.{Pass}
-use Rattle.c_check.specs.declared.pass.NamedType as memory_named
-use Rattle.c_check.specs.Named.{named_in_optional}
-use Rattle.c_check.specs.Passes.{Names, Passes}
-use Rattle.c_check.proofs.Naming.{names-none}
-use Rattle.c_check.proofs.Passing.{with_checker}
-use Rattle.c_check.proofs.Suffixed.{optional_found}
+use Rattle.c_types_state.proofs.Findings.{finds-then, stays-type}
+use Rattle.c_types_expressions.specs.declared.pass.Pass.{Pass}
+use Rattle.c_types_expressions.specs.Named.{named_in_optional}
+use Rattle.c_types_expressions.specs.Passes.{Names, Passes}
+use Rattle.c_types_expressions.proofs.Naming.{names-none}
+use Rattle.c_types_expressions.proofs.Passing.{with_checker}
+use Rattle.c_types_expressions.proofs.Suffixed.{optional_found}
 use Rattle.c_types.specs.Made.{Covers, Makes, IsOptionalType}
 use Rattle.c_types.specs.Outside.{local_type, local_types, AreTypes, AllKnown, IsOutside}
-use Rattle.c_types.proofs.Covering.{covers-none, covers-then, covers-two, covers-same, covers-leads, covers-noted}
+use Rattle.c_types.proofs.Covering.{covers-none, covers-then, covers-same, covers-leads, covers-noted}
 
 -- ---- the type of one
 
@@ -155,7 +152,7 @@ declares-end outside table all_types all old types left now none declares h =
 
 -- one with a name
 pub declared-named : {s t : Pass} (outside : Scope) (table : Interned) (words : WordsTree) (declarator : OptionalTree) (name : NameTree) (known : Option NameTree) (bytes : List ℕ) (first : Option number.CType) → Some name ≡ known → bytes ≡ name.bytes → s.checker.table ≡ table
-    → Leads (with_local bytes (known_in s.checker.table.tags s.checker.table.entries first) (scope_of s.checker)) s.checker t.checker → t.named.items ≡ s.named.items
+    → ScopeGrows (with_local bytes (known_in s.checker.table.tags s.checker.table.entries first) (scope_of s.checker)) s.checker t.checker → t.named.items ≡ s.named.items
     → IsOption (IsType table) first (local_type outside words declarator known) → Covers (unnamed known words.place) [] (parameter_local outside words declarator known (scope_of s.checker)) s t
 declared-named {s = s} {t = t} outside table words declarator name known bytes first is_name same_bytes same_table leads same h =
     let scope = scope_of s.checker in
@@ -179,7 +176,7 @@ outside-entered : (scope : Scope) → IsOutside scope → entered scope ≡ in_f
 outside-entered scope outside = λ i. record scope { inner = []; outer = outside.0 i ++ outside.1 i }
 
 -- its parameters are `(void)`
-pub entered-void : {s t : Pass} (tree : ParametersTree) → IsOutside (scope_of s.checker) → true ≡ is_void_alone tree → Leads (entered (scope_of s.checker)) s.checker t.checker → t.named.items ≡ s.named.items
+pub entered-void : {s t : Pass} (tree : ParametersTree) → IsOutside (scope_of s.checker) → true ≡ is_void_alone tree → ScopeGrows (entered (scope_of s.checker)) s.checker t.checker → t.named.items ≡ s.named.items
     → Covers (entered_function (scope_of s.checker) tree).found [] (entered_function (scope_of s.checker) tree).scope s t
 entered-void {s = s} {t = t} tree outside is leads same =
     let scope = scope_of s.checker in
@@ -188,7 +185,7 @@ entered-void {s = s} {t = t} tree outside is leads same =
     (covers-same refl refl (outside-entered scope outside) (covers-leads leads same))
 
 -- its parameters are declared
-pub entered-all : {s p q t : Pass} (tree : ParametersTree) → IsOutside (scope_of s.checker) → false ≡ is_void_alone tree → Covers [] [] (scope_of s.checker) s p → Leads (entered (scope_of p.checker)) p.checker q.checker → q.named.items ≡ p.named.items
+pub entered-all : {s p q t : Pass} (tree : ParametersTree) → IsOutside (scope_of s.checker) → false ≡ is_void_alone tree → Covers [] [] (scope_of s.checker) s p → ScopeGrows (entered (scope_of p.checker)) p.checker q.checker → q.named.items ≡ p.named.items
     → Covers (enter_parameters (scope_of s.checker) tree (scope_of q.checker)).found [] (enter_parameters (scope_of s.checker) tree (scope_of q.checker)).scope q t
     → Covers (entered_function (scope_of s.checker) tree).found [] (entered_function (scope_of s.checker) tree).scope s t
 entered-all {s = s} {p = p} {q = q} {t = t} tree outside is first leads same last =

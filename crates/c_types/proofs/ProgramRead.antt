@@ -2,7 +2,7 @@
 use Rattle.std.proofs.Common.{◌≡◌, ℕ, Bool, true, false, true≢false, List, [], ◌∷◌, ◌++◌, map, Option, Some, None, refl, sym, ap, subst, ◌∙◌}
 use Rattle.std.proofs.Common.{append-nil, append_assoc}
 use Rattle.std.specs.Prelude.{if◌then◌else◌, codes, Result, Ok, Err, IsErrAnd}
-use Rattle.run_theory.specs.declared.ends.Pos.{Pos}
+use Rattle.text_place.specs.declared.place.Pos.{Pos}
 use Rattle.c_syntax.specs.Trees
 use Rattle.c_syntax.specs.Trees.{NameTree, DeclaratorTree, InitDeclaratorTree, BaseTree, BlockTree, ItemTree, ProgramTree}
 use Rattle.c_typed.specs.declared.definition.Program as memory_program
@@ -14,21 +14,22 @@ use Rattle.c_typed.specs.DefinitionViews.{global_in, function_in, literal_of, pr
 use Rattle.c_typed.proofs.Grown.{stays}
 use Rattle.c_rules.specs.declared.rule.TypeRule.TheVariants as T
 use Rattle.c_rules.specs.declared.violation.Violation.{Violation}
-use Rattle.c_rules.specs.Names.{Scope, contains}
+use Rattle.c_rules.specs.Names.{Scope}
+use Rattle.c_typed.specs.Names.{contains}
 use Rattle.c_rules.specs.Known.{comes_first, least_of_two, least, unless}
-use Rattle.c_rules.specs.NameTables.{State, scope_of, no_state}
-use Rattle.c_rules.specs.Finding.{noted}
+use Rattle.c_types_state.specs.NameTables.{State, scope_of, no_state}
+use Rattle.c_types_state.specs.Finding.{noted}
 use Rattle.c_rules.specs.Programs.{is_completed_before, with_struct, all_members, base_type, base_place, file_declarator, file_declarators, function_item, item, items, each_once, completed_in, outermost, violations, refusal}
 use Rattle.c_rules.specs.Expressions.{declared_name}
 use Rattle.c_rules.specs.Elaborated as elaborated
 use Rattle.c_rules.specs.Elaborated.{in_item, in_items, each_global, with_global, all_structs, literals_in_items, typed_of}
-use Rattle.c_rules.proofs.Noted.{noted-least}
-use Rattle.c_outline.specs.Lists.{with_outline}
-use Rattle.c_check.specs.declared.pass.NamedType as memory_named
-use Rattle.c_check.specs.declared.pass.Pass.{Pass}
-use Rattle.c_check.specs.Named.{NamedType}
-use Rattle.c_check.specs.Passes.{named_type, AllNamedStand, Names}
-use Rattle.c_check.proofs.Naming.{names-none, names-then}
+use Rattle.c_types_state.proofs.Noted.{noted-least}
+use Rattle.c_types_state.specs.Lists.{with_outline}
+use Rattle.c_types_expressions.specs.declared.pass.NamedType as memory_named
+use Rattle.c_types_expressions.specs.declared.pass.Pass.{Pass}
+use Rattle.c_types_expressions.specs.Named.{NamedType}
+use Rattle.c_types_expressions.specs.Passes.{named_type, AllNamedStand, Names}
+use Rattle.c_types_expressions.proofs.Naming.{names-none, names-then}
 use Rattle.c_types.specs.declared.defined.Defined.{Defined}
 use Rattle.c_types.specs.declared.program.TypeErr.{TypeErr}
 use Rattle.c_types.specs.declared.program.TypeErr.TheVariants as E

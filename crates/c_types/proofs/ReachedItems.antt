@@ -1,6 +1,6 @@
 -- A pass over an item: its base, and what stands behind that.
 use Rattle.std.proofs.Common.{◌≡◌, List, ◌++◌, Option, None, sym, subst, append-nil}
-use Rattle.run_theory.specs.declared.ends.Pos.{Pos}
+use Rattle.text_place.specs.declared.place.Pos.{Pos}
 use Rattle.c_syntax.specs.Trees
 use Rattle.c_syntax.specs.Trees.{NameTree, BaseTree, DeclaratorTree, InitDeclaratorTree, BlockTree, ItemTree}
 use Rattle.c_typed.specs.declared.c_type.CType as number
@@ -8,12 +8,12 @@ use Rattle.c_typed.specs.Types.{CType}
 use Rattle.c_typed.specs.Table.{Interned, type_in}
 use Rattle.c_typed.specs.Typed.{GlobalDef, FunctionDef}
 use Rattle.c_rules.specs.Names.{Scope}
-use Rattle.c_rules.specs.NameTables.{scope_of}
+use Rattle.c_types_state.specs.NameTables.{scope_of}
 use Rattle.c_rules.specs.Expressions.{declared_name}
-use Rattle.c_rules.specs.Finding.{each_in}
+use Rattle.c_types_state.specs.Finding.{each_in}
 use Rattle.c_rules.specs.Programs.{base_type, base_place, file_declarators, function_item, item}
 use Rattle.c_rules.specs.Elaborated.{declared_globals, defined_function, each_global}
-use Rattle.c_check.specs.declared.pass.Pass.{Pass}
+use Rattle.c_types_expressions.specs.declared.pass.Pass.{Pass}
 use Rattle.c_types.specs.declared.defined.Defined.{Defined}
 use Rattle.c_types.specs.Made.{Covers, Reaches}
 use Rattle.c_types.specs.NamedItems.{named_in_base, named_in_file_declarators, named_in_function, named_in_item}

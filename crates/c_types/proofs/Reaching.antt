@@ -10,13 +10,13 @@ use Rattle.c_typed.specs.Typed.{GlobalDef, FunctionDef}
 use Rattle.c_typed.proofs.Grown.{grows_trans, stays}
 use Rattle.c_rules.specs.declared.violation.Violation.{Violation}
 use Rattle.c_rules.specs.Names.{Scope}
-use Rattle.c_rules.specs.NameTables.{scope_of}
-use Rattle.c_rules.specs.Finding.{AllStand, each_in, noted}
+use Rattle.c_types_state.specs.NameTables.{scope_of}
+use Rattle.c_types_state.specs.Finding.{AllStand, each_in, noted}
 use Rattle.c_rules.specs.Programs.{base_type, is_completed_before, all_members}
-use Rattle.c_check.specs.declared.pass.Pass.{Pass}
-use Rattle.c_check.specs.Named.{NamedType}
-use Rattle.c_check.specs.Passes.{Names}
-use Rattle.c_check.proofs.Naming.{names-grow, names-then}
+use Rattle.c_types_expressions.specs.declared.pass.Pass.{Pass}
+use Rattle.c_types_expressions.specs.Named.{NamedType}
+use Rattle.c_types_expressions.specs.Passes.{Names}
+use Rattle.c_types_expressions.proofs.Naming.{names-grow, names-then}
 use Rattle.c_types.specs.declared.defined.Defined.{Defined}
 use Rattle.c_types.specs.Made.{Covers, Reaches, without_structs, IsOptionalType}
 use Rattle.c_types.specs.Outside.{IsOutside, HasDefined}

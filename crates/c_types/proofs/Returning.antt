@@ -1,7 +1,7 @@
 -- Values of `return` and of `switch`.
 use Rattle.std.proofs.Common.{◌≡◌, Bool, true, false, not, ◌||◌, if◌then◌else◌, List, [], ◌++◌, Option, Some, None, refl, sym, ap, subst, ◌∙◌}
 use Rattle.std.proofs.Common.{append-nil}
-use Rattle.run_theory.specs.declared.ends.Pos.{Pos}
+use Rattle.text_place.specs.declared.place.Pos.{Pos}
 use Rattle.c_num.specs.declared.IntType.{IntType}
 use Rattle.c_syntax.specs.Trees.{ExprTree}
 use Rattle.c_typed.specs.declared.c_type.CType as number
@@ -10,8 +10,7 @@ use Rattle.c_typed.specs.declared.c_type.Shape.TheVariants as S
 use Rattle.c_typed.specs.declared.typed.Value as memory_value
 use Rattle.c_typed.specs.Types as Types
 use Rattle.c_typed.specs.Types.{CType}
-use Rattle.c_typed.specs.Typed.{Value}
-use Rattle.c_typed.specs.Table.{Interned, Grows, Stands, type_in, HasShape, shape_type}
+use Rattle.c_typed.specs.Table.{Interned, Stands, type_in, HasShape, shape_type}
 use Rattle.c_typed.specs.Views.{value_in, ValueStands}
 use Rattle.c_typed.proofs.Grown.{stays}
 use Rattle.c_rules.specs.declared.rule.TypeRule.TheVariants as T
@@ -22,18 +21,17 @@ use Rattle.c_rules.specs.Operators.{fits, as_integer, integer_rule}
 use Rattle.c_rules.specs.Expressions.{expr, place_of}
 use Rattle.c_rules.specs.Statements.{returned, label_type}
 use Rattle.c_rules.specs.Elaborated.{known_value, known_as, switched}
-use Rattle.c_rules.specs.NameTables.{State, scope_of}
-use Rattle.c_rules.specs.Finding.{Finds, AllStand, IsOption, each_in, noted, lesser}
-use Rattle.c_rules.specs.Staying.{IsValue, IsSame}
-use Rattle.c_rules.proofs.Findings.{seen-known}
-use Rattle.c_operators.specs.declared.operands.Operand as memory_operand
-use Rattle.c_operators.specs.Operands.{IsOperand, OperandStands, operand_in}
-use Rattle.c_check.specs.declared.pass.Pass.{Pass}
-use Rattle.c_check.specs.Named.{NamedType, named_in}
-use Rattle.c_check.specs.Passes.{Passes}
-use Rattle.c_check.proofs.Giving.{stands-now}
-use Rattle.c_check.proofs.Passing.{with_checker}
-use Rattle.c_types.specs.Made.{Covers, Makes, IsBoth}
+use Rattle.c_types_state.specs.NameTables.{State, scope_of}
+use Rattle.c_types_state.specs.Finding.{AllStand, IsOption, each_in, noted, lesser}
+use Rattle.c_types_state.specs.Staying.{IsValue, IsSame}
+use Rattle.c_types_state.proofs.Findings.{seen-known}
+use Rattle.c_types_operands.specs.declared.operands.Operand as memory_operand
+use Rattle.c_types_operands.specs.Operands.{IsOperand, OperandStands, operand_in}
+use Rattle.c_types_expressions.specs.declared.pass.Pass.{Pass}
+use Rattle.c_types_expressions.specs.Named.{named_in}
+use Rattle.c_types_expressions.specs.Passes.{Passes}
+use Rattle.c_types_expressions.proofs.Passing.{with_checker}
+use Rattle.c_types.specs.Made.{Makes, IsBoth}
 use Rattle.c_types.specs.Parts.{switched_type, switched_value}
 use Rattle.c_types.proofs.Covering.{covers-then, covers-same, covers-passes, covers-noted}
 
@@ -120,7 +118,7 @@ module _ (tree : ExprTree) (here : Pos) (is : here ≡ place_of tree) {s0 s2 : P
       → Passes IsOperand (as_value (place_of tree) (expr (scope_of s0.checker) tree)) (named_in (scope_of s0.checker) tree) s0 s2 o
       → HasShape s2.checker.table (type_in s2.checker.table operand.c_type) shape → ((x : IntType) → shape ≡ S.Integer x → ⊥)
       → c3 ≡ record s2.checker { least = lesser s2.checker.least (record { kind = T.T07; place = here }) }
-      → Makes (IsBoth IsValue (IsSame {A = Option IntType})) (as_integer (place_of tree) (expr (scope_of s0.checker) tree)).found (switched_value (scope_of s0.checker) tree, switched_type (scope_of s0.checker) tree) (named_in (scope_of s0.checker) tree) (scope_of s0.checker) s0 (with_checker s2 c3) (operand.value, None)
+      → Makes (IsBoth IsValue (IsSame {A = Option IntType})) (as_integer (place_of tree) (expr (scope_of s0.checker) tree)).found (switched_value (scope_of s0.checker) tree, switched_type (scope_of s0.checker) tree) (named_in (scope_of s0.checker) tree) (scope_of s0.checker) s0 (with_checker s2 c3) (operand.value.value, None)
   makes-no_integer o operand shape e passes has absent last =
       let scope = scope_of s0.checker in
       let part = as_value (place_of tree) (expr scope tree) in
@@ -131,8 +129,8 @@ module _ (tree : ExprTree) (here : Pos) (is : here ≡ place_of tree) {s0 s2 : P
         covers = covers-same ((λ i. part.found ++ at T.T07 (is i)) ∙ ap (λ xs. part.found ++ xs) (sym known.0)) (append-nil (named_in scope tree)) refl both;
         made = (
           (
-            subst (λ (table : Interned). ValueStands table operand.value) (sym table) known.3,
-            (λ i. value_in (table i) operand.value) ∙ sym known.2 ∙ (λ i. switched (sym known.1 i) (known_value part.known)),
+            subst (λ (table : Interned). ValueStands table operand.value.value) (sym table) known.3,
+            (λ i. value_in (table i) operand.value.value) ∙ sym known.2 ∙ (λ i. switched (sym known.1 i) (known_value part.known)),
           ),
           sym known.1,
         );
@@ -141,7 +139,7 @@ module _ (tree : ExprTree) (here : Pos) (is : here ≡ place_of tree) {s0 s2 : P
       refused : (k : Known) → Types.is_integer k.c_type ≡ false → ((integer_rule (place_of tree) k).found ≡ at T.T07 (place_of tree)) × (label_type (integer_rule (place_of tree) k).known ≡ None)
       refused k none = ((λ i. (require (none i) T.T07 (place_of tree) (give k)).found), (λ i. label_type (require (none i) T.T07 (place_of tree) (give k)).known))
 
-      by : (k : Option Known) → IsOption (IsOperand s2.checker.table) (Some operand) k → ((with_known k (integer_rule (place_of tree))).found ≡ at T.T07 (place_of tree)) × (label_type (with_known k (integer_rule (place_of tree))).known ≡ None) × (known_value k ≡ value_in s2.checker.table operand.value) × ValueStands s2.checker.table operand.value
+      by : (k : Option Known) → IsOption (IsOperand s2.checker.table) (Some operand) k → ((with_known k (integer_rule (place_of tree))).found ≡ at T.T07 (place_of tree)) × (label_type (with_known k (integer_rule (place_of tree))).known ≡ None) × (known_value k ≡ value_in s2.checker.table operand.value.value) × ValueStands s2.checker.table operand.value.value
       by None h = absurd h
       by (Some k) h =
           let none : Types.is_integer k.c_type ≡ false = ap (λ (k : Known). Types.is_integer k.c_type) (sym h.1) ∙ ap Types.is_integer has.means ∙ not_integer s2.checker.table shape absent in

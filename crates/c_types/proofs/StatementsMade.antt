@@ -1,7 +1,7 @@
 -- Statements and blocks that are made, part by part.
 use Rattle.std.proofs.Common.{◌≡◌, ℕ, ℤ, pos, unwrap_or, ◌+◌, ◌≤◌, Bool, true, false, not, ◌||◌, length, List, [], ◌∷◌, ◌++◌, Option, Some, None, Vec, Global, Box, refl, sym, ap, subst, ◌∙◌, arith, append_assoc, append-nil, length-append}
 use Rattle.std.specs.Ordering.{int_eq}
-use Rattle.run_theory.specs.declared.ends.Pos.{Pos}
+use Rattle.text_place.specs.declared.place.Pos.{Pos}
 use Rattle.c_num.specs.declared.IntType.{IntType}
 use Rattle.c_syntax.specs.Trees
 use Rattle.c_syntax.specs.Trees.{ExprTree, InitDeclaratorTree, DeclarationTree, ForTree, StmtTree, BlockTree, SwitchTree, NameTree}
@@ -33,19 +33,19 @@ use Rattle.c_rules.specs.declared.rule.TypeRule.TheVariants as T
 use Rattle.c_rules.specs.declared.violation.Violation.{Violation}
 use Rattle.c_rules.specs.Names.{Scope, LocalName, entered}
 use Rattle.c_rules.specs.Known.{unless}
-use Rattle.c_rules.specs.Finding.{AllStand, each_in, IsOption, noted}
-use Rattle.c_rules.specs.NameTables.{State, scope_of, Leads}
-use Rattle.c_rules.specs.Staying.{Stays, IsValue, IsSame}
+use Rattle.c_types_state.specs.Finding.{AllStand, each_in, IsOption, noted}
+use Rattle.c_types_state.specs.NameTables.{State, scope_of, ScopeGrows}
+use Rattle.c_types_state.specs.Staying.{Stays, IsValue, IsSame}
 use Rattle.c_rules.specs.Operators.{as_integer}
 use Rattle.c_rules.specs.Expressions.{expr, place_of, as_constant, words_type}
 use Rattle.c_rules.specs.Statements as rules
-use Rattle.c_rules.specs.Statements.{Around, stmt, block, switch_items, declaration, declare_locals, declare_local, with_declared, within_loop, condition_rules, value_rules, optional_rules, for_start, repeats, with_label, converted_label}
+use Rattle.c_rules.specs.Statements.{FunctionContext, stmt, block, switch_items, declaration, declare_locals, declare_local, with_declared, within_loop, condition_rules, value_rules, optional_rules, for_start, repeats, with_label, converted_label}
 use Rattle.c_rules.specs.Elaborated as elaborated
 use Rattle.c_rules.specs.Elaborated.{stmt_of, start_of, test_of, unused, mapped, declare_each, declared_locals, label_or_zero}
-use Rattle.c_rules.proofs.Findings.{stays-value}
-use Rattle.c_check.specs.declared.pass.Pass.{Pass}
-use Rattle.c_check.specs.Named.{NamedType, named_in}
-use Rattle.c_check.specs.Passes.{Passes}
+use Rattle.c_types_state.proofs.Findings.{stays-value}
+use Rattle.c_types_expressions.specs.declared.pass.Pass.{Pass}
+use Rattle.c_types_expressions.specs.Named.{NamedType, named_in}
+use Rattle.c_types_expressions.specs.Passes.{Passes}
 use Rattle.c_types.specs.declared.statements.Around as memory_around
 use Rattle.c_types.specs.NamedItems.{named_in_stmt, named_in_block, named_in_switch, named_in_declaration, named_in_start, named_in_value}
 use Rattle.c_types.specs.Made.{Covers, Makes, IsBoth, IsOptionalValue, IsStmt, IsStart, IsLocals, IsBlock, IsSwitchItems, AddsItems}
@@ -199,8 +199,8 @@ module _ (around : memory_around.Around) where
 abbrev pub MadeStart : ForTree → Pass → Pass → memory_start.ForStart → Type 0
 MadeStart tree s t b = Makes IsStart (for_start (scope_of s.checker) tree).found (start_of (scope_of s.checker) tree) (named_in_start (scope_of s.checker) tree) (for_start (scope_of s.checker) tree).scope s t b
 
-pub start-tree : {tree tree' : ForTree} {s t : Pass} {b : memory_start.ForStart} → tree ≡ tree' → MadeStart tree' s t b → MadeStart tree s t b
-start-tree {s = s} {t = t} {b = b} e made = subst (λ tree. MadeStart tree s t b) (sym e) made
+pub start-same : {tree tree' : ForTree} {s t : Pass} {b b' : memory_start.ForStart} → tree ≡ tree' → b ≡ b' → MadeStart tree' s t b' → MadeStart tree s t b
+start-same {tree = tree} {s = s} {t = t} {b' = b'} et eb made = subst (λ (b : memory_start.ForStart). MadeStart tree s t b) (sym eb) (subst (λ tree. MadeStart tree s t b') (sym et) made)
 
 pub start-nothing : {s : Pass} → MadeStart Trees.ForNothing s s F.Nothing
 start-nothing {s = s} = record { covers = covers-none s; made = (tt, refl) }
@@ -251,7 +251,7 @@ outer-within there scope within = λ i. (within [] i).outer
 
 -- a pass leaves the innermost block
 abbrev pub Leaves : ℕ → State → State → Type 0
-Leaves outer old new = (inside around : List LocalName) → (scope_of old).outer ≡ inside ++ around → length around ≡ outer → Leads (record (scope_of old) { inner = inside; outer = around }) old new
+Leaves outer old new = (inside around : List LocalName) → (scope_of old).outer ≡ inside ++ around → length around ≡ outer → ScopeGrows (record (scope_of old) { inner = inside; outer = around }) old new
 
 -- there are as many locals to go back to
 pub leaves-enough : {there : Scope} (scope : Scope) (t : State) (outer : ℕ) → scope_of t ≡ there → Within there (entered scope) → outer ≡ length scope.outer → outer ≤ length (scope_of t).outer
@@ -270,7 +270,7 @@ makes-left {found = found} {named = named} {there = there} {s = s} stay made wit
     makes-same (append-nil found) refl (append-nil named) (λ i. record (within scope.inner i) { outer = scope.outer })
     (makes-then stay (λ _. []) (λ _. []) (λ now. record now { inner = scope.inner; outer = scope.outer }) made (covers-leads leads kept))
 
-module _ (around : memory_around.Around) {s s0 t u : Pass} {outer : ℕ} (stand : AllStand Stands s.checker.table around.returned) (enters : Leads (entered (scope_of s.checker)) s.checker s0.checker) (same : outer ≡ length (scope_of s.checker).outer) (kept : s0.named.items ≡ s.named.items) where
+module _ (around : memory_around.Around) {s s0 t u : Pass} {outer : ℕ} (stand : AllStand Stands s.checker.table around.returned) (enters : ScopeGrows (entered (scope_of s.checker)) s.checker s0.checker) (same : outer ≡ length (scope_of s.checker).outer) (kept : s0.named.items ≡ s.named.items) where
   -- a block
   pub made-block : (tree : BlockTree) (items : Vec memory_item.BlockItem Global)
       → Makes IsBlock (block (scope_of s0.checker) (around_in s0.checker.table around) tree) (elaborated.block_of (scope_of s0.checker) (each_in type_in s0.checker.table around.returned) tree) (named_in_block (scope_of s0.checker) tree) (behind_block (scope_of s0.checker) tree) s0 t items
@@ -347,7 +347,7 @@ module _ (table : Interned) where
   BlockStands-append (B.Statement one ∷ others) more h h' = (h.0, BlockStands-append others more h.1 h')
 
 -- a block by its first item
-block-item : (scope : Scope) (around : Around) (item : syntax_item.BlockItem) (others : List syntax_item.BlockItem) → block scope around (block_of (item ∷ others)) ≡ item_found scope around item ++ block (item_scope scope item) around (block_of others)
+block-item : (scope : Scope) (around : FunctionContext) (item : syntax_item.BlockItem) (others : List syntax_item.BlockItem) → block scope around (block_of (item ∷ others)) ≡ item_found scope around item ++ block (item_scope scope item) around (block_of others)
 block-item scope around (SB.Declaration tree) others = refl
 block-item scope around (SB.Statement one) others = refl
 
@@ -364,7 +364,7 @@ behind-item_scope scope (SB.Declaration tree) others = refl
 behind-item_scope scope (SB.Statement one) others = refl
 
 -- What was made of a block's items so far, before those that are left.
-pub record BlockFar (around : Around) (s : Pass) (all left : List syntax_item.BlockItem) (t : Pass) (made : List memory_item.BlockItem) : Type 0 where
+pub record BlockFar (around : FunctionContext) (s : Pass) (all left : List syntax_item.BlockItem) (t : Pass) (made : List memory_item.BlockItem) : Type 0 where
   pub found : List Violation
   pub named : List NamedType
   pub covers : Covers found named (scope_of t.checker) s t
@@ -374,11 +374,11 @@ pub record BlockFar (around : Around) (s : Pass) (all left : List syntax_item.Bl
   pub stands : BlockStands t.checker.table made
   pub means : behind (block_in t.checker.table made) (elaborated.block_of (scope_of t.checker) around.result (block_of left)) ≡ elaborated.block_of (scope_of s.checker) around.result (block_of all)
 
-pub block-none : (around : Around) (s : Pass) (all : List syntax_item.BlockItem) → BlockFar around s all all s []
+pub block-none : (around : FunctionContext) (s : Pass) (all : List syntax_item.BlockItem) → BlockFar around s all all s []
 block-none around s all = record { found = []; named = []; covers = covers-none s; finds = refl; names = refl; leads = refl; stands = tt; means = refl }
 
 -- one item more, which is added in the scope before it
-pub block-more : (around : Around) (s t u : Pass) (all : List syntax_item.BlockItem) (item : syntax_item.BlockItem) (left : List syntax_item.BlockItem) (old new : List memory_item.BlockItem)
+pub block-more : (around : FunctionContext) (s t u : Pass) (all : List syntax_item.BlockItem) (item : syntax_item.BlockItem) (left : List syntax_item.BlockItem) (old new : List memory_item.BlockItem)
     → Covers (item_found (scope_of t.checker) around item) (item_named (scope_of t.checker) item) (item_scope (scope_of t.checker) item) t u
     → AddsItems (item_adds (scope_of t.checker) around.result item) u.checker.table old new
     → BlockFar around s all (item ∷ left) t old → BlockFar around s all left u new
@@ -411,7 +411,7 @@ block-more around s t u all item left old new covers adds far =
     }
 
 -- where none are left
-pub block-end : {around : Around} {s t : Pass} {all : List syntax_item.BlockItem} (made : Vec memory_item.BlockItem Global) → BlockFar around s all [] t made.items
+pub block-end : {around : FunctionContext} {s t : Pass} {all : List syntax_item.BlockItem} (made : Vec memory_item.BlockItem Global) → BlockFar around s all [] t made.items
     → Makes IsBlock (block (scope_of s.checker) around (block_of all)) (elaborated.block_of (scope_of s.checker) around.result (block_of all)) (named_in_block (scope_of s.checker) (block_of all)) (behind_block (scope_of s.checker) (block_of all)) s t made
 block-end {t = t} made far =
     record {
@@ -435,7 +435,7 @@ with-same : (labels others : List ℤ) (label : Option ℤ) → SameLabels label
 with-same labels others None same label = same label
 with-same labels others (Some first) same label = ap (λ has. int_eq first label || has) (same label)
 
-pub labels-same : (scope : Scope) (around : Around) (int_type : Option IntType) (labels others : List ℤ) (has_default : Bool) (tree : SwitchTree) → SameLabels labels others → switch_items scope around int_type labels has_default tree ≡ switch_items scope around int_type others has_default tree
+pub labels-same : (scope : Scope) (around : FunctionContext) (int_type : Option IntType) (labels others : List ℤ) (has_default : Bool) (tree : SwitchTree) → SameLabels labels others → switch_items scope around int_type labels has_default tree ≡ switch_items scope around int_type others has_default tree
 labels-same scope around int_type labels others has_default Trees.SwitchEnd same = refl
 labels-same scope around int_type labels others has_default (Trees.Case place value rest) same =
     let stated = as_constant (place_of value) (expr scope value) in
@@ -483,7 +483,7 @@ module _ (table : Interned) where
   SwitchStands-append (W.Statement one ∷ others) more h h' = (h.0, SwitchStands-append others more h.1 h')
 
 -- the items of a `switch` by the first
-switch-part : (scope : Scope) (around : Around) (int_type : Option IntType) (labels : List ℤ) (has_default : Bool) (item : syntax_switch.SwitchItem) (others : List syntax_switch.SwitchItem)
+switch-part : (scope : Scope) (around : FunctionContext) (int_type : Option IntType) (labels : List ℤ) (has_default : Bool) (item : syntax_switch.SwitchItem) (others : List syntax_switch.SwitchItem)
     → switch_items scope around int_type labels has_default (switch_of (item ∷ others)) ≡ part_found scope around int_type labels has_default item ++ switch_items scope around int_type (part_labels scope int_type item labels) (part_default item has_default) (switch_of others)
 switch-part scope around int_type labels has_default (SW.Case place value) others = refl
 switch-part scope around int_type labels has_default (SW.Default place) others = refl
@@ -500,7 +500,7 @@ adds-part scope result int_type (SW.Default place) others = refl
 adds-part scope result int_type (SW.Statement one) others = refl
 
 -- What was made of a `switch` so far, before the items that are left.
-pub record SwitchFar (around : Around) (int_type : Option IntType) (s : Pass) (all left : List syntax_switch.SwitchItem) (labels : List ℤ) (has_default : Bool) (t : Pass) (made : List memory_switch.SwitchItem) : Type 0 where
+pub record SwitchFar (around : FunctionContext) (int_type : Option IntType) (s : Pass) (all left : List syntax_switch.SwitchItem) (labels : List ℤ) (has_default : Bool) (t : Pass) (made : List memory_switch.SwitchItem) : Type 0 where
   pub found : List Violation
   pub named : List NamedType
   pub covers : Covers found named (scope_of s.checker) s t
@@ -509,11 +509,11 @@ pub record SwitchFar (around : Around) (int_type : Option IntType) (s : Pass) (a
   pub stands : SwitchStands t.checker.table made
   pub means : switch_behind (switch_in t.checker.table made) (elaborated.switch_of (scope_of s.checker) around.result int_type (switch_of left)) ≡ elaborated.switch_of (scope_of s.checker) around.result int_type (switch_of all)
 
-pub switch-none : (around : Around) (int_type : Option IntType) (s : Pass) (all : List syntax_switch.SwitchItem) (labels : List ℤ) (has_default : Bool) → labels ≡ [] → has_default ≡ false → SwitchFar around int_type s all all labels has_default s []
+pub switch-none : (around : FunctionContext) (int_type : Option IntType) (s : Pass) (all : List syntax_switch.SwitchItem) (labels : List ℤ) (has_default : Bool) → labels ≡ [] → has_default ≡ false → SwitchFar around int_type s all all labels has_default s []
 switch-none around int_type s all labels has_default none fresh =
     record { found = []; named = []; covers = covers-none s; finds = λ i. switch_items (scope_of s.checker) around int_type (none i) (fresh i) (switch_of all); names = refl; stands = tt; means = refl }
 
-pub switch-more : (around : Around) (int_type : Option IntType) (s t u : Pass) (all : List syntax_switch.SwitchItem) (item : syntax_switch.SwitchItem) (left : List syntax_switch.SwitchItem) (labels labels' : List ℤ) (has_default has_default' : Bool) (old new : List memory_switch.SwitchItem) (one : memory_switch.SwitchItem)
+pub switch-more : (around : FunctionContext) (int_type : Option IntType) (s t u : Pass) (all : List syntax_switch.SwitchItem) (item : syntax_switch.SwitchItem) (left : List syntax_switch.SwitchItem) (labels labels' : List ℤ) (has_default has_default' : Bool) (old new : List memory_switch.SwitchItem) (one : memory_switch.SwitchItem)
     → Makes IsPart (part_found (scope_of t.checker) around int_type labels has_default item) (part_adds (scope_of t.checker) around.result int_type item) (part_named (scope_of t.checker) item) (scope_of t.checker) t u one
     → SameLabels labels' (part_labels (scope_of t.checker) int_type item labels) → has_default' ≡ part_default item has_default → new ≡ old ++ one ∷ []
     → SwitchFar around int_type s all (item ∷ left) labels has_default t old → SwitchFar around int_type s all left labels' has_default' u new
@@ -542,7 +542,7 @@ switch-more around int_type s t u all item left labels labels' has_default has_d
           ∙ far.means;
     }
 
-pub switch-end : {around : Around} {int_type : Option IntType} {s t : Pass} {all : List syntax_switch.SwitchItem} {labels : List ℤ} {has_default : Bool} (made : Vec memory_switch.SwitchItem Global) → SwitchFar around int_type s all [] labels has_default t made.items
+pub switch-end : {around : FunctionContext} {int_type : Option IntType} {s t : Pass} {all : List syntax_switch.SwitchItem} {labels : List ℤ} {has_default : Bool} (made : Vec memory_switch.SwitchItem Global) → SwitchFar around int_type s all [] labels has_default t made.items
     → Makes IsSwitchItems (switch_items (scope_of s.checker) around int_type [] false (switch_of all)) (elaborated.switch_of (scope_of s.checker) around.result int_type (switch_of all)) (named_in_switch (scope_of s.checker) (switch_of all)) (scope_of s.checker) s t made
 switch-end {t = t} made far =
     record {
@@ -617,7 +617,7 @@ module _ (around : memory_around.Around) (s t u : Pass) (stand : AllStand Stands
       let grows = far.covers.grows in
       let scope = scope_of t.checker in
       block-more (around_in s.checker.table around) s t u all item left old new
-      (subst (λ (a : Around). Covers (item_found scope a item) (item_named scope item) (item_scope scope item) t u) (around-same s.checker.table t.checker.table grows around stand) covers)
+      (subst (λ (a : FunctionContext). Covers (item_found scope a item) (item_named scope item) (item_scope scope item) t u) (around-same s.checker.table t.checker.table grows around stand) covers)
       (subst (λ (r : Option CType). AddsItems (item_adds scope r item) u.checker.table old new) (known-stays s.checker.table t.checker.table grows around.returned stand).1 adds)
       (subst (λ left. BlockFar (around_in s.checker.table around) s all left t old) e far)
 
@@ -633,10 +633,10 @@ module _ (around : memory_around.Around) (s t u : Pass) (stand : AllStand Stands
       (subst (λ left. SwitchFar (around_in s.checker.table around) int_type s all left labels has_default t old) e far)
 
 -- where none are left
-pub block-all : {around : Around} {s t : Pass} {all rest : List syntax_item.BlockItem} (made : Vec memory_item.BlockItem Global) → rest ≡ [] → BlockFar around s all rest t made.items
+pub block-all : {around : FunctionContext} {s t : Pass} {all rest : List syntax_item.BlockItem} (made : Vec memory_item.BlockItem Global) → rest ≡ [] → BlockFar around s all rest t made.items
     → Makes IsBlock (block (scope_of s.checker) around (block_of all)) (elaborated.block_of (scope_of s.checker) around.result (block_of all)) (named_in_block (scope_of s.checker) (block_of all)) (behind_block (scope_of s.checker) (block_of all)) s t made
 block-all {around = around} {s = s} {t = t} {all = all} made e far = block-end made (subst (λ left. BlockFar around s all left t made.items) e far)
 
-pub switch-all : {around : Around} {int_type : Option IntType} {s t : Pass} {all rest : List syntax_switch.SwitchItem} {labels : List ℤ} {has_default : Bool} (made : Vec memory_switch.SwitchItem Global) → rest ≡ [] → SwitchFar around int_type s all rest labels has_default t made.items
+pub switch-all : {around : FunctionContext} {int_type : Option IntType} {s t : Pass} {all rest : List syntax_switch.SwitchItem} {labels : List ℤ} {has_default : Bool} (made : Vec memory_switch.SwitchItem Global) → rest ≡ [] → SwitchFar around int_type s all rest labels has_default t made.items
     → Makes IsSwitchItems (switch_items (scope_of s.checker) around int_type [] false (switch_of all)) (elaborated.switch_of (scope_of s.checker) around.result int_type (switch_of all)) (named_in_switch (scope_of s.checker) (switch_of all)) (scope_of s.checker) s t made
 switch-all {around = around} {int_type = int_type} {s = s} {t = t} {all = all} {labels = labels} {has_default = has_default} made e far = switch-end made (subst (λ left. SwitchFar around int_type s all left labels has_default t made.items) e far)

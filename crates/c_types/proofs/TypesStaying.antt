@@ -156,9 +156,9 @@ module _ (old new : Interned) (keeps : TypesStay old new) where
     object_stays (O.Literal place bytes c_type) h =
         let kept = keeps c_type h.0 in
         ((kept.0, kept.1 ∙ h.1), refl)
-    object_stays (O.Grouped' p inner) h =
+    object_stays (O.Grouped' place p inner) h =
         let kept = object_stays inner h in
-        (kept.0, ap typed.GroupedObject kept.1)
+        (kept.0, ap (typed.GroupedObject place) kept.1)
     object_stays (O.Pointed' place p pointer) h =
         let kept = value_stays pointer h in
         (kept.0, ap (typed.Pointed place) kept.1)

@@ -1,31 +1,29 @@
 -- Expressions in statements: conditions, constants, and what stands for them.
-use Rattle.std.proofs.Common.{◌≡◌, List, [], ◌++◌, Option, Some, None, ℤ, refl, sym, ap, subst, ◌∙◌}
-use Rattle.run_theory.specs.declared.ends.Pos.{Pos}
+use Rattle.std.proofs.Common.{◌≡◌, Option, Some, None, ℤ, refl, sym, ap, subst}
+use Rattle.text_place.specs.declared.place.Pos.{Pos}
 use Rattle.c_syntax.specs.Trees.{ExprTree}
 use Rattle.c_typed.specs.declared.typed.Value as memory_value
 use Rattle.c_typed.specs.declared.typed.Value.TheVariants as V
-use Rattle.c_typed.specs.Typed.{Value}
-use Rattle.c_typed.specs.Table.{Interned}
 use Rattle.c_typed.proofs.Grown.{grows_trans}
 use Rattle.c_rules.specs.declared.constness.Constness.{Constness}
-use Rattle.c_rules.specs.declared.known.Known as memory_known
-use Rattle.c_rules.specs.declared.known.Condition as memory_condition
-use Rattle.c_rules.specs.Known.{Checked, Known, given, give, with_known, value_rule}
+use Rattle.c_types_state.specs.declared.known.Known as memory_known
+use Rattle.c_types_state.specs.declared.known.Condition as memory_condition
+use Rattle.c_rules.specs.Known.{Known, given, give, with_known, value_rule}
 use Rattle.c_rules.specs.Operators.{Condition, as_condition, as_integer, scalar_rule, condition_of, integer_rule}
 use Rattle.c_rules.specs.Expressions.{expr, place_of, as_constant, constant_value}
 use Rattle.c_rules.specs.Elaborated.{condition_test}
-use Rattle.c_rules.specs.NameTables.{State, scope_of}
-use Rattle.c_rules.specs.Finding.{Finds, ExprStands, IsExpr, IsCondition, IsOption, expr_in, each_in}
-use Rattle.c_rules.specs.Staying.{IsValue, IsSame}
-use Rattle.c_rules.proofs.Findings.{plain-some, plain-none}
-use Rattle.c_operators.specs.declared.operands.Operand as memory_operand
-use Rattle.c_operators.specs.Operands.{IsOperand}
-use Rattle.c_check.specs.declared.pass.Pass.{Pass}
-use Rattle.c_check.specs.Named.{NamedType, named_in}
-use Rattle.c_check.specs.Passes.{Passes}
-use Rattle.c_check.proofs.Giving.{finds-then-given, finds-then-given-given}
-use Rattle.c_check.proofs.Naming.{passes-made}
-use Rattle.c_check.proofs.Passing.{with_checker}
+use Rattle.c_types_state.specs.NameTables.{State, scope_of}
+use Rattle.c_types_state.specs.Finding.{Finds, ExprStands, IsExpr, IsCondition, IsOption, expr_in, each_in}
+use Rattle.c_types_state.specs.Staying.{IsValue, IsSame}
+use Rattle.c_types_state.proofs.Findings.{plain-some, plain-none}
+use Rattle.c_types_operands.specs.declared.operands.Operand as memory_operand
+use Rattle.c_types_operands.specs.Operands.{IsOperand}
+use Rattle.c_types_expressions.specs.declared.pass.Pass.{Pass}
+use Rattle.c_types_expressions.specs.Named.{named_in}
+use Rattle.c_types_expressions.specs.Passes.{Passes}
+use Rattle.c_types_expressions.proofs.Giving.{finds-then-given, finds-then-given-given}
+use Rattle.c_types_expressions.proofs.Naming.{passes-made}
+use Rattle.c_types_expressions.proofs.Passing.{with_checker}
 use Rattle.c_types.specs.Made.{Makes}
 use Rattle.c_types.proofs.Covering.{covers-passes}
 
@@ -37,19 +35,20 @@ module _ (tree : ExprTree) (here : Pos) (is : here ≡ place_of tree) {s0 s1 : P
       subst (λ (p : Pos). Passes IsCondition (as_condition p (expr (scope_of s0.checker) tree)) (named_in (scope_of s0.checker) tree) s0 (with_checker s1 t) r') is
       (passes-made first last.grows refl (finds-then-given-given ExprStands expr_in (expr (scope_of s0.checker) tree) (value_rule here) (scalar_rule here) (λ value. give (condition_of here value)) first.finds last))
 
-  pub makes-condition : (r' : Option memory_condition.Condition) (condition : memory_condition.Condition) → r' ≡ Some condition → Finds IsCondition (given (given (with_known (each_in expr_in s1.checker.table r) (value_rule here)) (scalar_rule here)) (λ value. give (condition_of here value))) s1.checker t r' → Makes IsValue (as_condition (place_of tree) (expr (scope_of s0.checker) tree)).found (condition_test (as_condition (place_of tree) (expr (scope_of s0.checker) tree)).known) (named_in (scope_of s0.checker) tree) (scope_of s0.checker) s0 (with_checker s1 t) condition.test
+  pub makes-condition : (r' : Option memory_condition.Condition) (condition : memory_condition.Condition) → r' ≡ Some condition → Finds IsCondition (given (given (with_known (each_in expr_in s1.checker.table r) (value_rule here)) (scalar_rule here)) (λ value. give (condition_of here value))) s1.checker t r' → Makes IsValue (as_condition (place_of tree) (expr (scope_of s0.checker) tree)).found (condition_test (as_condition (place_of tree) (expr (scope_of s0.checker) tree)).known) (named_in (scope_of s0.checker) tree) (scope_of s0.checker) s0 (with_checker s1 t) condition.test.value
   makes-condition r' condition e last =
       let passes = passes-condition last in
       record { covers = covers-passes passes; made = by _ (subst (λ (r' : Option memory_condition.Condition). IsOption (IsCondition t.table) r' (as_condition (place_of tree) (expr (scope_of s0.checker) tree)).known) e passes.finds.known) }
     where
-      by : (k : Option Condition) → IsOption (IsCondition t.table) (Some condition) k → IsValue t.table condition.test (condition_test k)
+      by : (k : Option Condition) → IsOption (IsCondition t.table) (Some condition) k → IsValue t.table condition.test.value (condition_test k)
       by None h = absurd h
       by (Some known) h = (h.0, ap (λ (c : Condition). c.test) h.1)
 
-  pub makes-no_condition : (r' : Option memory_condition.Condition) → r' ≡ None → Finds IsCondition (given (given (with_known (each_in expr_in s1.checker.table r) (value_rule here)) (scalar_rule here)) (λ value. give (condition_of here value))) s1.checker t r' → Makes IsValue (as_condition (place_of tree) (expr (scope_of s0.checker) tree)).found (condition_test (as_condition (place_of tree) (expr (scope_of s0.checker) tree)).known) (named_in (scope_of s0.checker) tree) (scope_of s0.checker) s0 (with_checker s1 t) V.NullPointer
-  makes-no_condition r' e last =
+  pub makes-no_condition : (r' : Option memory_condition.Condition) {v : memory_value.Value} → r' ≡ None → v ≡ V.NullPointer → Finds IsCondition (given (given (with_known (each_in expr_in s1.checker.table r) (value_rule here)) (scalar_rule here)) (λ value. give (condition_of here value))) s1.checker t r' → Makes IsValue (as_condition (place_of tree) (expr (scope_of s0.checker) tree)).found (condition_test (as_condition (place_of tree) (expr (scope_of s0.checker) tree)).known) (named_in (scope_of s0.checker) tree) (scope_of s0.checker) s0 (with_checker s1 t) v
+  makes-no_condition r' {v = v} e null last =
       let passes = passes-condition last in
-      record { covers = covers-passes passes; made = by _ (subst (λ (r' : Option memory_condition.Condition). IsOption (IsCondition t.table) r' (as_condition (place_of tree) (expr (scope_of s0.checker) tree)).known) e passes.finds.known) }
+      let known = subst (λ (r' : Option memory_condition.Condition). IsOption (IsCondition t.table) r' (as_condition (place_of tree) (expr (scope_of s0.checker) tree)).known) e passes.finds.known in
+      record { covers = covers-passes passes; made = subst (λ (v : memory_value.Value). IsValue t.table v (condition_test (as_condition (place_of tree) (expr (scope_of s0.checker) tree)).known)) (sym null) (by _ known) }
     where
       by : (k : Option Condition) → IsOption (IsCondition t.table) None k → IsValue t.table V.NullPointer (condition_test k)
       by None h = (tt, refl)

@@ -1,5 +1,5 @@
 -- The variables of a program, each once.
-use Rattle.std.proofs.Common.{◌≡◌, ℕ, zero, suc, arith, ◌+◌, ◌<◌, ◌≤◌, ◌==◌, length, drop, get_or, Bool, true, false, cond, if◌then◌else◌, List, [], ◌∷◌, ◌++◌, map, Option, Some, None, option_map, refl, sym, ap, subst, ◌∙◌, slice_set, Vec, Global}
+use Rattle.std.proofs.Common.{◌≡◌, ℕ, zero, suc, arith, ◌+◌, ◌<◌, ◌==◌, length, drop, get_or, Bool, true, false, cond, if◌then◌else◌, List, [], ◌∷◌, ◌++◌, map, Option, Some, None, option_map, refl, sym, ap, subst, ◌∙◌, slice_set, Vec, Global}
 use Rattle.std.specs.Prelude.{bytes_eq}
 use Rattle.std.specs.Map.{KeepsOthers}
 use Rattle.std.proofs.lemmas.Bool.{false≢true, false_from_ne_true, eqb-true, eqb-false, ne_eqb}
@@ -8,7 +8,6 @@ use Rattle.std.proofs.lemmas.List.{drop_more, nil_from_length, length-append}
 use Rattle.std.proofs.lemmas.Slice.Eq.{bytes_eq-Decides}
 use Rattle.indexmap.specs.IndexMap.{IndexMap, UpdatesBy}
 use Rattle.c_num.specs.declared.IntType.{IntType}
-use Rattle.c_typed.specs.declared.c_type.CType as number
 use Rattle.c_typed.specs.declared.part.Part.{Part}
 use Rattle.c_typed.specs.declared.definition.GlobalDef as memory_global
 use Rattle.c_typed.specs.declared.definition.First as memory_first
@@ -18,7 +17,7 @@ use Rattle.c_typed.specs.Values.{Held}
 use Rattle.c_typed.specs.Typed.{GlobalDef}
 use Rattle.c_typed.specs.Table.{Interned, Stands, type_in}
 use Rattle.c_typed.specs.DefinitionViews.{global_in, all_first, first_of, characters_held, GlobalsStand}
-use Rattle.c_rules.specs.LocalTables.{number_in}
+use Rattle.c_types_state.specs.LocalTables.{number_in}
 use Rattle.c_rules.specs.Elaborated.{with_global, latest_first}
 use Rattle.c_types.specs.Globals.{global_number}
 

@@ -1,6 +1,6 @@
 -- First values of variables outside functions, one at a time.
-use Rattle.std.specs.Prelude.{◌≡◌, ℕ, if◌then◌else◌, List, [], ◌++◌}
-use Rattle.run_theory.specs.declared.ends.Pos.{Pos}
+use Rattle.std.specs.Prelude.{◌≡◌, if◌then◌else◌, List, [], ◌++◌}
+use Rattle.text_place.specs.declared.place.Pos.{Pos}
 use Rattle.c_syntax.specs.Trees.{InitsTree, NoInits, Inits}
 use Rattle.c_typed.specs.Types.{CType}
 use Rattle.c_typed.specs.Values.{Held}
@@ -14,7 +14,7 @@ use Rattle.c_rules.specs.Initializers.{known_first, init_place, found_within, fo
 use Rattle.c_types.specs.declared.initializers.Target.{Target}
 
 -- these were added behind the others, and the steps are as they were
-pub record Holds (held : List Held) (old new : Target) : Type 0 where
+pub record HoldsFirst (held : List Held) (old new : Target) : Type 0 where
   pub parts : new.parts.items ≡ old.parts.items
   pub first : all_first new.first.items ≡ all_first old.first.items ++ held
 

@@ -1,6 +1,5 @@
 -- What a pass over a part of the text comes to where something is made of the part in every case.
-use Rattle.std.specs.Prelude.{◌≡◌, List, [], ◌++◌, map, Option, Some, None, Vec}
-use Rattle.c_num.specs.declared.IntType.{IntType}
+use Rattle.std.specs.Prelude.{◌≡◌, List, [], ◌++◌, map, Option, Vec}
 use Rattle.c_typed.specs.declared.c_type.CType as number
 use Rattle.c_typed.specs.declared.typed.Value as memory_value
 use Rattle.c_typed.specs.declared.statement.Stmt as memory_stmt
@@ -19,11 +18,11 @@ use Rattle.c_typed.specs.StatementViews.{optional_value_in, OptionalStands, loca
 use Rattle.c_typed.specs.DefinitionViews.{all_first}
 use Rattle.c_rules.specs.declared.violation.Violation.{Violation}
 use Rattle.c_rules.specs.Names.{Scope}
-use Rattle.c_rules.specs.NameTables.{scope_of}
-use Rattle.c_rules.specs.Finding.{noted, IsOption, IsType}
-use Rattle.c_check.specs.declared.pass.Pass.{Pass}
-use Rattle.c_check.specs.Named.{NamedType}
-use Rattle.c_check.specs.Passes.{Names}
+use Rattle.c_types_state.specs.NameTables.{scope_of}
+use Rattle.c_types_state.specs.Finding.{noted, IsOption, IsType}
+use Rattle.c_types_expressions.specs.declared.pass.Pass.{Pass}
+use Rattle.c_types_expressions.specs.Named.{NamedType}
+use Rattle.c_types_expressions.specs.Passes.{Names}
 
 -- The pass has gone over a part: what the part violates was noted and the types that it names were added. The table may have
 -- grown, and the scope behind the part is this one.

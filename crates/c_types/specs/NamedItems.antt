@@ -1,19 +1,14 @@
 -- The types that declarations, statements and programs name.
-use Rattle.std.specs.Prelude.{Bool, true, false, if◌then◌else◌, List, [], ◌∷◌, ◌++◌, Option, Some, None}
-use Rattle.run_theory.specs.declared.ends.Pos.{Pos}
-use Rattle.c_num.specs.declared.IntType.{IntType}
+use Rattle.std.specs.Prelude.{true, false, List, [], ◌∷◌, ◌++◌, Option, Some, None}
+use Rattle.text_place.specs.declared.place.Pos.{Pos}
 use Rattle.c_syntax.specs.Trees
 use Rattle.c_syntax.specs.Trees.{NameTree, ExprTree, DeclaratorTree, InitTree, InitsTree, InitDeclaratorTree, DeclarationTree, ForTree, StmtTree, BlockTree, SwitchTree, MemberTree, BaseTree, ItemTree, ProgramTree}
-use Rattle.c_rules.specs.declared.rule.TypeRule.TheVariants as T
-use Rattle.c_typed.specs.Types
 use Rattle.c_typed.specs.Types.{CType, Struct}
-use Rattle.c_typed.specs.Layouts.{MemberDef, is_complete}
 use Rattle.c_rules.specs.Names.{Scope, entered}
-use Rattle.c_rules.specs.Known.{Checked, given, give, require}
 use Rattle.c_rules.specs.Expressions.{Required, declared_type, declared_name, name_place, words_type}
 use Rattle.c_rules.specs.Statements.{object_type, with_declared, declare_local, declaration, for_start}
-use Rattle.c_rules.specs.Programs.{outside_type, body_type, role_of, declare_outside, has_first, base_type, base_place, declared_members, with_member, file_declarator, entered_function, own_parameters, outermost, item}
-use Rattle.c_check.specs.Named.{NamedType, named_at, named_in, named_in_declarator}
+use Rattle.c_rules.specs.Programs.{outside_type, body_type, role_of, declare_outside, has_first, base_type, base_place, file_declarator, entered_function, own_parameters, outermost, item}
+use Rattle.c_types_expressions.specs.Named.{NamedType, named_at, named_in, named_in_declarator}
 
 abbrev mutual
   pub named_in_init : Scope → InitTree → List NamedType

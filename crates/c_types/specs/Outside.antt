@@ -1,11 +1,9 @@
 -- What stands outside functions, one thing at a time.
-use Rattle.std.specs.Prelude.{◌≡◌, ℕ, suc, Bool, ◌||◌, ◌&&◌, if◌then◌else◌, List, [], ◌∷◌, ◌++◌, map, Option, Some, None, bytes_eq, option_map}
-use Rattle.run_theory.specs.declared.ends.Pos.{Pos}
+use Rattle.std.specs.Prelude.{◌≡◌, ℕ, Bool, ◌||◌, ◌&&◌, List, [], ◌∷◌, map, Option, Some, None}
+use Rattle.text_place.specs.declared.place.Pos.{Pos}
 use Rattle.c_syntax.specs.Trees
 use Rattle.c_syntax.specs.Trees.{NameTree, WordsTree, OptionalTree, ParametersTree, ItemTree}
 use Rattle.c_typed.specs.declared.c_type.CType as number
-use Rattle.c_typed.specs.declared.structure.Member as memory_member
-use Rattle.c_typed.specs.declared.definition.GlobalDef as memory_global
 use Rattle.c_typed.specs.Types
 use Rattle.c_typed.specs.Types.{CType}
 use Rattle.c_typed.specs.Layouts.{MemberDef, is_complete}
@@ -13,12 +11,13 @@ use Rattle.c_typed.specs.Typed.{GlobalDef, FunctionDef}
 use Rattle.c_typed.specs.Table.{Interned, AreComplete, KnownStands, member_entries, member_defs}
 use Rattle.c_typed.specs.DefinitionViews.{global_in, function_in, GlobalsStand, FunctionsStand}
 use Rattle.c_rules.specs.declared.rule.TypeRule.TheVariants as T
-use Rattle.c_rules.specs.declared.file_name.FileEntry as memory_file
-use Rattle.c_rules.specs.Checkers.{names_of}
-use Rattle.c_rules.specs.Names.{Scope, FileName, contains}
-use Rattle.c_rules.specs.NameTables.{file_row}
+use Rattle.c_types_state.specs.declared.file_name.FileEntry as memory_file
+use Rattle.c_types_state.specs.Checkers.{names_of}
+use Rattle.c_rules.specs.Names.{Scope, FileName}
+use Rattle.c_typed.specs.Names.{contains}
+use Rattle.c_types_state.specs.NameTables.{file_row}
 use Rattle.c_rules.specs.Known.{Checked, given, require, give}
-use Rattle.c_rules.specs.Finding.{IsOption, IsType}
+use Rattle.c_types_state.specs.Finding.{IsOption, IsType}
 use Rattle.c_rules.specs.Expressions.{Adjusted, optional_type, words_type, optional_name, parameter_type, declared_name}
 use Rattle.c_rules.specs.Programs.{has_member, base_type, base_place, differs}
 use Rattle.c_rules.specs.Elaborated.{declared_globals, defined_function}

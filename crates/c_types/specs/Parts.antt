@@ -1,13 +1,11 @@
 -- The parts of statements and blocks, one at a time.
-use Rattle.std.specs.Prelude.{◌≡◌, Bool, true, not, List, [], ◌∷◌, ◌++◌, Option, Some, None, ℤ}
-use Rattle.std.specs.Ordering.{int_eq}
-use Rattle.run_theory.specs.declared.ends.Pos.{Pos}
+use Rattle.std.specs.Prelude.{◌≡◌, Bool, true, not, List, [], ◌∷◌, ◌++◌, Option, ℤ}
 use Rattle.c_num.specs.declared.IntType.{IntType}
 use Rattle.c_syntax.specs.declared.statement.BlockItem as memory_item
 use Rattle.c_syntax.specs.declared.statement.BlockItem.TheVariants as B
 use Rattle.c_syntax.specs.declared.statement.SwitchItem as memory_switch
 use Rattle.c_syntax.specs.declared.statement.SwitchItem.TheVariants as W
-use Rattle.c_syntax.specs.Trees.{ExprTree, DeclarationTree, StmtTree, BlockTree, Close, Declare, Perform}
+use Rattle.c_syntax.specs.Trees.{ExprTree, BlockTree, Close, Declare, Perform}
 use Rattle.c_syntax.specs.Views.{expr_tree, declaration_tree, stmt_tree}
 use Rattle.c_typed.specs.declared.statement.SwitchItem as made_switch
 use Rattle.c_typed.specs.Types.{CType}
@@ -18,17 +16,17 @@ use Rattle.c_rules.specs.declared.rule.TypeRule.TheVariants as T
 use Rattle.c_rules.specs.declared.violation.Violation.{Violation}
 use Rattle.c_rules.specs.Names.{Scope}
 use Rattle.c_rules.specs.Known.{unless}
-use Rattle.c_rules.specs.Finding.{each_in}
+use Rattle.c_types_state.specs.Finding.{each_in}
 use Rattle.c_rules.specs.Operators.{as_integer}
 use Rattle.c_rules.specs.Expressions.{expr, place_of, as_constant}
-use Rattle.c_rules.specs.Statements.{Around, stmt, declaration, label_type, converted_label, repeats, with_label, has_label}
+use Rattle.c_rules.specs.Statements.{FunctionContext, stmt, declaration, label_type, converted_label, repeats, with_label, has_label}
 use Rattle.c_rules.specs.Elaborated.{value_of, switched, declared_locals, declare_each, stmt_of, label_or_zero}
-use Rattle.c_check.specs.Named.{NamedType, named_in}
+use Rattle.c_types_expressions.specs.Named.{NamedType, named_in}
 use Rattle.c_types.specs.declared.statements.Around as memory_around
 use Rattle.c_types.specs.NamedItems.{named_in_declaration, named_in_stmt}
 
 -- what surrounds a statement
-abbrev pub around_in : Interned → memory_around.Around → Around
+abbrev pub around_in : Interned → memory_around.Around → FunctionContext
 around_in table around = record { result = each_in type_in table around.returned; may_break = around.may_break; may_continue = around.may_continue }
 
 -- ---- blocks
@@ -40,7 +38,7 @@ behind_block scope (Declare tree others) = behind_block (declaration scope tree)
 behind_block scope (Perform one others) = behind_block scope others
 
 -- one item of a block: what it violates and names, what it adds to what stands behind it, and the scope behind it
-abbrev pub item_found : Scope → Around → memory_item.BlockItem → List Violation
+abbrev pub item_found : Scope → FunctionContext → memory_item.BlockItem → List Violation
 item_found scope around (B.Declaration tree) = (declaration scope (declaration_tree tree)).found
 item_found scope around (B.Statement one) = stmt scope around (stmt_tree one)
 
@@ -70,7 +68,7 @@ abbrev pub label_of : Scope → Option IntType → ExprTree → Option ℤ
 label_of scope int_type value = converted_label int_type (as_constant (place_of value) (expr scope value)).known
 
 -- one item of a `switch`, behind these labels
-abbrev pub part_found : Scope → Around → Option IntType → List ℤ → Bool → memory_switch.SwitchItem → List Violation
+abbrev pub part_found : Scope → FunctionContext → Option IntType → List ℤ → Bool → memory_switch.SwitchItem → List Violation
 part_found scope around int_type labels has_default (W.Case place value) =
     (as_constant (place_of (expr_tree value)) (expr scope (expr_tree value))).found ++ unless (not (repeats labels (label_of scope int_type (expr_tree value)))) T.T21 place
 part_found scope around int_type labels has_default (W.Default place) = unless (not has_default) T.T21 place

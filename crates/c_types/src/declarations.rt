@@ -7,19 +7,21 @@ ghost use Rattle.c_typed.specs.Kept.{IsObject};
 ghost use Rattle.c_rules.specs.Known.{with_known};
 ghost use Rattle.c_rules.specs.Statements as statements;
 ghost use Rattle.c_rules.specs.Elaborated as elaborated;
-ghost use Rattle.c_rules.specs.Finding.{Finds, AllStand, each_in};
-ghost use Rattle.c_rules.specs.NameTables.{scope_of};
-ghost use Rattle.c_check.specs.Derived.{element_rule, IsElement};
+ghost use Rattle.c_types_state.specs.Finding.{Finds, AllStand, each_in};
+ghost use Rattle.c_types_state.specs.NameTables.{scope_of};
+ghost use Rattle.c_types_expressions.specs.Derived.{element_rule, IsElement};
 ghost use Rattle.c_types.specs.NamedItems.{named_in_local, named_in_declaration};
 ghost use Rattle.c_types.specs.Made.{Covers, Makes, IsLocal, IsLocals, AddsItems};
 
 use crate::initializers::local_first;
-use c_check::{LengthRole, Pass, declared_name, declared_type, name_place, words_type};
-use c_rules::{Checker, TypeRule, library_function};
+use crate::values::unboxed;
+use c_rules::TypeRule;
 use c_syntax::{Declaration, InitDeclarator, Name};
 use c_typed::{BlockItem, CType, LocalDef};
-use run_theory::Pos;
+use c_types_expressions::{LengthRole, Pass, declared_name, declared_type, name_place, words_type};
+use c_types_state::{Checker, library_function};
 use std::alloc::AllocError;
+use text_place::Pos;
 
 /// Adds the locals of a declaration to what stands in its block.
 pub(crate) fn block_declaration(
@@ -71,6 +73,7 @@ fn local(
         Some(init) => local_first(pass, own, init)?,
         None => None,
     };
+    let first = unboxed(first);
     Ok(LocalDef {
         c_type: own.unwrap_or(CType::VOID),
         first,

@@ -41,7 +41,7 @@ pub(crate) struct Globals {
 impl Model for Globals {
     ghost use Rattle.c_typed.specs.declared.definition.GlobalDef as memory_global;
     ghost use Rattle.std.specs.Prelude.{◌≡◌, List, ℕ};
-    ghost use Rattle.c_rules.specs.LocalTables.{number_in};
+    ghost use Rattle.c_types_state.specs.LocalTables.{number_in};
     ghost use Rattle.c_types.specs.Globals.{global_number};
 
     ghost Value = { List memory_global.GlobalDef };

@@ -9,24 +9,25 @@ ghost use Rattle.c_typed.specs.Table.{Stands, type_in, TagStands, tag_in, struct
 ghost use Rattle.c_rules.specs.Initializers as rules;
 ghost use Rattle.c_rules.specs.Programs as programs;
 ghost use Rattle.c_rules.specs.Elaborated as elaborated;
-ghost use Rattle.c_rules.specs.Finding.{AllStand, each_in};
-ghost use Rattle.c_rules.specs.NameTables.{scope_of};
-ghost use Rattle.c_rules.specs.Staying.{IsValue};
-ghost use Rattle.c_check.specs.Named.{named_in};
-ghost use Rattle.c_check.specs.Roles.{role_of};
+ghost use Rattle.c_types_state.specs.Finding.{AllStand, each_in};
+ghost use Rattle.c_types_state.specs.NameTables.{scope_of};
+ghost use Rattle.c_types_state.specs.Staying.{IsValue};
+ghost use Rattle.c_types_expressions.specs.Named.{named_in};
+ghost use Rattle.c_types_expressions.specs.Roles.{role_of};
 ghost use Rattle.c_types.specs.NamedItems.{named_in_init, named_in_inits};
 ghost use Rattle.c_types.specs.Made.{Covers, Makes, IsOptionalValue};
-ghost use Rattle.c_types.specs.FirstValues.{Holds, too_many};
+ghost use Rattle.c_types.specs.FirstValues.{HoldsFirst, too_many};
 
 use crate::scalars::value_first;
 use crate::values::{value, value_as};
-use c_check::{LengthRole, Pass, is_character, place_of};
-use c_operators::fits;
-use c_rules::{Checker, TypeRule};
+use c_rules::TypeRule;
 use c_syntax::{ByteString, Expr, Init};
 use c_typed::{CType, First, Part, Shape, StructId, Value};
-use run_theory::Pos;
+use c_types_expressions::{LengthRole, Pass, is_character, place_of};
+use c_types_operands::fits;
+use c_types_state::Checker;
 use std::alloc::{AllocError, Global};
+use text_place::Pos;
 
 /// The place of an initializer's first token.
 fn init_place(init: &Init) -> Pos
@@ -102,7 +103,7 @@ pub(crate) fn found_within(pass: &mut Pass, init: &Init) -> Result<(), AllocErro
 {
     match init {
         Init::Value(tree) => {
-            value(pass, tree)?;
+            drop(value(pass, tree)?);
             Ok(())
         }
         Init::List { inits, .. } => found_within_all(pass, inits),
@@ -136,14 +137,14 @@ pub(crate) fn local_first(
     pass: &mut Pass,
     c_type: Option<CType>,
     init: &Init,
-) -> Result<Option<Value>, AllocError>
+) -> Result<Option<Box<Value>>, AllocError>
     requires { AllStand Stands pass.old.checker.table c_type }
-    ensures { IfOk result (Makes IsOptionalValue (rules.local_first (scope_of pass.old.checker) (each_in type_in pass.old.checker.table c_type) (init_tree init.now)) (elaborated.first_local (scope_of pass.old.checker) (each_in type_in pass.old.checker.table c_type) (Some (init_tree init.now))) (named_in_init (scope_of pass.old.checker) (init_tree init.now)) (scope_of pass.old.checker) pass.old pass.new) }
+    ensures { IfOk result (λ made. Makes IsOptionalValue (rules.local_first (scope_of pass.old.checker) (each_in type_in pass.old.checker.table c_type) (init_tree init.now)) (elaborated.first_local (scope_of pass.old.checker) (each_in type_in pass.old.checker.table c_type) (Some (init_tree init.now))) (named_in_init (scope_of pass.old.checker) (init_tree init.now)) (scope_of pass.old.checker) pass.old pass.new (option_map (λ value. value.value) made)) }
 {
     match (c_type, init) {
         (None, Init::Value(tree)) => {
-            value(pass, tree)?;
-            Ok(Some(Value::NullPointer))
+            drop(value(pass, tree)?);
+            Ok(Some(Box::new(pass.alloc(), Value::NullPointer)?))
         }
         (None, Init::List { inits, .. }) => {
             found_within_all(pass, inits)?;
@@ -171,9 +172,9 @@ fn is_aggregate(checker: &Checker, c_type: CType) -> bool
 }
 
 /// An expression as the first value of a local.
-fn local_value(pass: &mut Pass, c_type: CType, tree: &Expr) -> Result<Value, AllocError>
+fn local_value(pass: &mut Pass, c_type: CType, tree: &Expr) -> Result<Box<Value>, AllocError>
     requires { Stands pass.old.checker.table c_type }
-    ensures { IfOk result (Makes IsValue (rules.local_first (scope_of pass.old.checker) (Some (type_in pass.old.checker.table c_type)) (Trees.InitValue (expr_tree tree.now))) (elaborated.value_as (scope_of pass.old.checker) (Some (type_in pass.old.checker.table c_type)) (expr_tree tree.now)) (named_in (scope_of pass.old.checker) (expr_tree tree.now)) (scope_of pass.old.checker) pass.old pass.new) }
+    ensures { IfOk result (λ made. Makes IsValue (rules.local_first (scope_of pass.old.checker) (Some (type_in pass.old.checker.table c_type)) (Trees.InitValue (expr_tree tree.now))) (elaborated.value_as (scope_of pass.old.checker) (Some (type_in pass.old.checker.table c_type)) (expr_tree tree.now)) (named_in (scope_of pass.old.checker) (expr_tree tree.now)) (scope_of pass.old.checker) pass.old pass.new made.value) }
 {
     let place = place_of(tree);
     let is_scalar = !is_aggregate(&pass.checker, c_type);
@@ -217,7 +218,7 @@ pub(crate) fn first_of(
 ) -> Result<(), AllocError>
     requires { AllStand Stands pass.old.checker.table c_type }
     ensures found { OnOk result (Covers (rules.first_of (scope_of pass.old.checker) (each_in type_in pass.old.checker.table c_type) (init_tree init.now)) (named_in_init (scope_of pass.old.checker) (init_tree init.now)) (scope_of pass.old.checker) pass.old pass.new) }
-    ensures held { OnOk result (Holds (elaborated.held_of (scope_of pass.old.checker) target.old.parts.items index (each_in type_in pass.old.checker.table c_type) (init_tree init.now)) target.old target.new) }
+    ensures held { OnOk result (HoldsFirst (elaborated.held_of (scope_of pass.old.checker) target.old.parts.items index (each_in type_in pass.old.checker.table c_type) (init_tree init.now)) target.old target.new) }
 {
     let Some(c_type) = c_type else {
         return found_within(pass, init);
@@ -240,7 +241,7 @@ fn list_first(
 ) -> Result<(), AllocError>
     requires { Stands pass.old.checker.table c_type }
     ensures found { OnOk result (Covers (rules.first_of (scope_of pass.old.checker) (Some (type_in pass.old.checker.table c_type)) (Trees.InitList place (inits_of inits.now))) (named_in_inits (scope_of pass.old.checker) (inits_of inits.now)) (scope_of pass.old.checker) pass.old pass.new) }
-    ensures held { OnOk result (Holds (elaborated.held_of (scope_of pass.old.checker) target.old.parts.items index (Some (type_in pass.old.checker.table c_type)) (Trees.InitList place (inits_of inits.now))) target.old target.new) }
+    ensures held { OnOk result (HoldsFirst (elaborated.held_of (scope_of pass.old.checker) target.old.parts.items index (Some (type_in pass.old.checker.table c_type)) (Trees.InitList place (inits_of inits.now))) target.old target.new) }
 {
     match pass.checker.shape(c_type) {
         Shape::Array { element, length } => {
@@ -273,7 +274,7 @@ fn elements_first(
 ) -> Result<(), AllocError>
     requires { Stands pass.old.checker.table element }
     ensures found { OnOk result (Covers (rules.elements_first (scope_of pass.old.checker) (type_in pass.old.checker.table element) length (inits_of inits.now)) (named_in_inits (scope_of pass.old.checker) (inits_of inits.now)) (scope_of pass.old.checker) pass.old pass.new) }
-    ensures held { OnOk result (Holds (elaborated.elements_held (scope_of pass.old.checker) target.old.parts.items 0 (type_in pass.old.checker.table element) length (inits_of inits.now)) target.old target.new) }
+    ensures held { OnOk result (HoldsFirst (elaborated.elements_held (scope_of pass.old.checker) target.old.parts.items 0 (type_in pass.old.checker.table element) length (inits_of inits.now)) target.old target.new) }
 {
     for index in 0..inits.len() {
         if index as u64 >= length {
@@ -295,7 +296,7 @@ fn members_first(
 ) -> Result<(), AllocError>
     requires { TagStands pass.old.checker.table id }
     ensures found { OnOk result (Covers (rules.members_first (scope_of pass.old.checker) (members_of (structs_in pass.old.checker.table) (T.Struct (tag_in pass.old.checker.table id))) (inits_of inits.now)) (named_in_inits (scope_of pass.old.checker) (inits_of inits.now)) (scope_of pass.old.checker) pass.old pass.new) }
-    ensures held { OnOk result (Holds (elaborated.members_held (scope_of pass.old.checker) target.old.parts.items index 0 (members_of (structs_in pass.old.checker.table) (T.Struct (tag_in pass.old.checker.table id))) (inits_of inits.now)) target.old target.new) }
+    ensures held { OnOk result (HoldsFirst (elaborated.members_held (scope_of pass.old.checker) target.old.parts.items index 0 (members_of (structs_in pass.old.checker.table) (T.Struct (tag_in pass.old.checker.table id))) (inits_of inits.now)) target.old target.new) }
 {
     for number in 0..inits.len() {
         let Some(c_type) = pass.checker.member_at(id, number) else {
@@ -318,7 +319,7 @@ fn member_first(
 ) -> Result<(), AllocError>
     requires { AllStand Stands pass.old.checker.table c_type }
     ensures found { OnOk result (Covers (rules.first_of (scope_of pass.old.checker) (each_in type_in pass.old.checker.table c_type) (init_tree init.now)) (named_in_init (scope_of pass.old.checker) (init_tree init.now)) (scope_of pass.old.checker) pass.old pass.new) }
-    ensures held { OnOk result (Holds (elaborated.held_of (scope_of pass.old.checker) (elaborated.within target.old.parts.items (Parts.Member index number)) 0 (each_in type_in pass.old.checker.table c_type) (init_tree init.now)) target.old target.new) }
+    ensures held { OnOk result (HoldsFirst (elaborated.held_of (scope_of pass.old.checker) (elaborated.within target.old.parts.items (Parts.Member index number)) 0 (each_in type_in pass.old.checker.table c_type) (init_tree init.now)) target.old target.new) }
 {
     let number = u32::try_from(number).map_err(|_| AllocError)?;
     target.parts.push(Part::Member { index, number })?;

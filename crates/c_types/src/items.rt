@@ -5,15 +5,15 @@ ghost use Rattle.c_syntax.specs.Views.{name_tree, declarator_tree, init_declarat
 ghost use Rattle.c_typed.specs.Types as T;
 ghost use Rattle.c_typed.specs.Typed.{GlobalDef, FunctionDef};
 ghost use Rattle.c_rules.specs.Expressions as expressions;
-ghost use Rattle.c_rules.specs.Staying.{IsSame};
+ghost use Rattle.c_types_state.specs.Staying.{IsSame};
 ghost use Rattle.c_typed.specs.Table.{Interned, Stands, type_in, KnownStands};
 ghost use Rattle.c_typed.specs.DefinitionViews.{TypesStand, all_first};
 ghost use Rattle.c_rules.specs.Known.{with_known};
 ghost use Rattle.c_rules.specs.Programs as rules;
 ghost use Rattle.c_rules.specs.Elaborated as elaborated;
-ghost use Rattle.c_rules.specs.Finding.{Finds, IsType, AllStand, each_in};
+ghost use Rattle.c_types_state.specs.Finding.{Finds, IsType, AllStand, each_in};
 ghost use Rattle.c_rules.specs.Names.{file_name};
-ghost use Rattle.c_rules.specs.NameTables.{scope_of};
+ghost use Rattle.c_types_state.specs.NameTables.{scope_of};
 ghost use Rattle.c_types.specs.NamedItems.{named_in_item, named_in_file_declarator, named_in_file_declarators, named_in_function, named_in_first};
 ghost use Rattle.c_types.specs.Made.{Covers, Makes, Reaches, IsFirst};
 ghost use Rattle.c_types.specs.Outside.{IsOutside, HasDefined, item_globals, item_functions, outside_rule, body_rule, row_of, clash};
@@ -23,14 +23,15 @@ use crate::initializers::{Target, first_of, initialized_role};
 use crate::parameters::enter_function;
 use crate::statements::{Around, block_items};
 use crate::structures::base_type;
-use c_check::{LengthRole, Pass, declared_name, declared_type};
 use c_num::IntType;
-use c_rules::{Checker, FileEntry, TypeRule, library_function};
+use c_rules::TypeRule;
 use c_syntax::{Block, Declarator, Init, InitDeclarator, Item, Name};
 use c_typed as typed;
 use c_typed::{ByteString, CType, Shape};
-use run_theory::Pos;
+use c_types_expressions::{LengthRole, Pass, declared_name, declared_type};
+use c_types_state::{Checker, FileEntry, library_function};
 use std::alloc::AllocError;
+use text_place::Pos;
 
 /// An item: what it violates, and what it defines.
 pub(crate) fn item(pass: &mut Pass, defined: &mut Defined, item: &Item) -> Result<(), AllocError>

@@ -6,16 +6,16 @@ ghost use Rattle.c_syntax.specs.Views.{declarator_tree, suffixes_of, parameters_
 ghost use Rattle.c_rules.specs.Expressions as expressions;
 ghost use Rattle.c_rules.specs.Programs as rules;
 ghost use Rattle.c_rules.specs.Names.{Scope, in_function};
-ghost use Rattle.c_rules.specs.NameTables.{scope_of};
+ghost use Rattle.c_types_state.specs.NameTables.{scope_of};
 ghost use Rattle.c_types.specs.Made.{Covers, Makes, IsOptionalType};
 ghost use Rattle.c_types.specs.Outside.{IsOutside, local_type, local_types, AreTypes, AllKnown};
 
-use c_check::{
-    LengthRole, Pass, adds, is_void_alone, optional_name, optional_type, parameter_type, words_type,
-};
 use c_rules::TypeRule;
 use c_syntax::{Declarator, Direct, Parameter, Suffix};
 use c_typed::CType;
+use c_types_expressions::{
+    LengthRole, Pass, adds, is_void_alone, optional_name, optional_type, parameter_type, words_type,
+};
 use std::alloc::AllocError;
 
 /// The parameters of a function's own list, which stands next to its name.

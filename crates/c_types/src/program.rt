@@ -5,17 +5,17 @@ ghost use Rattle.c_syntax.specs.Views.{program_tree};
 ghost use Rattle.c_typed.specs.DefinitionViews.{program_of, ProgramStands};
 ghost use Rattle.c_rules.specs.Programs as rules;
 ghost use Rattle.c_rules.specs.Elaborated as elaborated;
-ghost use Rattle.c_check.specs.Passes.{named_type, AllNamedStand};
+ghost use Rattle.c_types_expressions.specs.Passes.{named_type, AllNamedStand};
 ghost use Rattle.c_types.specs.NamedItems.{named_types};
 
 use crate::defined::Defined;
 use crate::items::item;
-use c_check::{NamedType, Pass};
-use c_outline::{literals_of, outermost};
 use c_rules::{TypeRule, Violation};
 use c_syntax::{Base, Item, Program};
 use c_typed as typed;
 use c_typed::ByteString;
+use c_types_expressions::{NamedType, Pass};
+use c_types_state::{literals_of, outermost};
 use indexmap::IndexSet;
 use std::alloc::{AllocError, Global};
 
@@ -52,6 +52,8 @@ pub fn check(alloc: Global, program: &Program) -> Result<Typed, TypeErr>
     ensures stands { IfOk result (λ typed. ProgramStands typed.program × AllNamedStand typed.program.types typed.named.items) }
     ensures refused { (violation : Violation) → result ≡ Err (TypeErr.Rule violation) → rules.refusal (program_tree program.now) ≡ Some violation }
 {
+    let completed = completed_by(alloc, program)?;
+    let literals = literals_of(alloc, program)?;
     let mut pass = Pass::new(alloc);
     outermost(&mut pass.checker, program)?;
     let mut defined = Defined::new(alloc);
@@ -68,9 +70,9 @@ pub fn check(alloc: Global, program: &Program) -> Result<Typed, TypeErr>
     Ok(Typed {
         program: typed::Program {
             types: checker.into_types(),
-            completed: completed_by(alloc, program)?,
+            completed,
             globals: globals.into_vec(),
-            literals: literals_of(alloc, program)?,
+            literals,
             functions,
         },
         named,

@@ -10,23 +10,24 @@ ghost use Rattle.c_rules.specs.declared.rule.TypeRule.TheVariants as R;
 ghost use Rattle.c_rules.specs.Known.{unless, at};
 ghost use Rattle.c_rules.specs.Initializers as rules;
 ghost use Rattle.c_rules.specs.Elaborated as elaborated;
-ghost use Rattle.c_rules.specs.Finding.{noted};
-ghost use Rattle.c_rules.specs.NameTables.{scope_of};
-ghost use Rattle.c_operators.specs.Operands.{OperandStands, operand_in};
-ghost use Rattle.c_check.specs.Named.{named_in};
+ghost use Rattle.c_types_state.specs.Finding.{noted};
+ghost use Rattle.c_types_state.specs.NameTables.{scope_of};
+ghost use Rattle.c_types_operands.specs.Operands.{OperandStands, operand_in};
+ghost use Rattle.c_types_expressions.specs.Named.{named_in};
 ghost use Rattle.c_types.specs.Made.{Covers};
-ghost use Rattle.c_types.specs.FirstValues.{Holds, scalar_found};
+ghost use Rattle.c_types.specs.FirstValues.{HoldsFirst, scalar_found};
 
 use crate::initializers::Target;
 use crate::values::value;
-use c_check::{Pass, is_character, place_of};
 use c_num::{IntType, convert};
-use c_operators::{Operand, fits, retyped};
-use c_rules::{Address, Checker, Constness, TypeRule};
+use c_rules::{Constness, TypeRule};
 use c_syntax::{ByteString, Expr};
 use c_typed::{CType, First, Held, Part, Scalar, Shape};
-use run_theory::Pos;
+use c_types_expressions::{Pass, is_character, place_of};
+use c_types_operands::{Operand, fits, retyped};
+use c_types_state::{Address, Checker};
 use std::alloc::AllocError;
+use text_place::Pos;
 
 /// An expression as the first value of a global, an element or a member of a type.
 pub(crate) fn value_first(
@@ -38,7 +39,7 @@ pub(crate) fn value_first(
 ) -> Result<(), AllocError>
     requires { Stands pass.old.checker.table c_type }
     ensures found { OnOk result (Covers (rules.value_first (scope_of pass.old.checker) (type_in pass.old.checker.table c_type) (expr_tree tree.now)) (named_in (scope_of pass.old.checker) (expr_tree tree.now)) (scope_of pass.old.checker) pass.old pass.new) }
-    ensures held { OnOk result (Holds (elaborated.value_held (scope_of pass.old.checker) target.old.parts.items index (type_in pass.old.checker.table c_type) (expr_tree tree.now)) target.old target.new) }
+    ensures held { OnOk result (HoldsFirst (elaborated.value_held (scope_of pass.old.checker) target.old.parts.items index (type_in pass.old.checker.table c_type) (expr_tree tree.now)) target.old target.new) }
 {
     match pass.checker.shape(c_type) {
         Shape::Array { element, length } => array_first(pass, target, index, element, length, tree),
@@ -65,7 +66,7 @@ fn array_first(
 ) -> Result<(), AllocError>
     requires { Stands pass.old.checker.table element }
     ensures found { OnOk result (Covers (rules.value_first (scope_of pass.old.checker) (T.Array (type_in pass.old.checker.table element) length) (expr_tree tree.now)) (named_in (scope_of pass.old.checker) (expr_tree tree.now)) (scope_of pass.old.checker) pass.old pass.new) }
-    ensures held { OnOk result (Holds (elaborated.value_held (scope_of pass.old.checker) target.old.parts.items index (T.Array (type_in pass.old.checker.table element) length) (expr_tree tree.now)) target.old target.new) }
+    ensures held { OnOk result (HoldsFirst (elaborated.value_held (scope_of pass.old.checker) target.old.parts.items index (T.Array (type_in pass.old.checker.table element) length) (expr_tree tree.now)) target.old target.new) }
 {
     match tree {
         Expr::Literal { bytes, place } => {
@@ -84,7 +85,7 @@ fn refused_first(pass: &mut Pass, kind: TypeRule, tree: &Expr) -> Result<(), All
     ensures { OnOk result (Covers (rules.value_found (scope_of pass.old.checker) (expr_tree tree.now) ++ at kind (rules.init_place (Trees.InitValue (expr_tree tree.now)))) (named_in (scope_of pass.old.checker) (expr_tree tree.now)) (scope_of pass.old.checker) pass.old pass.new) }
 {
     let place = place_of(tree);
-    value(pass, tree)?;
+    drop(value(pass, tree)?);
     pass.checker.note(kind, place);
     Ok(())
 }
@@ -101,7 +102,7 @@ pub(crate) fn text_first(
 ) -> Result<(), AllocError>
     requires { Stands pass.old.checker.table element }
     ensures found { OnOk result (Covers (unless (nat_le (count bytes.now) length) R.T18 place) [] (scope_of pass.old.checker) pass.old pass.new) }
-    ensures held { OnOk result (Holds (elaborated.text_held target.old.parts.items index (type_in pass.old.checker.table element) length bytes.now) target.old target.new) }
+    ensures held { OnOk result (HoldsFirst (elaborated.text_held target.old.parts.items index (type_in pass.old.checker.table element) length bytes.now) target.old target.new) }
 {
     let bytes = bytes.as_slice();
     let has_room = bytes.len() as u64 <= length;
@@ -140,7 +141,7 @@ fn scalar_first(
     requires c_type { Stands pass.old.checker.table c_type }
     requires operand { OperandStands pass.old.checker.table operand }
     ensures found { OnOk result (Covers (scalar_found (scope_of pass.old.checker) place (type_in pass.old.checker.table c_type) (operand_in pass.old.checker.table operand)) [] (scope_of pass.old.checker) pass.old pass.new) }
-    ensures held { OnOk result (Holds (elaborated.scalar_held (scope_of pass.old.checker) target.old.parts.items index (type_in pass.old.checker.table c_type) (Some (operand_in pass.old.checker.table operand))) target.old target.new) }
+    ensures held { OnOk result (HoldsFirst (elaborated.scalar_held (scope_of pass.old.checker) target.old.parts.items index (type_in pass.old.checker.table c_type) (Some (operand_in pass.old.checker.table operand))) target.old target.new) }
 {
     let fits = fits(&pass.checker, c_type, &operand);
     if !pass.checker.require(fits, TypeRule::T10, place) {
@@ -148,7 +149,9 @@ fn scalar_first(
     }
     let value = match pass.checker.shape(c_type) {
         Shape::Integer(int_type) => {
-            integer_first(&mut pass.checker, place, int_type, operand.constness)
+            let constness = operand.constness;
+            drop(operand);
+            integer_first(&mut pass.checker, place, int_type, constness)
         }
         Shape::Pointer(pointed) => pointer_first(&mut pass.checker, place, pointed, operand),
         _ => return Ok(()),

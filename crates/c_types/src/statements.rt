@@ -1,14 +1,14 @@
 // Statements and blocks (C17 6.8).
 
 ghost use Rattle.std.specs.Prelude.{◌≡◌, [], false, true, IfOk, OnOk};
-ghost use Rattle.run_theory.specs.declared.ends.Pos.{Pos};
+ghost use Rattle.text_place.specs.declared.place.Pos.{Pos};
 ghost use Rattle.c_syntax.specs.Trees as Trees;
 ghost use Rattle.c_syntax.specs.Views.{stmt_tree, value_tree, for_tree, block_of, switch_of};
 ghost use Rattle.c_typed.specs.Table.{Stands, type_in};
 ghost use Rattle.c_rules.specs.Statements as rules;
 ghost use Rattle.c_rules.specs.Elaborated as elaborated;
-ghost use Rattle.c_rules.specs.Finding.{AllStand, each_in};
-ghost use Rattle.c_rules.specs.NameTables.{scope_of};
+ghost use Rattle.c_types_state.specs.Finding.{AllStand, each_in};
+ghost use Rattle.c_types_state.specs.NameTables.{scope_of};
 ghost use Rattle.c_types.specs.NamedItems.{named_in_stmt, named_in_start, named_in_block, named_in_switch};
 ghost use Rattle.c_types.specs.Made.{Covers, Makes, IsStmt, IsStart, IsBlock, IsSwitchItems, AddsItems};
 ghost use Rattle.c_types.specs.Parts.{around_in, behind_block, item_found, item_named, item_adds, item_scope, part_found, part_named, part_labels, part_default, part_adds, IsPart, SameLabels};
@@ -16,15 +16,16 @@ ghost use Rattle.c_types.specs.Parts.{around_in, behind_block, item_found, item_
 use crate::declarations::{block_declaration, declaration_locals};
 use crate::labels::{Labels, converted_label};
 use crate::values::{
-    condition, constant_of, optional_condition, optional_unused, returned, switched, unused,
+    condition, constant_of, optional_condition, optional_unused, returned, switched, unboxed,
+    unused,
 };
-use c_check::Pass;
 use c_num::IntType;
 use c_rules::TypeRule;
 use c_syntax::{BlockItem, Expr, ForFirst, Stmt, SwitchItem};
 use c_typed as typed;
 use c_typed::CType;
-use std::alloc::AllocError;
+use c_types_expressions::Pass;
+use std::alloc::{AllocError, Global};
 
 /// What surrounds a statement: the result of its function, where that has a type, and whether `break` and `continue` may
 /// stand there (C17 6.8.6).
@@ -56,25 +57,37 @@ impl Around {
     }
 }
 
+/// A typed statement in a box.
+fn boxed(alloc: Global, stmt: typed::Stmt) -> Result<Box<typed::Stmt>, AllocError>
+    ensures { IfOk result (λ made. made.value ≡ stmt) }
+{
+    Ok(Box::new(alloc, stmt)?)
+}
+
 /// A statement: what it violates, and its typed tree.
 #[cycle(stmt)]
-fn statement(pass: &mut Pass, around: Around, stmt: &Stmt) -> Result<typed::Stmt, AllocError>
+fn statement(pass: &mut Pass, around: Around, stmt: &Stmt) -> Result<Box<typed::Stmt>, AllocError>
     requires { AllStand Stands pass.old.checker.table around.returned }
-    ensures { IfOk result (Makes IsStmt (rules.stmt (scope_of pass.old.checker) (around_in pass.old.checker.table around) (stmt_tree stmt.now)) (elaborated.stmt_of (scope_of pass.old.checker) (each_in type_in pass.old.checker.table around.returned) (stmt_tree stmt.now)) (named_in_stmt (scope_of pass.old.checker) (stmt_tree stmt.now)) (scope_of pass.old.checker) pass.old pass.new) }
+    ensures { IfOk result (λ made. Makes IsStmt (rules.stmt (scope_of pass.old.checker) (around_in pass.old.checker.table around) (stmt_tree stmt.now)) (elaborated.stmt_of (scope_of pass.old.checker) (each_in type_in pass.old.checker.table around.returned) (stmt_tree stmt.now)) (named_in_stmt (scope_of pass.old.checker) (stmt_tree stmt.now)) (scope_of pass.old.checker) pass.old pass.new made.value) }
 {
     let alloc = pass.alloc();
     match stmt {
         Stmt::Block(block) => block_stmt(pass, around, block.items.as_slice()),
-        Stmt::Empty { .. } => Ok(typed::Stmt::Empty),
-        Stmt::Expression(value) => Ok(typed::Stmt::Expression(unused(pass, value)?)),
+        Stmt::Empty { .. } => boxed(alloc, typed::Stmt::Empty),
+        Stmt::Expression(value) => {
+            let value = unused(pass, value)?;
+            let value = Box::into_inner(value);
+            boxed(alloc, typed::Stmt::Expression(value))
+        }
         Stmt::If {
             condition: tested,
             then,
             ..
         } => {
             let condition = condition(pass, tested)?;
-            let then = Box::new(alloc, statement(pass, around, then)?)?;
-            Ok(typed::Stmt::If { condition, then })
+            let then = statement(pass, around, then)?;
+            let condition = Box::into_inner(condition);
+            boxed(alloc, typed::Stmt::If { condition, then })
         }
         Stmt::IfElse {
             condition: tested,
@@ -83,13 +96,15 @@ fn statement(pass: &mut Pass, around: Around, stmt: &Stmt) -> Result<typed::Stmt
             ..
         } => {
             let condition = condition(pass, tested)?;
-            let then = Box::new(alloc, statement(pass, around, then)?)?;
-            let otherwise = Box::new(alloc, statement(pass, around, otherwise)?)?;
-            Ok(typed::Stmt::IfElse {
+            let then = statement(pass, around, then)?;
+            let otherwise = statement(pass, around, otherwise)?;
+            let condition = Box::into_inner(condition);
+            let made = typed::Stmt::IfElse {
                 condition,
                 then,
                 otherwise,
-            })
+            };
+            boxed(alloc, made)
         }
         Stmt::While {
             condition: tested,
@@ -97,17 +112,19 @@ fn statement(pass: &mut Pass, around: Around, stmt: &Stmt) -> Result<typed::Stmt
             ..
         } => {
             let condition = condition(pass, tested)?;
-            let body = Box::new(alloc, statement(pass, around.within_loop(), body)?)?;
-            Ok(typed::Stmt::While { condition, body })
+            let body = statement(pass, around.within_loop(), body)?;
+            let condition = Box::into_inner(condition);
+            boxed(alloc, typed::Stmt::While { condition, body })
         }
         Stmt::Do {
             body,
             condition: tested,
             ..
         } => {
-            let body = Box::new(alloc, statement(pass, around.within_loop(), body)?)?;
+            let body = statement(pass, around.within_loop(), body)?;
             let condition = condition(pass, tested)?;
-            Ok(typed::Stmt::DoWhile { body, condition })
+            let condition = Box::into_inner(condition);
+            boxed(alloc, typed::Stmt::DoWhile { body, condition })
         }
         Stmt::For {
             first,
@@ -119,21 +136,23 @@ fn statement(pass: &mut Pass, around: Around, stmt: &Stmt) -> Result<typed::Stmt
         Stmt::Switch { value, items, .. } => {
             let (value, int_type) = switched(pass, value)?;
             let items = switch_items(pass, around.within_switch(), int_type, items.as_slice())?;
-            Ok(typed::Stmt::Switch { value, items })
+            let value = Box::into_inner(value);
+            boxed(alloc, typed::Stmt::Switch { value, items })
         }
         Stmt::Break { place } => {
             pass.checker
                 .require(around.may_break, TypeRule::T20, *place);
-            Ok(typed::Stmt::Break)
+            boxed(alloc, typed::Stmt::Break)
         }
         Stmt::Continue { place } => {
             pass.checker
                 .require(around.may_continue, TypeRule::T20, *place);
-            Ok(typed::Stmt::Continue)
+            boxed(alloc, typed::Stmt::Continue)
         }
         Stmt::Return { place, value } => {
             let value = returned(pass, around.returned, *place, value)?;
-            Ok(typed::Stmt::Return(value))
+            let value = unboxed(value);
+            boxed(alloc, typed::Stmt::Return(value))
         }
     }
 }
@@ -144,14 +163,14 @@ fn block_stmt(
     pass: &mut Pass,
     around: Around,
     items: &[BlockItem],
-) -> Result<typed::Stmt, AllocError>
+) -> Result<Box<typed::Stmt>, AllocError>
     requires { AllStand Stands pass.old.checker.table around.returned }
-    ensures { IfOk result (λ made. (place : Pos) → Makes IsStmt (rules.stmt (scope_of pass.old.checker) (around_in pass.old.checker.table around) (Trees.BlockStmt place (block_of items.now))) (elaborated.stmt_of (scope_of pass.old.checker) (each_in type_in pass.old.checker.table around.returned) (Trees.BlockStmt place (block_of items.now))) (named_in_stmt (scope_of pass.old.checker) (Trees.BlockStmt place (block_of items.now))) (scope_of pass.old.checker) pass.old pass.new made) }
+    ensures { IfOk result (λ made. (place : Pos) → Makes IsStmt (rules.stmt (scope_of pass.old.checker) (around_in pass.old.checker.table around) (Trees.BlockStmt place (block_of items.now))) (elaborated.stmt_of (scope_of pass.old.checker) (each_in type_in pass.old.checker.table around.returned) (Trees.BlockStmt place (block_of items.now))) (named_in_stmt (scope_of pass.old.checker) (Trees.BlockStmt place (block_of items.now))) (scope_of pass.old.checker) pass.old pass.new made.value) }
 {
     let outer = pass.checker.enter();
     let items = block_items(pass, around, items)?;
     pass.checker.leave(outer);
-    Ok(typed::Stmt::Block(items))
+    boxed(pass.alloc(), typed::Stmt::Block(items))
 }
 
 /// `for`, whose names are in scope in it alone (C17 6.8.5.3).
@@ -163,34 +182,43 @@ fn for_stmt(
     condition: &Option<Expr>,
     step: &Option<Expr>,
     body: &Stmt,
-) -> Result<typed::Stmt, AllocError>
+) -> Result<Box<typed::Stmt>, AllocError>
     requires { AllStand Stands pass.old.checker.table around.returned }
-    ensures { IfOk result (λ made. (place : Pos) → Makes IsStmt (rules.stmt (scope_of pass.old.checker) (around_in pass.old.checker.table around) (Trees.For place (for_tree first.now) (value_tree condition.now) (value_tree step.now) (stmt_tree body.now))) (elaborated.stmt_of (scope_of pass.old.checker) (each_in type_in pass.old.checker.table around.returned) (Trees.For place (for_tree first.now) (value_tree condition.now) (value_tree step.now) (stmt_tree body.now))) (named_in_stmt (scope_of pass.old.checker) (Trees.For place (for_tree first.now) (value_tree condition.now) (value_tree step.now) (stmt_tree body.now))) (scope_of pass.old.checker) pass.old pass.new made) }
+    ensures { IfOk result (λ made. (place : Pos) → Makes IsStmt (rules.stmt (scope_of pass.old.checker) (around_in pass.old.checker.table around) (Trees.For place (for_tree first.now) (value_tree condition.now) (value_tree step.now) (stmt_tree body.now))) (elaborated.stmt_of (scope_of pass.old.checker) (each_in type_in pass.old.checker.table around.returned) (Trees.For place (for_tree first.now) (value_tree condition.now) (value_tree step.now) (stmt_tree body.now))) (named_in_stmt (scope_of pass.old.checker) (Trees.For place (for_tree first.now) (value_tree condition.now) (value_tree step.now) (stmt_tree body.now))) (scope_of pass.old.checker) pass.old pass.new made.value) }
 {
     let outer = pass.checker.enter();
     let start = for_start(pass, first)?;
     let condition = optional_condition(pass, condition)?;
     let step = optional_unused(pass, step)?;
     let body = statement(pass, around.within_loop(), body)?;
-    let body = Box::new(pass.alloc(), body)?;
     pass.checker.leave(outer);
-    Ok(typed::Stmt::For {
+    let start = Box::into_inner(start);
+    let condition = unboxed(condition);
+    let step = unboxed(step);
+    let made = typed::Stmt::For {
         start,
         condition,
         step,
         body,
-    })
+    };
+    boxed(pass.alloc(), made)
 }
 
 /// What a `for` begins with (C17 6.8.5.3).
-fn for_start(pass: &mut Pass, first: &ForFirst) -> Result<typed::ForStart, AllocError>
-    ensures { IfOk result (Makes IsStart (rules.for_start (scope_of pass.old.checker) (for_tree first.now)).found (elaborated.start_of (scope_of pass.old.checker) (for_tree first.now)) (named_in_start (scope_of pass.old.checker) (for_tree first.now)) (rules.for_start (scope_of pass.old.checker) (for_tree first.now)).scope pass.old pass.new) }
+fn for_start(pass: &mut Pass, first: &ForFirst) -> Result<Box<typed::ForStart>, AllocError>
+    ensures { IfOk result (λ made. Makes IsStart (rules.for_start (scope_of pass.old.checker) (for_tree first.now)).found (elaborated.start_of (scope_of pass.old.checker) (for_tree first.now)) (named_in_start (scope_of pass.old.checker) (for_tree first.now)) (rules.for_start (scope_of pass.old.checker) (for_tree first.now)).scope pass.old pass.new made.value) }
 {
+    let alloc = pass.alloc();
     match first {
-        ForFirst::Nothing => Ok(typed::ForStart::Nothing),
-        ForFirst::Expression(value) => Ok(typed::ForStart::Value(unused(pass, value)?)),
+        ForFirst::Nothing => Ok(Box::new(alloc, typed::ForStart::Nothing)?),
+        ForFirst::Expression(value) => {
+            let value = unused(pass, value)?;
+            let value = Box::into_inner(value);
+            Ok(Box::new(alloc, typed::ForStart::Value(value))?)
+        }
         ForFirst::Declaration(declaration) => {
-            Ok(typed::ForStart::Locals(declaration_locals(pass, declaration)?))
+            let locals = declaration_locals(pass, declaration)?;
+            Ok(Box::new(alloc, typed::ForStart::Locals(locals))?)
         }
     }
 }
@@ -228,6 +256,7 @@ fn block_item(
         BlockItem::Declaration(declaration) => block_declaration(pass, declaration, made),
         BlockItem::Statement(stmt) => {
             let stmt = statement(pass, around, stmt)?;
+            let stmt = Box::into_inner(stmt);
             Ok(made.push(typed::BlockItem::Statement(stmt))?)
         }
     }
@@ -281,7 +310,9 @@ fn switch_item(
             Ok(typed::SwitchItem::Default)
         }
         SwitchItem::Statement(stmt) => {
-            Ok(typed::SwitchItem::Statement(statement(pass, around, stmt)?))
+            let stmt = statement(pass, around, stmt)?;
+            let stmt = Box::into_inner(stmt);
+            Ok(typed::SwitchItem::Statement(stmt))
         }
     }
 }

@@ -1,25 +1,25 @@
 // Structures (C17 6.7.2.1).
 
 ghost use Rattle.std.specs.Prelude.{◌≡◌, [], Some, IfOk, OnOk, map};
-ghost use Rattle.run_theory.specs.declared.ends.Pos.{Pos};
+ghost use Rattle.text_place.specs.declared.place.Pos.{Pos};
 ghost use Rattle.c_syntax.specs.Trees as Trees;
 ghost use Rattle.c_syntax.specs.Views.{name_tree, base_tree, member_tree, declarator_tree};
 ghost use Rattle.c_typed.specs.Types as T;
 ghost use Rattle.c_typed.specs.Kept.{IsObject};
 ghost use Rattle.c_typed.specs.Table.{Stands, type_in};
 ghost use Rattle.c_rules.specs.Programs as rules;
-ghost use Rattle.c_rules.specs.Finding.{AllStand, IsType, each_in};
-ghost use Rattle.c_rules.specs.NameTables.{scope_of};
+ghost use Rattle.c_types_state.specs.Finding.{AllStand, IsType, each_in};
+ghost use Rattle.c_types_state.specs.NameTables.{scope_of};
 ghost use Rattle.c_types.specs.NamedItems.{named_in_base, named_in_members, named_in_all_members};
 ghost use Rattle.c_types.specs.Made.{Covers, Makes, Reaches, IsOptionalType, IsMembers};
 ghost use Rattle.c_types.specs.Outside.{defs_in, AreHeld};
 
 use crate::declarations::as_object;
-use c_check::{LengthRole, Pass, declared_name, declared_type, name_place, words_type};
 use c_rules::TypeRule;
 use c_syntax::{Base, Declarator, Member, Name};
 use c_typed as typed;
 use c_typed::{CType, Shape};
+use c_types_expressions::{LengthRole, Pass, declared_name, declared_type, name_place, words_type};
 use indexmap::IndexSet;
 use std::alloc::{AllocError, Global};
 

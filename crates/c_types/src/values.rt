@@ -1,6 +1,6 @@
 // Expressions in statements and declarations: their values are used, dropped, tested, or converted.
 
-ghost use Rattle.std.specs.Prelude.{◌≡◌, IfOk, Some};
+ghost use Rattle.std.specs.Prelude.{◌≡◌, IfOk, Some, option_map};
 ghost use Rattle.c_syntax.specs.Views.{expr_tree, value_tree};
 ghost use Rattle.c_typed.specs.Table.{Interned, Stands, type_in};
 ghost use Rattle.c_typed.specs.Views.{value_in, ValueStands};
@@ -9,33 +9,46 @@ ghost use Rattle.c_rules.specs.Operators.{as_integer};
 ghost use Rattle.c_rules.specs.Expressions as rules;
 ghost use Rattle.c_rules.specs.Statements as statements;
 ghost use Rattle.c_rules.specs.Elaborated as elaborated;
-ghost use Rattle.c_rules.specs.Finding.{AllStand, each_in};
-ghost use Rattle.c_rules.specs.NameTables.{scope_of};
-ghost use Rattle.c_rules.specs.Staying.{IsValue, IsSame};
-ghost use Rattle.c_operators.specs.Operands.{IsOperand, OperandStands, operand_in};
-ghost use Rattle.c_check.specs.Named.{named_in};
-ghost use Rattle.c_check.specs.Passes.{Passes};
+ghost use Rattle.c_types_state.specs.Finding.{AllStand, each_in};
+ghost use Rattle.c_types_state.specs.NameTables.{scope_of};
+ghost use Rattle.c_types_state.specs.Staying.{IsValue, IsSame};
+ghost use Rattle.c_types_operands.specs.Operands.{IsOperand, OperandStands, operand_in};
+ghost use Rattle.c_types_expressions.specs.Named.{named_in};
+ghost use Rattle.c_types_expressions.specs.Passes.{Passes};
 ghost use Rattle.c_types.specs.NamedItems.{named_in_value};
 ghost use Rattle.c_types.specs.Made.{Makes, IsOptionalValue, IsBoth};
 ghost use Rattle.c_types.specs.Parts.{switched_type, switched_value};
 
-use c_check::{Pass, constant_value, expr, is_void, place_of};
 use c_num::{IntType, promote};
-use c_operators::{Operand, as_condition, as_integer, as_value, converted, dropped, fits};
-use c_rules::{Checker, TypeRule};
+use c_rules::TypeRule;
 use c_syntax::Expr;
 use c_typed::{CType, Shape, Value};
-use run_theory::Pos;
-use std::alloc::AllocError;
+use c_types_expressions::{Pass, constant_value, expr, is_void, place_of};
+use c_types_operands::{
+    Operand, as_condition, as_integer, as_value, converted, fits, integer_as, leave_unused,
+};
+use c_types_state::Checker;
+use std::alloc::{AllocError, Global};
+use text_place::Pos;
 
 /// The value of an operand, or null where that isn't known.
-fn value_or_null(operand: Option<Operand>) -> Value
-    ensures stands { (table : Interned) → AllStand OperandStands table operand → ValueStands table result }
-    ensures value { (table : Interned) → value_in table result ≡ elaborated.known_value (each_in operand_in table operand) }
+fn value_or_null(alloc: Global, operand: Option<Operand>) -> Result<Box<Value>, AllocError>
+    ensures stands { IfOk result (λ value. (table : Interned) → AllStand OperandStands table operand → ValueStands table value.value) }
+    ensures value { IfOk result (λ value. (table : Interned) → value_in table value.value ≡ elaborated.known_value (each_in operand_in table operand)) }
 {
     match operand {
-        Some(operand) => operand.value,
-        None => Value::NullPointer,
+        Some(operand) => Ok(operand.value),
+        None => Ok(Box::new(alloc, Value::NullPointer)?),
+    }
+}
+
+/// An optional value that is held in a box.
+pub(crate) fn unboxed(value: Option<Box<Value>>) -> Option<Value>
+    ensures { result ≡ option_map (λ value. value.value) value }
+{
+    match value {
+        Some(value) => Some(Box::into_inner(value)),
+        None => None,
     }
 }
 
@@ -49,17 +62,20 @@ pub(crate) fn value(pass: &mut Pass, tree: &Expr) -> Result<Option<Operand>, All
 }
 
 /// An expression whose value isn't used (C17 6.8.3 paragraph 2).
-pub(crate) fn unused(pass: &mut Pass, tree: &Expr) -> Result<Value, AllocError>
-    ensures { IfOk result (Makes IsValue (statements.value_rules (scope_of pass.old.checker) (expr_tree tree.now)) (elaborated.unused (scope_of pass.old.checker) (expr_tree tree.now)) (named_in (scope_of pass.old.checker) (expr_tree tree.now)) (scope_of pass.old.checker) pass.old pass.new) }
+pub(crate) fn unused(pass: &mut Pass, tree: &Expr) -> Result<Box<Value>, AllocError>
+    ensures { IfOk result (λ made. Makes IsValue (statements.value_rules (scope_of pass.old.checker) (expr_tree tree.now)) (elaborated.unused (scope_of pass.old.checker) (expr_tree tree.now)) (named_in (scope_of pass.old.checker) (expr_tree tree.now)) (scope_of pass.old.checker) pass.old pass.new made.value) }
 {
-    Ok(dropped(value_or_null(value(pass, tree)?)))
+    let operand = value(pass, tree)?;
+    let mut value = value_or_null(pass.alloc(), operand)?;
+    leave_unused(&mut value);
+    Ok(value)
 }
 
 pub(crate) fn optional_unused(
     pass: &mut Pass,
     tree: &Option<Expr>,
-) -> Result<Option<Value>, AllocError>
-    ensures { IfOk result (Makes IsOptionalValue (statements.optional_rules (statements.value_rules (scope_of pass.old.checker)) (value_tree tree.now)) (elaborated.mapped (elaborated.unused (scope_of pass.old.checker)) (value_tree tree.now)) (named_in_value (scope_of pass.old.checker) (value_tree tree.now)) (scope_of pass.old.checker) pass.old pass.new) }
+) -> Result<Option<Box<Value>>, AllocError>
+    ensures { IfOk result (λ made. Makes IsOptionalValue (statements.optional_rules (statements.value_rules (scope_of pass.old.checker)) (value_tree tree.now)) (elaborated.mapped (elaborated.unused (scope_of pass.old.checker)) (value_tree tree.now)) (named_in_value (scope_of pass.old.checker) (value_tree tree.now)) (scope_of pass.old.checker) pass.old pass.new (option_map (λ value. value.value) made)) }
 {
     match tree {
         Some(tree) => Ok(Some(unused(pass, tree)?)),
@@ -68,22 +84,22 @@ pub(crate) fn optional_unused(
 }
 
 /// A condition (C17 6.8.4.1, 6.8.5).
-pub(crate) fn condition(pass: &mut Pass, tree: &Expr) -> Result<Value, AllocError>
-    ensures { IfOk result (Makes IsValue (statements.condition_rules (scope_of pass.old.checker) (expr_tree tree.now)) (elaborated.test_of (scope_of pass.old.checker) (expr_tree tree.now)) (named_in (scope_of pass.old.checker) (expr_tree tree.now)) (scope_of pass.old.checker) pass.old pass.new) }
+pub(crate) fn condition(pass: &mut Pass, tree: &Expr) -> Result<Box<Value>, AllocError>
+    ensures { IfOk result (λ made. Makes IsValue (statements.condition_rules (scope_of pass.old.checker) (expr_tree tree.now)) (elaborated.test_of (scope_of pass.old.checker) (expr_tree tree.now)) (named_in (scope_of pass.old.checker) (expr_tree tree.now)) (scope_of pass.old.checker) pass.old pass.new made.value) }
 {
     let place = place_of(tree);
     let part = expr(pass, tree)?;
     match as_condition(&mut pass.checker, place, part)? {
         Some(condition) => Ok(condition.test),
-        None => Ok(Value::NullPointer),
+        None => Ok(Box::new(pass.alloc(), Value::NullPointer)?),
     }
 }
 
 pub(crate) fn optional_condition(
     pass: &mut Pass,
     tree: &Option<Expr>,
-) -> Result<Option<Value>, AllocError>
-    ensures { IfOk result (Makes IsOptionalValue (statements.optional_rules (statements.condition_rules (scope_of pass.old.checker)) (value_tree tree.now)) (elaborated.mapped (elaborated.test_of (scope_of pass.old.checker)) (value_tree tree.now)) (named_in_value (scope_of pass.old.checker) (value_tree tree.now)) (scope_of pass.old.checker) pass.old pass.new) }
+) -> Result<Option<Box<Value>>, AllocError>
+    ensures { IfOk result (λ made. Makes IsOptionalValue (statements.optional_rules (statements.condition_rules (scope_of pass.old.checker)) (value_tree tree.now)) (elaborated.mapped (elaborated.test_of (scope_of pass.old.checker)) (value_tree tree.now)) (named_in_value (scope_of pass.old.checker) (value_tree tree.now)) (scope_of pass.old.checker) pass.old pass.new (option_map (λ value. value.value) made)) }
 {
     match tree {
         Some(tree) => Ok(Some(condition(pass, tree)?)),
@@ -92,18 +108,22 @@ pub(crate) fn optional_condition(
 }
 
 /// The value of a `switch`, after the integer promotions, and its type (C17 6.8.4.2 paragraph 5).
-pub(crate) fn switched(pass: &mut Pass, tree: &Expr) -> Result<(Value, Option<IntType>), AllocError>
-    ensures { IfOk result (Makes (IsBoth IsValue IsSame) (as_integer (rules.place_of (expr_tree tree.now)) (rules.expr (scope_of pass.old.checker) (expr_tree tree.now))).found (switched_value (scope_of pass.old.checker) (expr_tree tree.now), switched_type (scope_of pass.old.checker) (expr_tree tree.now)) (named_in (scope_of pass.old.checker) (expr_tree tree.now)) (scope_of pass.old.checker) pass.old pass.new) }
+pub(crate) fn switched(
+    pass: &mut Pass,
+    tree: &Expr,
+) -> Result<(Box<Value>, Option<IntType>), AllocError>
+    ensures { IfOk result (λ made. Makes (IsBoth IsValue IsSame) (as_integer (rules.place_of (expr_tree tree.now)) (rules.expr (scope_of pass.old.checker) (expr_tree tree.now))).found (switched_value (scope_of pass.old.checker) (expr_tree tree.now), switched_type (scope_of pass.old.checker) (expr_tree tree.now)) (named_in (scope_of pass.old.checker) (expr_tree tree.now)) (scope_of pass.old.checker) pass.old pass.new (made.0.value, made.1)) }
 {
     let place = place_of(tree);
     let Some(operand) = value(pass, tree)? else {
-        return Ok((Value::NullPointer, None));
+        let null = Box::new(pass.alloc(), Value::NullPointer)?;
+        return Ok((null, None));
     };
     match pass.checker.shape(operand.c_type) {
         Shape::Integer(int_type) => {
             let int_type = promote(int_type);
-            let value = Box::new(pass.alloc(), operand.value)?;
-            Ok((Value::Converted { int_type, value }, Some(int_type)))
+            let value = integer_as(pass.alloc(), int_type, operand.value)?;
+            Ok((value, Some(int_type)))
         }
         _ => {
             pass.checker.note(TypeRule::T07, place);
@@ -118,14 +138,14 @@ pub(crate) fn returned(
     expected: Option<CType>,
     place: Pos,
     tree: &Option<Expr>,
-) -> Result<Option<Value>, AllocError>
+) -> Result<Option<Box<Value>>, AllocError>
     requires { AllStand Stands pass.old.checker.table expected }
-    ensures { IfOk result (Makes IsOptionalValue (statements.return_rules (scope_of pass.old.checker) (each_in type_in pass.old.checker.table expected) place (value_tree tree.now)) (elaborated.mapped (elaborated.value_as (scope_of pass.old.checker) (each_in type_in pass.old.checker.table expected)) (value_tree tree.now)) (named_in_value (scope_of pass.old.checker) (value_tree tree.now)) (scope_of pass.old.checker) pass.old pass.new) }
+    ensures { IfOk result (λ made. Makes IsOptionalValue (statements.return_rules (scope_of pass.old.checker) (each_in type_in pass.old.checker.table expected) place (value_tree tree.now)) (elaborated.mapped (elaborated.value_as (scope_of pass.old.checker) (each_in type_in pass.old.checker.table expected)) (value_tree tree.now)) (named_in_value (scope_of pass.old.checker) (value_tree tree.now)) (scope_of pass.old.checker) pass.old pass.new (option_map (λ value. value.value) made)) }
 {
     match (expected, tree) {
         (None, Some(tree)) => {
-            value(pass, tree)?;
-            Ok(Some(Value::NullPointer))
+            drop(value(pass, tree)?);
+            Ok(Some(Box::new(pass.alloc(), Value::NullPointer)?))
         }
         (Some(c_type), Some(tree)) => Ok(Some(returned_value(pass, c_type, place, tree)?)),
         (Some(c_type), None) => {
@@ -143,9 +163,9 @@ fn returned_value(
     expected: CType,
     place: Pos,
     tree: &Expr,
-) -> Result<Value, AllocError>
+) -> Result<Box<Value>, AllocError>
     requires { Stands pass.old.checker.table expected }
-    ensures { IfOk result (Makes IsValue (statements.returned place (type_in pass.old.checker.table expected) (as_value (rules.place_of (expr_tree tree.now)) (rules.expr (scope_of pass.old.checker) (expr_tree tree.now))) (rules.place_of (expr_tree tree.now))) (elaborated.value_as (scope_of pass.old.checker) (Some (type_in pass.old.checker.table expected)) (expr_tree tree.now)) (named_in (scope_of pass.old.checker) (expr_tree tree.now)) (scope_of pass.old.checker) pass.old pass.new) }
+    ensures { IfOk result (λ made. Makes IsValue (statements.returned place (type_in pass.old.checker.table expected) (as_value (rules.place_of (expr_tree tree.now)) (rules.expr (scope_of pass.old.checker) (expr_tree tree.now))) (rules.place_of (expr_tree tree.now))) (elaborated.value_as (scope_of pass.old.checker) (Some (type_in pass.old.checker.table expected)) (expr_tree tree.now)) (named_in (scope_of pass.old.checker) (expr_tree tree.now)) (scope_of pass.old.checker) pass.old pass.new made.value) }
 {
     let is_void = is_void(&pass.checker, expected);
     pass.checker.require(!is_void, TypeRule::T22, place);
@@ -166,14 +186,14 @@ pub(crate) fn value_as(
     c_type: CType,
     place: Pos,
     operand: Option<Operand>,
-) -> Result<Value, AllocError>
+) -> Result<Box<Value>, AllocError>
     requires c_type { Stands checker.now.table c_type }
     requires operand { AllStand OperandStands checker.now.table operand }
-    ensures { IfOk result (λ value. IsValue checker.now.table value (elaborated.known_as place (type_in checker.now.table c_type) (each_in operand_in checker.now.table operand))) }
+    ensures { IfOk result (λ value. IsValue checker.now.table value.value (elaborated.known_as place (type_in checker.now.table c_type) (each_in operand_in checker.now.table operand))) }
 {
     match operand {
         Some(operand) => converted(checker, place, c_type, operand),
-        None => Ok(Value::NullPointer),
+        None => Ok(Box::new(checker.alloc(), Value::NullPointer)?),
     }
 }
 
@@ -184,7 +204,11 @@ pub(crate) fn constant_of(pass: &mut Pass, tree: &Expr) -> Result<Option<i128>, 
     let place = place_of(tree);
     let part = expr(pass, tree)?;
     match as_integer(&mut pass.checker, place, part)? {
-        Some(operand) => Ok(constant_value(&mut pass.checker, place, operand.constness)),
+        Some(operand) => {
+            let constness = operand.constness;
+            drop(operand);
+            Ok(constant_value(&mut pass.checker, place, constness))
+        }
         None => Ok(None),
     }
 }

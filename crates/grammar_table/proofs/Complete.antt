@@ -2,9 +2,9 @@
 use Rattle.std.proofs.Common.{ℕ, ◌+◌, ◌-◌, ◌≤◌, List, ◌++◌, sym, subst, arith, append_assoc}
 use Rattle.grammar_table.specs.Table.{Sym, Tree, Table, leaves, height, Is, nothing, token, part, IsPart, first, after}
 use Rattle.grammar_table.specs.Runs.{Parts, Whole, More, Outcome, Done, Run, at_end, token_done, part_done, row_done, no_more, more_done}
-use Rattle.grammar_table.specs.Laws.{Bounds, Reads, Followed}
+use Rattle.grammar_table.specs.Laws.{Bounds, ReadsTrees, Followed}
 
-module _ {Leaf Kind Sort Form : Type 0} (T : Table Leaf Kind Sort Form) (Ends Stands : Sort → ℕ → Tree Leaf Form → List Leaf → Type 0) (bounds : Bounds T) (laws : Reads T Ends Stands) where
+module _ {Leaf Kind Sort Form : Type 0} (T : Table Leaf Kind Sort Form) (Ends Stands : Sort → ℕ → Tree Leaf Form → List Leaf → Type 0) (bounds : Bounds T) (laws : ReadsTrees T Ends Stands) where
   mutual
     pub reads_parts : {symbols : List (Sym Kind Sort)} {trees : Tree Leaf Form} → Is T symbols trees → (text : List Leaf) (room : ℕ) → Followed T Ends symbols trees text → height T trees ≤ room → Run T (Parts symbols) room (leaves trees ++ text) (Done trees text)
     reads_parts nothing text room followed fits = at_end

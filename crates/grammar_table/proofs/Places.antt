@@ -3,7 +3,7 @@ use Rattle.std.proofs.Common.{◌≡◌, ℕ, suc, ◌+◌, ◌<◌, ◌≤◌, 
 use Rattle.std.proofs.lemmas.List.{append-nil}
 use Rattle.grammar_table.specs.Table.{Tree, Table, leaves, height, IsPart}
 use Rattle.grammar_table.specs.Runs.{Whole, Fault, Bad, Deep, Outcome, Done, Failed, Run, no_more}
-use Rattle.grammar_table.specs.Laws.{Tells, Bounds, Completes, Reads}
+use Rattle.grammar_table.specs.Laws.{Tells, Bounds, Completes, ReadsTrees}
 use Rattle.grammar_table.specs.Prefixes.{Accepted, BeginsAccepted, IsMisfit, IsTooDeep}
 use Rattle.grammar_table.proofs.Exact.{Verdict, exact}
 use Rattle.grammar_table.proofs.Agree.{Agrees, agree}
@@ -19,7 +19,7 @@ length_append : {A : Type 0} (xs ys : List A) → length (xs ++ ys) ≡ length x
 length_append [] ys = omega arith
 length_append (x ∷ xs) ys = omega (arith, length_append xs ys)
 
-module _ {Leaf Kind Sort Form : Type 0} (T : Table Leaf Kind Sort Form) (Ends Stands : Sort → ℕ → Tree Leaf Form → List Leaf → Type 0) (tells : Tells T) (bounds : Bounds T) (complete : Completes T) (reads : Reads T Ends Stands) (sort : Sort) (level : ℕ) (at_text_end : (tree : Tree Leaf Form) → IsPart T sort level tree → Ends sort level tree []) where
+module _ {Leaf Kind Sort Form : Type 0} (T : Table Leaf Kind Sort Form) (Ends Stands : Sort → ℕ → Tree Leaf Form → List Leaf → Type 0) (tells : Tells T) (bounds : Bounds T) (complete : Completes T) (reads : ReadsTrees T Ends Stands) (sort : Sort) (level : ℕ) (at_text_end : (tree : Tree Leaf Form) → IsPart T sort level tree → Ends sort level tree []) where
   -- an accepted text is read
   pub is_read : (limit : ℕ) (text : List Leaf) (accepted : Accepted T sort level limit text) → Run T (Whole sort level) limit text (Done accepted.tree [])
   is_read limit text accepted =

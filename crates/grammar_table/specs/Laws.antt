@@ -108,7 +108,7 @@ Followed T Ends (symbol ∷ symbols) (Node form parts) behind = ⊥
 
 -- Each tree is read: `Ends` says which leaves may stand behind a tree where it ends, and `Stands` behind one that may
 -- go on.
-pub record Reads {Leaf Kind Sort Form : Type 0} (T : Table Leaf Kind Sort Form) (Ends Stands : Sort → ℕ → Tree Leaf Form → List Leaf → Type 0) : Type 0 where
+pub record ReadsTrees {Leaf Kind Sort Form : Type 0} (T : Table Leaf Kind Sort Form) (Ends Stands : Sort → ℕ → Tree Leaf Form → List Leaf → Type 0) : Type 0 where
   -- The row is the one that is chosen.
   pub chooses : (sort : Sort) (level : ℕ) (form : Form) (parts : Tree Leaf Form) (text : List Leaf) → T.sort form ≡ sort → T.is_row form ≡ true → T.left form ≡ None → T.level form ≤ level → Is T (T.symbols form) parts → Stands sort level (Node form parts) text → (first : ℕ) × (second : ℕ) × (T.choose sort level (leaves parts ++ text) ≡ Take form first second)
   pub goes : (sort : Sort) (level : ℕ) (form : Form) (left_level : ℕ) (left parts : Tree Leaf Form) (text : List Leaf) → T.sort form ≡ sort → T.is_row form ≡ true → T.left form ≡ Some left_level → T.level form ≤ level → IsPart T sort left_level left → Is T (T.symbols form) parts → next_row T sort level left (leaves parts ++ text) ≡ Some form

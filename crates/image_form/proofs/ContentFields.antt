@@ -12,7 +12,7 @@ use Rattle.pool_isa.proofs.Faults.{stands_then}
 use Rattle.pool_isa.proofs.Numbers.{same_number}
 use Rattle.image_form.specs.declared.image.ImageErr.{ImageErr}
 use Rattle.image_form.specs.Form.{contents_bytes, EndsNonzero, IsContents}
-use Rattle.image_form.specs.Reading.{Spelled, Refuses, Finds, IsContentsOf, contents_of}
+use Rattle.image_form.specs.Reading.{Spelled, Refuses, IsDecoded, IsContentsOf, contents_of}
 use Rattle.image_form.proofs.Fields.{IsUnique, Then, refused_alike, refused_first, refused_behind}
 use Rattle.image_form.proofs.Ranges.{unique_number}
 
@@ -178,7 +178,7 @@ module _ (size : ℕ) where
   content_count_wrong bytes at fault r =
       contents_refused bytes at fault (refused_first (IsWithin 0 size) number_bytes (unique_number 0 size) (λ count rest. Spelled (IsContentsOf count) (λ contents. contents) rest) bytes at fault (λ count is. some_contents count) r)
 
-  pub counted_contents_answer : (bytes : List ℕ) (at mid count : ℕ) (result : Result (Vec ℕ Global × ℕ) ImageErr) → IsWithin 0 size count → StandsAt bytes at mid (number_bytes count) → Finds (IsContentsOf count) (λ contents. contents) contents_of bytes mid result → Finds (IsContents size) contents_bytes contents_of bytes at result
+  pub counted_contents_answer : (bytes : List ℕ) (at mid count : ℕ) (result : Result (Vec ℕ Global × ℕ) ImageErr) → IsWithin 0 size count → StandsAt bytes at mid (number_bytes count) → IsDecoded (IsContentsOf count) (λ contents. contents) contents_of bytes mid result → IsDecoded (IsContents size) contents_bytes contents_of bytes at result
   counted_contents_answer bytes at mid count (Ok found) is stands finds =
       let contents = contents_of found.0 in let many = finds.0.0 in let w = is.1 in
       ((omega arith, finds.0.1, finds.0.2), subst (λ n. StandsAt bytes at found.1 (number_bytes n ++ contents)) (sym many) (stands_then bytes at mid found.1 (number_bytes count) contents stands finds.1))

@@ -19,7 +19,7 @@ use Rattle.image_form.specs.declared.image.ImageErr.{ImageErr}
 use Rattle.image_form.specs.declared.code.Counts.{Counts}
 use Rattle.image_form.specs.declared.functions.Head.{Head}
 use Rattle.image_form.specs.Form.{function_bytes, counted, BeginsWithStart}
-use Rattle.image_form.specs.Reading.{Spelled, Refuses, Finds, EachFrom, IsInstrAt, IsCode, code_bytes, IsHead, head_bytes, function_with, IsFunctionUpTo, IsFunctionAt, IsFunctions, IsAllFunctions, functions_of, functions_bytes}
+use Rattle.image_form.specs.Reading.{Spelled, Refuses, IsDecoded, EachFrom, IsInstrAt, IsCode, code_bytes, IsHead, head_bytes, function_with, IsFunctionUpTo, IsFunctionAt, IsFunctions, IsAllFunctions, functions_of, functions_bytes}
 use Rattle.image_form.proofs.Fields.{IsUnique, Then, refused_alike, refused_first, refused_behind}
 use Rattle.image_form.proofs.Instructions.{some_code}
 use Rattle.image_form.proofs.Lists.{Keeps, some_list, same_items}
@@ -268,7 +268,7 @@ module _ (kinds : ℕ) where
       functions_refused bytes at fault (refused_behind (IsWithin 1 4097) number_bytes (unique_number 1 4097) (λ count rest. Spelled (IsFunctions kinds count) functions_bytes rest) bytes at mid count fault is stands r)
 
   -- what is found behind the count, or refused
-  pub counted_answer : (bytes : List ℕ) (at mid count : ℕ) (result : Result (Vec Function Global × ℕ) ImageErr) → IsWithin 1 4097 count → StandsAt bytes at mid (number_bytes count) → Finds (IsFunctions kinds count) functions_bytes functions_of bytes mid result → Finds (IsAllFunctions kinds) (counted function_bytes) functions_of bytes at result
+  pub counted_answer : (bytes : List ℕ) (at mid count : ℕ) (result : Result (Vec Function Global × ℕ) ImageErr) → IsWithin 1 4097 count → StandsAt bytes at mid (number_bytes count) → IsDecoded (IsFunctions kinds count) functions_bytes functions_of bytes mid result → IsDecoded (IsAllFunctions kinds) (counted function_bytes) functions_of bytes at result
   counted_answer bytes at mid count (Ok found) is stands finds =
       (all_functions count (functions_of found.0) is finds.0, subst (λ n. StandsAt bytes at found.1 (number_bytes n ++ functions_bytes (functions_of found.0))) (sym finds.0.0) (stands_then bytes at mid found.1 (number_bytes count) (functions_bytes (functions_of found.0)) stands finds.1))
   counted_answer bytes at mid count (Err fault) is stands finds = functions_behind_wrong bytes at mid count fault is stands finds

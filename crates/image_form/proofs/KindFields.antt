@@ -13,7 +13,7 @@ use Rattle.slab_space.specs.declared.kind.PoolKind.{PoolKind}
 use Rattle.slab_space.specs.declared.kind.PoolKind.TheVariants.{Mixed, Homogeneous}
 use Rattle.image_form.specs.declared.image.ImageErr.{ImageErr}
 use Rattle.image_form.specs.Form.{kind_bytes, counted, IsKind}
-use Rattle.image_form.specs.Reading.{Spelled, Refuses, Finds, EachFrom, IsHomogeneous, homogeneous_bytes, IsSomeKinds, IsKinds, kinds_of, kinds_bytes}
+use Rattle.image_form.specs.Reading.{Spelled, Refuses, IsDecoded, EachFrom, IsHomogeneous, homogeneous_bytes, IsSomeKinds, IsKinds, kinds_of, kinds_bytes}
 use Rattle.image_form.proofs.Fields.{IsUnique, Then, refused_alike, refused_first, refused_behind}
 use Rattle.image_form.proofs.Ranges.{Numbered, some_number, unique_number}
 use Rattle.image_form.proofs.Lists.{Keeps, some_list}
@@ -136,7 +136,7 @@ pub mixed_stands : (bytes : List ℕ) (at end tag : ℕ) → tag ≡ 0 → Stand
 mixed_stands bytes at end tag none stands = subst (StandsAt bytes at end) (ap number_bytes none ∙ number_bytes-small 0 (omega arith)) stands
 
 -- what is found behind a first byte that isn't 0, or refused
-pub kind_answer : (bytes : List ℕ) (at mid tag : ℕ) (result : Result (PoolKind × ℕ) ImageErr) → tag ≢ 0 → IsWithin 0 1 tag → StandsAt bytes at mid (number_bytes tag) → Finds IsHomogeneous homogeneous_bytes (λ kind. kind) bytes mid result → Finds IsKind kind_bytes (λ kind. kind) bytes at result
+pub kind_answer : (bytes : List ℕ) (at mid tag : ℕ) (result : Result (PoolKind × ℕ) ImageErr) → tag ≢ 0 → IsWithin 0 1 tag → StandsAt bytes at mid (number_bytes tag) → IsDecoded IsHomogeneous homogeneous_bytes (λ kind. kind) bytes mid result → IsDecoded IsKind kind_bytes (λ kind. kind) bytes at result
 kind_answer bytes at mid tag (Ok found) some within stands finds =
     let one : tag ≡ 1 = let w = within.1 in omega arith in
     let whole = kind_whole found.0 finds.0 in
@@ -185,7 +185,7 @@ kind_count_wrong bytes at fault r =
     (λ count is. some_list kind_bytes (λ index kind. IsKind kind) unique_kind_at mixed_at count) r)
 
 -- what is found behind the count, or refused
-pub counted_kinds_answer : (bytes : List ℕ) (at mid count : ℕ) (result : Result (Vec PoolKind Global × ℕ) ImageErr) → IsWithin 0 1048576 count → StandsAt bytes at mid (number_bytes count) → Finds (IsSomeKinds count) kinds_bytes kinds_of bytes mid result → Finds IsKinds (counted kind_bytes) kinds_of bytes at result
+pub counted_kinds_answer : (bytes : List ℕ) (at mid count : ℕ) (result : Result (Vec PoolKind Global × ℕ) ImageErr) → IsWithin 0 1048576 count → StandsAt bytes at mid (number_bytes count) → IsDecoded (IsSomeKinds count) kinds_bytes kinds_of bytes mid result → IsDecoded IsKinds (counted kind_bytes) kinds_of bytes at result
 counted_kinds_answer bytes at mid count (Ok found) is stands finds =
     let kinds = kinds_of found.0 in let many = finds.0.0 in let w = is.1 in
     ((omega arith, all_kinds 0 kinds finds.0.1), subst (λ n. StandsAt bytes at found.1 (number_bytes n ++ kinds_bytes kinds)) (sym many) (stands_then bytes at mid found.1 (number_bytes count) (kinds_bytes kinds) stands finds.1))

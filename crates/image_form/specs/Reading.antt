@@ -32,9 +32,9 @@ Refuses IsSpelling bytes at OutOfMemory = Unit {0}
 
 -- A reader of a field, asked at a place: what it finds is such a field, whose bytes stand there up to the place behind
 -- them; where it refuses, it says where the first fault is.
-abbrev pub Finds : {T V : Type 0} → (V → Type 0) → (V → List ℕ) → (T → V) → List ℕ → ℕ → Result (T × ℕ) ImageErr → Type 0
-Finds IsField bytes_of view bytes at (Ok found) = IsField (view found.0) × StandsAt bytes at found.1 (bytes_of (view found.0))
-Finds IsField bytes_of view bytes at (Err fault) = Refuses (Spelled IsField bytes_of) bytes at fault
+abbrev pub IsDecoded : {T V : Type 0} → (V → Type 0) → (V → List ℕ) → (T → V) → List ℕ → ℕ → Result (T × ℕ) ImageErr → Type 0
+IsDecoded IsField bytes_of view bytes at (Ok found) = IsField (view found.0) × StandsAt bytes at found.1 (bytes_of (view found.0))
+IsDecoded IsField bytes_of view bytes at (Err fault) = Refuses (Spelled IsField bytes_of) bytes at fault
 
 -- the decoded image is this one, unless memory ran out
 abbrev pub IsDecodedUnlessMemory : {T : Type 0} → (T → Form) → Result T ImageErr → Form → Type 0

@@ -4,7 +4,7 @@ ghost use Rattle.std.specs.Prelude.{◌≡◌, ℕ, ◌≤◌, length, IfSome, I
 ghost use Rattle.std.specs.Bool.{MatchBool};
 ghost use Rattle.pool_isa.specs.declared.instr.Instr.{Instr as AnInstr};
 ghost use Rattle.pool_isa.specs.Instr.{code_of, spelling};
-ghost use Rattle.image_form.specs.Reading.{Finds, refer, range_of, NamesNothing, EndsWell, IsInstr, IsCode, instrs_of, code_bytes};
+ghost use Rattle.image_form.specs.Reading.{IsDecoded, refer, range_of, NamesNothing, EndsWell, IsInstr, IsCode, instrs_of, code_bytes};
 
 use crate::image::ImageErr;
 use crate::number::number_within;
@@ -82,7 +82,7 @@ fn may_stand(code: u8, at_end: bool) -> bool
 // The instruction at a place. At the end of a function it is one that control doesn't fall through.
 fn instr(bytes: &[u8], at: usize, counts: Counts, at_end: bool) -> Result<(Instr, usize), ImageErr>
     requires { at ≤ length bytes.now }
-    ensures { Finds (IsInstr counts at_end) spelling (λ i. i) bytes.now at result }
+    ensures { IsDecoded (IsInstr counts at_end) spelling (λ i. i) bytes.now at result }
 {
     let Some(code) = bytes.get(at) else {
         return Err(ImageErr::Bad(at));
@@ -116,7 +116,7 @@ pub(crate) fn code(
     counts: Counts,
 ) -> Result<(Vec<Instr>, usize), ImageErr>
     requires { at ≤ length bytes.now }
-    ensures { Finds (IsCode counts) code_bytes instrs_of bytes.now at result }
+    ensures { IsDecoded (IsCode counts) code_bytes instrs_of bytes.now at result }
 {
     let mut code = Vec::new(alloc);
     let mut here = at;

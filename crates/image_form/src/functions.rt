@@ -2,7 +2,7 @@
 
 ghost use Rattle.std.specs.Prelude.{◌≡◌, ◌==◌, ℕ, ◌≤◌, length, if◌then◌else◌};
 ghost use Rattle.image_form.specs.Form.{function_of, function_bytes, counted};
-ghost use Rattle.image_form.specs.Reading.{Finds, IsHead, head_bytes, function_with, IsFunctionUpTo, most_at, IsFunctions, IsAllFunctions, functions_of, functions_bytes};
+ghost use Rattle.image_form.specs.Reading.{IsDecoded, IsHead, head_bytes, function_with, IsFunctionUpTo, most_at, IsFunctions, IsAllFunctions, functions_of, functions_bytes};
 
 use crate::code::{Counts, code};
 use crate::image::{Function, ImageErr};
@@ -38,7 +38,7 @@ impl Head {
 // The numbers of a function with no more parameters than `most`.
 fn read_head(bytes: &[u8], at: usize, most: u32) -> Result<(Head, usize), ImageErr>
     requires { at ≤ length bytes.now }
-    ensures { Finds (IsHead most) head_bytes (λ head. head) bytes.now at result }
+    ensures { IsDecoded (IsHead most) head_bytes (λ head. head) bytes.now at result }
 {
     let (parameters, at) = match small_number(bytes, at, 0, most) {
         Ok(found) => found,
@@ -83,7 +83,7 @@ fn function(
 ) -> Result<(Function, usize), ImageErr>
     requires within { at ≤ length bytes.now }
     requires few { most ≤ 320 }
-    ensures { Finds (IsFunctionUpTo most kinds functions) function_bytes function_of bytes.now at result }
+    ensures { IsDecoded (IsFunctionUpTo most kinds functions) function_bytes function_of bytes.now at result }
 {
     let (head, at) = match read_head(bytes, at, most) {
         Ok(found) => found,
@@ -116,7 +116,7 @@ fn functions(
     count: u64,
 ) -> Result<(Vec<Function>, usize), ImageErr>
     requires { at ≤ length bytes.now }
-    ensures { Finds (IsFunctions kinds count) functions_bytes functions_of bytes.now at result }
+    ensures { IsDecoded (IsFunctions kinds count) functions_bytes functions_of bytes.now at result }
 {
     let mut functions = Vec::new(alloc);
     let mut here = at;
@@ -142,7 +142,7 @@ pub(crate) fn counted_functions(
     kinds: u64,
 ) -> Result<(Vec<Function>, usize), ImageErr>
     requires { at ≤ length bytes.now }
-    ensures { Finds (IsAllFunctions kinds) (counted function_bytes) functions_of bytes.now at result }
+    ensures { IsDecoded (IsAllFunctions kinds) (counted function_bytes) functions_of bytes.now at result }
 {
     let (count, at) = match number_within(bytes, at, 1, 4_097) {
         Ok(found) => found,

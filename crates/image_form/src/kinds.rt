@@ -2,7 +2,7 @@
 
 ghost use Rattle.std.specs.Prelude.{◌≤◌, length};
 ghost use Rattle.image_form.specs.Form.{kind_bytes, counted, IsKind};
-ghost use Rattle.image_form.specs.Reading.{Finds, IsHomogeneous, homogeneous_bytes, IsKinds, IsSomeKinds, kinds_of, kinds_bytes};
+ghost use Rattle.image_form.specs.Reading.{IsDecoded, IsHomogeneous, homogeneous_bytes, IsKinds, IsSomeKinds, kinds_of, kinds_bytes};
 
 use crate::image::ImageErr;
 use crate::number::{number_within, small_number};
@@ -12,7 +12,7 @@ use std::alloc::Global;
 // What follows the first byte of a kind with cells of one size.
 fn homogeneous(bytes: &[u8], at: usize) -> Result<(PoolKind, usize), ImageErr>
     requires { at ≤ length bytes.now }
-    ensures { Finds IsHomogeneous homogeneous_bytes (λ kind. kind) bytes.now at result }
+    ensures { IsDecoded IsHomogeneous homogeneous_bytes (λ kind. kind) bytes.now at result }
 {
     let (source, at) = match small_number(bytes, at, 1, 1_048_576) {
         Ok(found) => found,
@@ -37,7 +37,7 @@ fn homogeneous(bytes: &[u8], at: usize) -> Result<(PoolKind, usize), ImageErr>
 // A kind of pool. Its first byte, as a number, is 0 or 1.
 fn kind(bytes: &[u8], at: usize) -> Result<(PoolKind, usize), ImageErr>
     requires { at ≤ length bytes.now }
-    ensures { Finds IsKind kind_bytes (λ kind. kind) bytes.now at result }
+    ensures { IsDecoded IsKind kind_bytes (λ kind. kind) bytes.now at result }
 {
     match number_within(bytes, at, 0, 1) {
         Ok((0, end)) => Ok((PoolKind::Mixed, end)),
@@ -54,7 +54,7 @@ fn kinds(
     count: u64,
 ) -> Result<(Vec<PoolKind>, usize), ImageErr>
     requires { at ≤ length bytes.now }
-    ensures { Finds (IsSomeKinds count) kinds_bytes kinds_of bytes.now at result }
+    ensures { IsDecoded (IsSomeKinds count) kinds_bytes kinds_of bytes.now at result }
 {
     let mut kinds = Vec::new(alloc);
     let mut here = at;
@@ -78,7 +78,7 @@ pub(crate) fn counted_kinds(
     at: usize,
 ) -> Result<(Vec<PoolKind>, usize), ImageErr>
     requires { at ≤ length bytes.now }
-    ensures { Finds IsKinds (counted kind_bytes) kinds_of bytes.now at result }
+    ensures { IsDecoded IsKinds (counted kind_bytes) kinds_of bytes.now at result }
 {
     let (count, at) = match number_within(bytes, at, 0, 1_048_576) {
         Ok(found) => found,

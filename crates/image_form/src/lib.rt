@@ -15,6 +15,3 @@ pub use laws::{no_image_begins_another, one_image};
 pub use reading::from_bytes;
 pub use slab_space::PoolKind;
 pub use writing::to_bytes;
-
-#[cfg(test)]
-mod tests;

@@ -4,7 +4,7 @@ ghost use Rattle.std.specs.Prelude.{◌≡◌, ◌≤◌, ◌++◌, length, IfOk
 ghost use Rattle.pool_isa.specs.Number.{number_bytes};
 ghost use Rattle.pool_isa.specs.Ranges.{IsWithin};
 ghost use Rattle.pool_isa.specs.Spelling.{IsFault};
-ghost use Rattle.image_form.specs.Reading.{Spelled, Finds};
+ghost use Rattle.image_form.specs.Reading.{Spelled, IsDecoded};
 
 use crate::image::ImageErr;
 
@@ -43,7 +43,7 @@ pub(crate) fn number_within(
     requires within { at ≤ length bytes.now }
     requires small { low ≤ 1 }
     requires some { low ≤ high }
-    ensures { Finds (IsWithin low high) number_bytes (λ n. n) bytes.now at result }
+    ensures { IsDecoded (IsWithin low high) number_bytes (λ n. n) bytes.now at result }
 {
     match number_front(&bytes[at..], low, high) {
         Ok((number, rest)) => Ok((number, bytes.len() - rest.len())),
@@ -61,7 +61,7 @@ pub(crate) fn small_number(
     requires within { at ≤ length bytes.now }
     requires small { low ≤ 1 }
     requires some { low ≤ high }
-    ensures { Finds (IsWithin low high) number_bytes (λ n. n) bytes.now at result }
+    ensures { IsDecoded (IsWithin low high) number_bytes (λ n. n) bytes.now at result }
 {
     match number_within(bytes, at, u64::from(low), u64::from(high)) {
         Ok((number, end)) => Ok((number as u32, end)),

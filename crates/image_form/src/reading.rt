@@ -3,7 +3,7 @@
 ghost use Rattle.std.specs.Prelude.{◌≡◌, ℕ, ◌≤◌, length, IfOk, IfErr};
 ghost use Rattle.image_form.specs.Form.{Form, form_of, contents_bytes, image_bytes, IsContents, IsImage, ImageOf};
 ghost use Rattle.image_form.specs.Faults.{IsBad};
-ghost use Rattle.image_form.specs.Reading.{Finds, IsFirst, first_bytes_of, IsContentsOf, contents_of, IsHeader, opening_bytes, IsDecodedUnlessMemory};
+ghost use Rattle.image_form.specs.Reading.{IsDecoded, IsFirst, first_bytes_of, IsContentsOf, contents_of, IsHeader, opening_bytes, IsDecodedUnlessMemory};
 
 use crate::functions::counted_functions;
 use crate::image::{Globals, Image, ImageErr, MachineLimits};
@@ -16,7 +16,7 @@ const FIRST: [u8; 5] = [80, 65, 73, 77, 1];
 
 // The place behind the first bytes.
 fn first_bytes(bytes: &[u8]) -> Result<((), usize), ImageErr>
-    ensures { Finds IsFirst first_bytes_of (λ nothing. nothing) bytes.now 0 result }
+    ensures { IsDecoded IsFirst first_bytes_of (λ nothing. nothing) bytes.now 0 result }
 {
     for (index, byte) in FIRST.iter().enumerate() {
         if index >= bytes.len() || bytes[index] != *byte {
@@ -35,7 +35,7 @@ struct Header {
 }
 
 fn read_header(bytes: &[u8]) -> Result<(Header, usize), ImageErr>
-    ensures { Finds IsHeader opening_bytes (λ header. header) bytes.now 0 result }
+    ensures { IsDecoded IsHeader opening_bytes (λ header. header) bytes.now 0 result }
 {
     let ((), at) = match first_bytes(bytes) {
         Ok(found) => found,
@@ -64,7 +64,7 @@ fn contents(
     count: usize,
 ) -> Result<(Vec<u8>, usize), ImageErr>
     requires { at ≤ length bytes.now }
-    ensures { Finds (IsContentsOf count) (λ contents. contents) contents_of bytes.now at result }
+    ensures { IsDecoded (IsContentsOf count) (λ contents. contents) contents_of bytes.now at result }
 {
     let rest = &bytes[at..];
     if rest.len() < count {
@@ -87,7 +87,7 @@ fn counted_contents(
     size: u32,
 ) -> Result<(Vec<u8>, usize), ImageErr>
     requires { at ≤ length bytes.now }
-    ensures { Finds (IsContents size) contents_bytes contents_of bytes.now at result }
+    ensures { IsDecoded (IsContents size) contents_bytes contents_of bytes.now at result }
 {
     let (count, at) = match small_number(bytes, at, 0, size) {
         Ok(found) => found,
@@ -98,7 +98,7 @@ fn counted_contents(
 
 // An image, and the place behind it.
 fn image(alloc: Global, bytes: &[u8]) -> Result<(Image, usize), ImageErr>
-    ensures { Finds IsImage image_bytes form_of bytes.now 0 result }
+    ensures { IsDecoded IsImage image_bytes form_of bytes.now 0 result }
 {
     let (header, at) = match read_header(bytes) {
         Ok(found) => found,

@@ -1,15 +1,20 @@
 -- Calls and returns, as the meaning has them.
-use Rattle.std.proofs.Common.{◌≡◌, ℕ, ◌-◌, ◌<◌, ◌≤◌, List, [], ◌∷◌, ◌++◌, Bool, true, false, Option, Some, length, take, drop, reverse, replicate, refl, sym, ap, ◌∙◌, subst, arith}
+use Rattle.std.proofs.Common.{◌≡◌, ℕ, zero, suc, ◌-◌, ◌<◌, ◌≤◌, List, [], ◌∷◌, ◌++◌, Bool, true, false, Option, Some, length, take, drop, reverse, replicate, refl, sym, ap, ◌∙◌, subst, arith}
 use Rattle.std.specs.Prelude.{nat_lt}
 use Rattle.std.specs.List.{flat_map}
 use Rattle.std.specs.Bool.{if◌then◌else◌}
 use Rattle.std.proofs.lemmas.Bool.Decides.{nat_tests}
 use Rattle.byteorder.specs.Endian.{little_bytes}
-use Rattle.run_theory.specs.Runs.{Called, Returned, DepthReached, Move, Halt}
+use Rattle.run_theory.specs.Runs.{output_of, Returned, DepthReached, Move, Halt}
 use Rattle.run_theory.specs.declared.ends.TrapKind.TheVariants as traps
-use Rattle.pool_isa.specs.Machine.{Function, Activation, State, trap, with_one, advanced, resumed, next_start, program_number, entered, left, called, function_word, named_by, returned}
+use Rattle.pool_isa.specs.Machine.{Function, Activation, State, trap, with_one, advanced, resumed, next_start, call_event, entered, left, called, function_word, named_by, returned}
 use Rattle.machine.specs.Steps.{GoesInside}
 use Rattle.machine.proofs.Accesses.{output_kept}
+
+-- a call writes nothing
+no_output : (callee : ℕ) → output_of (call_event callee ∷ []) ≡ []
+no_output zero = refl
+no_output (suc number) = refl
 
 -- a function at its entry
 abbrev pub at_entry : ℕ → Function → List ℕ → Activation → Activation
@@ -33,7 +38,7 @@ called_on callee found function operands top innermost callers callers' state th
       frames = sym (ap (λ (f : Activation). f ∷ callers') is ∙ ap (λ (fs : List Activation). at_entry callee function operands top ∷ fs) rest);
       heap_is = refl;
       input = refl;
-      output = output_kept state.trace (Called (program_number callee) ∷ []) refl;
+      output = output_kept state.trace (call_event callee ∷ []) (no_output callee);
     }
 
 -- a state in which a function has returned to these activations

@@ -7,15 +7,15 @@ use Rattle.pool_isa.specs.Machine.{Function, Code, Activation, Heap, History, St
 use Rattle.machine.specs.declared.ends.RunEnd.TheVariants as ends
 use Rattle.machine.specs.declared.ends.Step.{Step}
 use Rattle.machine.specs.declared.ends.Step.TheVariants.{On, Over}
-use Rattle.machine.specs.Steps.{state_of, activations_of, LeftAt, CallStack, Makes, PerformsAlone, IsOfPools, MakesInside, Performs, Gives, Does}
+use Rattle.machine.specs.Steps.{state_of, activations_of, LeftAt, CallStack, StepMakes, PerformsAlone, IsOfPools, MakesInside, Performs, StepGives, ExecutesInstr}
 
 module _ (code : Code) (function : Function) (old : CallStack) (heap : Heap) (result : Step) (new : CallStack) (heap' : Heap) where
   -- an instruction by another name
-  pub does_as : (instr instr' : Instr) (left written left' written' : Option (List ℕ)) → instr' ≡ instr → Does code function instr old heap left written result new heap' left' written' → Does code function instr' old heap left written result new heap' left' written'
-  does_as instr instr' left written left' written' e = subst (λ i. Does code function i old heap left written result new heap' left' written') (sym e)
+  pub does_as : (instr instr' : Instr) (left written left' written' : Option (List ℕ)) → instr' ≡ instr → ExecutesInstr code function instr old heap left written result new heap' left' written' → ExecutesInstr code function instr' old heap left written result new heap' left' written'
+  does_as instr instr' left written left' written' e = subst (λ i. ExecutesInstr code function i old heap left written result new heap' left' written') (sym e)
 
 -- a step that touched the activations alone touched neither input nor output
-inside_from_makes : (move : Move State) (old : State) (result : Step) (new : List Activation) → Makes move old result new → MakesInside move old result new old.heap
+inside_from_makes : (move : Move State) (old : State) (result : Step) (new : List Activation) → StepMakes move old result new → MakesInside move old result new old.heap
 inside_from_makes move old On new e = record { next = record old { activations = new }; goes = e; frames = refl; heap_is = refl; input = refl; output = refl }
 inside_from_makes move old (Over (ends.Ended status)) new e = record { halts = e; heap_is = refl }
 inside_from_makes move old (Over ends.Depth) new e = record { halts = e; heap_is = refl }
@@ -33,7 +33,7 @@ performs_from_alone code function instr old new callers heap result alone histor
     inside_from_makes _ (state_of (old ∷ callers) heap history input trace) result (new ∷ callers) (alone code callers heap history input trace)
 
 -- a step that touched neither input nor output leaves what was left and written
-gives_from_inside : (move : Move State) (base : List ℕ) (old : State) (result : Step) (new : List Activation) (heap : Heap) (left written : Option (List ℕ)) → LeftAt base old left written → MakesInside move old result new heap → Gives move base old result new heap left written
+gives_from_inside : (move : Move State) (base : List ℕ) (old : State) (result : Step) (new : List Activation) (heap : Heap) (left written : Option (List ℕ)) → LeftAt base old left written → MakesInside move old result new heap → StepGives move base old result new heap left written
 gives_from_inside move base old On new heap left written there h = record {
   next = h.next;
   goes = h.goes;
@@ -55,7 +55,7 @@ no_history : History
 no_history = record { placed = []; pool_events = [] }
 
 module _ (code : Code) (function : Function) (instr : Instr) (old : CallStack) (heap : Heap) (result : Step) (new : CallStack) (heap' : Heap) (performs : Performs code function instr old heap result new heap') where
-  pub does_from_performs : (left written : Option (List ℕ)) → Does code function instr old heap left written result new heap' left written
+  pub does_from_performs : (left written : Option (List ℕ)) → ExecutesInstr code function instr old heap left written result new heap' left written
   does_from_performs left written history input base trace told wrote =
       gives_from_inside _ base (state_of (activations_of old) heap history input trace) result (activations_of new) heap' left written (told, wrote) (performs history input trace)
 

@@ -12,9 +12,17 @@ use Rattle.machine.specs.declared.ends.RunEnd.{RunEnd}
 use Rattle.machine.specs.declared.ends.RunEnd.TheVariants as ends
 use Rattle.machine.specs.declared.ends.Step.{Step}
 use Rattle.machine.specs.declared.ends.Step.TheVariants.{On, Over}
-use Rattle.machine.specs.Steps.{state_of, CallStack, activations_of, final_of, LeftAt, Halts, IsUndone, GoesOn, Gives}
+use Rattle.machine.specs.Steps.{state_of, CallStack, activations_of, final_of, LeftAt, Halts, IsUndone, GoesOn, StepGives}
 use Rattle.machine.specs.Run.{Ready, HaltsAt, ComesTo, BreaksOff, RunGives}
 use Rattle.machine.proofs.Moves.{moves-suc}
+
+-- a step that goes on is no end
+pub no_end : (result : Step) (end : RunEnd) → result ≡ On → result ≡ Over end → ⊥
+no_end result end e f = absurd cc
+
+-- a step comes to one end
+pub same_end : (result : Step) (end other : RunEnd) → result ≡ Over end → result ≡ Over other → end ≡ other
+same_end result end other e f = cc
 
 -- what steps leave as it was
 pub record Kept (old now : Ready) : Type 0 where
@@ -56,7 +64,7 @@ module _ (code : Code) (state : State) (base : List ℕ) where
   abbrev pub Steps : List Activation → Heap → Option (List ℕ) → Option (List ℕ) → Step → List Activation → Heap → Option (List ℕ) → Option (List ℕ) → Type 0
   Steps activations heap left written result activations' heap' left' written' =
       (history : History) (input : List ℕ) (trace : Trace) → left ≡ Some input → written ≡ Some (base ++ output_of trace)
-      → Gives (act code (state_of activations heap history input trace)) base (state_of activations heap history input trace) result activations' heap' left' written'
+      → StepGives (act code (state_of activations heap history input trace)) base (state_of activations heap history input trace) result activations' heap' left' written'
 
   pub stands_first : (left written : Option (List ℕ)) → LeftAt base state left written → Stands 0 state.activations state.heap left written
   stands_first left written there = record { next = state; goes = refl; frames = refl; heap_is = refl; left_at = there }
@@ -64,12 +72,12 @@ module _ (code : Code) (state : State) (base : List ℕ) where
   module _ (n : ℕ) (activations : List Activation) (heap : Heap) (left written : Option (List ℕ)) (there : Stands n activations heap left written) where
     -- the step is one from the state that the run has come to
     gives_there : (result : Step) (activations' : List Activation) (heap' : Heap) (left' written' : Option (List ℕ)) → Steps activations heap left written result activations' heap' left' written'
-        → Gives (act code there.next) base there.next result activations' heap' left' written'
+        → StepGives (act code there.next) base there.next result activations' heap' left' written'
     gives_there result activations' heap' left' written' step =
         let next = there.next in
         let from = step next.history next.input next.trace there.left_at.0 there.left_at.1 in
-        let framed = subst (λ (fs : List Activation). Gives (act code (state_of fs heap next.history next.input next.trace)) base (state_of fs heap next.history next.input next.trace) result activations' heap' left' written') (sym there.frames) from in
-        subst (λ (h : Heap). Gives (act code (state_of next.activations h next.history next.input next.trace)) base (state_of next.activations h next.history next.input next.trace) result activations' heap' left' written') (sym there.heap_is) framed
+        let framed = subst (λ (fs : List Activation). StepGives (act code (state_of fs heap next.history next.input next.trace)) base (state_of fs heap next.history next.input next.trace) result activations' heap' left' written') (sym there.frames) from in
+        subst (λ (h : Heap). StepGives (act code (state_of next.activations h next.history next.input next.trace)) base (state_of next.activations h next.history next.input next.trace) result activations' heap' left' written') (sym there.heap_is) framed
 
     next_move : (move : Move State) → act code there.next ≡ move → moves (act code) (n + 1) state ≡ move
     next_move move e = ap (λ m. moves (act code) m state) (let f : n + 1 ≡ suc n = omega arith in f) ∙ moves-suc (act code) n state ∙ ap (then_move (act code)) there.goes ∙ e
@@ -84,13 +92,13 @@ module _ (code : Code) (state : State) (base : List ℕ) where
       halts_at final heap' left' written' e h =
           record { before = n; last = there.next; count = e; within = omega arith; comes = there.goes; halts = h.halts; heap_is = h.heap_is; left_at = h.left_at }
 
-      breaks_off : (activations' : List Activation) (heap' : Heap) (left' written' : Option (List ℕ)) → made ≡ n → IsUndone base there.next activations' heap' left' written' → BreaksOff code state base steps made activations' heap' left' written'
+      abbrev breaks_off : (activations' : List Activation) (heap' : Heap) (left' written' : Option (List ℕ)) → made ≡ n → IsUndone base there.next activations' heap' left' written' → BreaksOff code state base steps made activations' heap' left' written'
       breaks_off activations' heap' left' written' e h = record {
         within = omega arith;
         comes = record { last = there.next; comes = ap (λ m. moves (act code) m state) e ∙ there.goes; frames = sym h.frames; heap_is = sym h.heap_is; left_at = h.left_at };
       }
 
-      over : (end : RunEnd) (activations' : List Activation) (heap' : Heap) (left' written' : Option (List ℕ)) → made ≡ (if is_some (final_of end) then suc n else n) → Gives (act code there.next) base there.next (Over end) activations' heap' left' written'
+      over : (end : RunEnd) (activations' : List Activation) (heap' : Heap) (left' written' : Option (List ℕ)) → made ≡ (if is_some (final_of end) then suc n else n) → StepGives (act code there.next) base there.next (Over end) activations' heap' left' written'
           → RunGives code state base steps end made activations' heap' left' written'
       over (ends.Ended status) acts heap' left' written' e h = halts_at (runs.Ended status) heap' left' written' e h
       over ends.Depth acts heap' left' written' e h = halts_at runs.DepthReached heap' left' written' e h
@@ -98,8 +106,8 @@ module _ (code : Code) (state : State) (base : List ℕ) where
       over ends.IndexExhausted acts heap' left' written' e h = halts_at runs.IndexExhausted heap' left' written' e h
       over (ends.Trapped kind) acts heap' left' written' e h = halts_at (runs.Trapped kind) heap' left' written' e h
       over ends.StepsSpent acts heap' left' written' e h = absurd h
-      over ends.ReadFault acts heap' left' written' e h = breaks_off acts heap' left' written' e h
-      over ends.WriteFault acts heap' left' written' e h = breaks_off acts heap' left' written' e h
+      over ends.ReadFault acts heap' left' written' e h = record { breaks_off = breaks_off acts heap' left' written' e h.1; reads = h.0 }
+      over ends.WriteFault acts heap' left' written' e h = record { breaks_off = breaks_off acts heap' left' written' e h.1; writes = h.0 }
       over ends.OutOfMemory acts heap' left' written' e h = breaks_off acts heap' left' written' e h
 
       -- an end of the run is a step, too; what breaks it off is none
@@ -113,8 +121,8 @@ module _ (code : Code) (state : State) (base : List ℕ) where
 
   -- the step's own clause, whatever it calls the code and where it led
   pub as_steps : (code' : Code) (activations : List Activation) (heap : Heap) (left written : Option (List ℕ)) (result result' : Step) (activations' : List Activation) (heap' : Heap) (left' written' : Option (List ℕ)) → code' ≡ code → result' ≡ result
-      → ((history : History) (input base' : List ℕ) (trace : Trace) → left ≡ Some input → written ≡ Some (base' ++ output_of trace) → Gives (act code' (state_of activations heap history input trace)) base' (state_of activations heap history input trace) result' activations' heap' left' written')
+      → ((history : History) (input base' : List ℕ) (trace : Trace) → left ≡ Some input → written ≡ Some (base' ++ output_of trace) → StepGives (act code' (state_of activations heap history input trace)) base' (state_of activations heap history input trace) result' activations' heap' left' written')
       → Steps activations heap left written result activations' heap' left' written'
   as_steps code' activations heap left written result result' activations' heap' left' written' e f clause history input trace there wrote =
-      subst (λ r. Gives (act code (state_of activations heap history input trace)) base (state_of activations heap history input trace) r activations' heap' left' written') f
-      (subst (λ c. Gives (act c (state_of activations heap history input trace)) base (state_of activations heap history input trace) result' activations' heap' left' written') e (clause history input base trace there wrote))
+      subst (λ r. StepGives (act code (state_of activations heap history input trace)) base (state_of activations heap history input trace) r activations' heap' left' written') f
+      (subst (λ c. StepGives (act c (state_of activations heap history input trace)) base (state_of activations heap history input trace) result' activations' heap' left' written') e (clause history input base trace there wrote))

@@ -7,7 +7,7 @@ use Rattle.image_form.specs.declared.image.MachineLimits.{MachineLimits}
 use Rattle.pool_isa.specs.Machine.{Code, Activation, Heap, History, State, act}
 use Rattle.machine.specs.declared.ends.RunEnd.{RunEnd}
 use Rattle.machine.specs.declared.ends.RunEnd.TheVariants as ends
-use Rattle.machine.specs.Steps.{state_of, final_of, LeftAt}
+use Rattle.machine.specs.Steps.{state_of, final_of, LeftAt, IsRead, IsWrite}
 
 -- A machine that stands between two steps, or is over: its code and limits; its activations, the innermost first, and the rest of
 -- its memory; how many steps it has made; and its last answer.
@@ -52,6 +52,16 @@ pub record BreaksOff (code : Code) (state : State) (base : List ℕ) (steps made
   pub within : made ≤ steps
   pub comes : ComesTo code state base made activations heap left written
 
+-- it was broken off before a getchar, whose read failed
+pub record FailsToRead (code : Code) (state : State) (base : List ℕ) (steps made : ℕ) (activations : List Activation) (heap : Heap) (left written : Option (List ℕ)) : Type 0 where
+  pub breaks_off : BreaksOff code state base steps made activations heap left written
+  pub reads : IsRead (act code breaks_off.comes.last) breaks_off.comes.last
+
+-- it was broken off before a putchar, whose write failed
+pub record FailsToWrite (code : Code) (state : State) (base : List ℕ) (steps made : ℕ) (activations : List Activation) (heap : Heap) (left written : Option (List ℕ)) : Type 0 where
+  pub breaks_off : BreaksOff code state base steps made activations heap left written
+  pub writes : IsWrite (act code breaks_off.comes.last) breaks_off.comes.last
+
 -- The run from a state, with so many steps allowed, makes so many, ends so, and leaves these activations and this memory, and this
 -- of the input and this output behind the base, where they are told.
 abbrev pub RunGives : Code → State → List ℕ → ℕ → RunEnd → ℕ → List Activation → Heap → Option (List ℕ) → Option (List ℕ) → Type 0
@@ -61,8 +71,8 @@ RunGives code state base steps ends.HeapExhausted made activations heap left wri
 RunGives code state base steps ends.IndexExhausted made activations heap left written = HaltsAt code state base steps runs.IndexExhausted made heap left written
 RunGives code state base steps (ends.Trapped kind) made activations heap left written = HaltsAt code state base steps (runs.Trapped kind) made heap left written
 RunGives code state base steps ends.StepsSpent made activations heap left written = (made ≡ steps) × ComesTo code state base steps activations heap left written
-RunGives code state base steps ends.ReadFault made activations heap left written = BreaksOff code state base steps made activations heap left written
-RunGives code state base steps ends.WriteFault made activations heap left written = BreaksOff code state base steps made activations heap left written
+RunGives code state base steps ends.ReadFault made activations heap left written = FailsToRead code state base steps made activations heap left written
+RunGives code state base steps ends.WriteFault made activations heap left written = FailsToWrite code state base steps made activations heap left written
 RunGives code state base steps ends.OutOfMemory made activations heap left written = BreaksOff code state base steps made activations heap left written
 
 -- the same, whatever it leaves in memory

@@ -32,17 +32,17 @@ final_of _ = None
 
 -- The move that the machine's meaning makes from a state is the one that a step made, which touched the activations alone. A
 -- step that lacked memory left those that there were.
-abbrev pub Makes : Move State → State → Step → List Activation → Type 0
-Makes move old On new = move ≡ To (record old { activations = new })
-Makes move old (Over (ends.Ended status)) new = move ≡ Halt (runs.Ended status) old
-Makes move old (Over ends.Depth) new = move ≡ Halt runs.DepthReached old
-Makes move old (Over ends.HeapExhausted) new = move ≡ Halt runs.HeapExhausted old
-Makes move old (Over ends.IndexExhausted) new = move ≡ Halt runs.IndexExhausted old
-Makes move old (Over (ends.Trapped kind)) new = move ≡ Halt (runs.Trapped kind) old
-Makes move old (Over ends.OutOfMemory) new = new ≡ old.activations
-Makes move old (Over ends.StepsSpent) new = ⊥
-Makes move old (Over ends.ReadFault) new = ⊥
-Makes move old (Over ends.WriteFault) new = ⊥
+abbrev pub StepMakes : Move State → State → Step → List Activation → Type 0
+StepMakes move old On new = move ≡ To (record old { activations = new })
+StepMakes move old (Over (ends.Ended status)) new = move ≡ Halt (runs.Ended status) old
+StepMakes move old (Over ends.Depth) new = move ≡ Halt runs.DepthReached old
+StepMakes move old (Over ends.HeapExhausted) new = move ≡ Halt runs.HeapExhausted old
+StepMakes move old (Over ends.IndexExhausted) new = move ≡ Halt runs.IndexExhausted old
+StepMakes move old (Over (ends.Trapped kind)) new = move ≡ Halt (runs.Trapped kind) old
+StepMakes move old (Over ends.OutOfMemory) new = new ≡ old.activations
+StepMakes move old (Over ends.StepsSpent) new = ⊥
+StepMakes move old (Over ends.ReadFault) new = ⊥
+StepMakes move old (Over ends.WriteFault) new = ⊥
 
 -- an instruction that concerns the innermost activation alone: neither its caller nor memory, pools, input or output
 abbrev pub IsAlone : Instr → Type 0
@@ -65,7 +65,7 @@ IsAlone _ = Unit {0}
 -- An instruction that concerns the innermost activation alone was performed as the machine's meaning says, whatever else there is.
 abbrev pub PerformsAlone : Function → Instr → Activation → Step → Activation → Type 0
 PerformsAlone function instr old result new =
-    (code : Code) (callers : List Activation) (heap : Heap) (history : History) (input : List ℕ) (trace : Trace) → Makes (perform (Some instr) code function old callers (state_of (old ∷ callers) heap history input trace)) (state_of (old ∷ callers) heap history input trace) result (new ∷ callers)
+    (code : Code) (callers : List Activation) (heap : Heap) (history : History) (input : List ℕ) (trace : Trace) → StepMakes (perform (Some instr) code function old callers (state_of (old ∷ callers) heap history input trace)) (state_of (old ∷ callers) heap history input trace) result (new ∷ callers)
 
 -- ---- instructions that touch neither input nor output
 
@@ -174,25 +174,40 @@ pub record GoesOn (move : Move State) (base : List ℕ) (activations : List Acti
   pub heap_is : next.heap ≡ heap
   pub left_at : LeftAt base next left written
 
+-- the step is a getchar: it takes what is next on the input, and the machine goes on
+pub record IsRead (move : Move State) (old : State) : Type 0 where
+  pub top : Activation
+  pub callers : List Activation
+  pub there : old.activations ≡ top ∷ callers
+  pub goes : move ≡ To (record old { activations = advanced top (input_word old.input ∷ top.operands) ∷ callers; input = after_next old.input })
+
+-- the step is a putchar: it writes this byte, and the machine goes on
+pub record IsWrite (move : Move State) (old : State) : Type 0 where
+  pub byte : ℕ
+  pub next : State
+  pub goes : move ≡ To next
+  pub input : next.input ≡ old.input
+  pub output : next.trace ≡ old.trace ++ runs.Output byte ∷ []
+
 -- The move from a state is the one that a step made, with what is left of the input and what is written after it. A step
--- that failed or lacked memory left all as it was.
-abbrev pub Gives : Move State → List ℕ → State → Step → List Activation → Heap → Option (List ℕ) → Option (List ℕ) → Type 0
-Gives move base old On activations heap left written = GoesOn move base activations heap left written
-Gives move base old (Over (ends.Ended status)) activations heap left written = Halts move (runs.Ended status) base old heap left written
-Gives move base old (Over ends.Depth) activations heap left written = Halts move runs.DepthReached base old heap left written
-Gives move base old (Over ends.HeapExhausted) activations heap left written = Halts move runs.HeapExhausted base old heap left written
-Gives move base old (Over ends.IndexExhausted) activations heap left written = Halts move runs.IndexExhausted base old heap left written
-Gives move base old (Over (ends.Trapped kind)) activations heap left written = Halts move (runs.Trapped kind) base old heap left written
-Gives move base old (Over ends.ReadFault) activations heap left written = IsUndone base old activations heap left written
-Gives move base old (Over ends.WriteFault) activations heap left written = IsUndone base old activations heap left written
-Gives move base old (Over ends.OutOfMemory) activations heap left written = IsUndone base old activations heap left written
-Gives move base old (Over ends.StepsSpent) activations heap left written = ⊥
+-- that lacked memory left all as it was, and so did one that failed: it was a getchar or a putchar.
+abbrev pub StepGives : Move State → List ℕ → State → Step → List Activation → Heap → Option (List ℕ) → Option (List ℕ) → Type 0
+StepGives move base old On activations heap left written = GoesOn move base activations heap left written
+StepGives move base old (Over (ends.Ended status)) activations heap left written = Halts move (runs.Ended status) base old heap left written
+StepGives move base old (Over ends.Depth) activations heap left written = Halts move runs.DepthReached base old heap left written
+StepGives move base old (Over ends.HeapExhausted) activations heap left written = Halts move runs.HeapExhausted base old heap left written
+StepGives move base old (Over ends.IndexExhausted) activations heap left written = Halts move runs.IndexExhausted base old heap left written
+StepGives move base old (Over (ends.Trapped kind)) activations heap left written = Halts move (runs.Trapped kind) base old heap left written
+StepGives move base old (Over ends.ReadFault) activations heap left written = IsRead move old × IsUndone base old activations heap left written
+StepGives move base old (Over ends.WriteFault) activations heap left written = IsWrite move old × IsUndone base old activations heap left written
+StepGives move base old (Over ends.OutOfMemory) activations heap left written = IsUndone base old activations heap left written
+StepGives move base old (Over ends.StepsSpent) activations heap left written = ⊥
 
 -- An instruction was performed as the machine's meaning says: from what was left of the input and what was written
 -- before it, where they are told, to what is left and written after it.
-abbrev pub Does : Code → Function → Instr → CallStack → Heap → Option (List ℕ) → Option (List ℕ) → Step → CallStack → Heap → Option (List ℕ) → Option (List ℕ) → Type 0
-Does code function instr old heap left written result new heap' left' written' =
-    (history : History) (input base : List ℕ) (trace : Trace) → left ≡ Some input → written ≡ Some (base ++ output_of trace) → Gives (perform (Some instr) code function old.innermost old.callers (state_of (activations_of old) heap history input trace)) base (state_of (activations_of old) heap history input trace) result (activations_of new) heap' left' written'
+abbrev pub ExecutesInstr : Code → Function → Instr → CallStack → Heap → Option (List ℕ) → Option (List ℕ) → Step → CallStack → Heap → Option (List ℕ) → Option (List ℕ) → Type 0
+ExecutesInstr code function instr old heap left written result new heap' left' written' =
+    (history : History) (input base : List ℕ) (trace : Trace) → left ≡ Some input → written ≡ Some (base ++ output_of trace) → StepGives (perform (Some instr) code function old.innermost old.callers (state_of (activations_of old) heap history input trace)) base (state_of (activations_of old) heap history input trace) result (activations_of new) heap' left' written'
 
 -- A step that reads has pushed the word of what was left, or it could not be made, and nothing has changed.
 abbrev pub PushesNext : Step → Activation → Option (List ℕ) → Activation → Option (List ℕ) → Type 0

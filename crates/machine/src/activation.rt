@@ -146,6 +146,7 @@ impl Activation {
         ensures pushed { PushesNext result self.old (I.left input.old) self.new (I.left input.new) }
         ensures frame { next_start self.new ≡ next_start self.old }
         ensures fault { result ≡ Step.Over RunEnd.ReadFault → Rose (I.faults input.old) (I.faults input.new) }
+        ensures faultless { result ≢ Step.Over RunEnd.ReadFault → I.faults input.new ≡ I.faults input.old }
         ensures other { result ≢ Step.Over RunEnd.WriteFault }
         ensures counted { I.faults input.old ≤ I.faults input.new }
     {

@@ -74,7 +74,7 @@ impl Model for Calls {
 impl Calls {
     ghost use Rattle.image_form.specs.Form.{code_of, form_of, function_of};
     ghost use Rattle.pool_isa.specs.Machine as machine;
-    ghost use Rattle.machine.specs.Steps.{activations_of, fetched, Puts, IsInside, IsOfPools, Performs, Does};
+    ghost use Rattle.machine.specs.Steps.{activations_of, fetched, Puts, IsInside, IsOfPools, Performs, ExecutesInstr};
 
     /// `start` at its entry.
     pub(crate) fn new(alloc: Global, extra: u32) -> Result<Calls, AllocError>
@@ -325,8 +325,9 @@ impl Calls {
     /// Reads a byte, where the function may hold one more operand.
     fn get_char<I: Source>(&mut self, input: &mut I, height: u32) -> Step
         requires { self.old.innermost.place + 1 < 2 ^ 64 }
-        ensures does { (code : machine.Code) (function : machine.Function) (heap : machine.Heap) (written : Option (List ℕ)) → function.height ≡ height → Does code function Instr.GetChar self.old heap (I.left input.old) written result self.new heap (I.left input.new) written }
+        ensures does { (code : machine.Code) (function : machine.Function) (heap : machine.Heap) (written : Option (List ℕ)) → function.height ≡ height → ExecutesInstr code function Instr.GetChar self.old heap (I.left input.old) written result self.new heap (I.left input.new) written }
         ensures fault { result ≡ Step.Over RunEnd.ReadFault → Rose (I.faults input.old) (I.faults input.new) }
+        ensures faultless { result ≢ Step.Over RunEnd.ReadFault → I.faults input.new ≡ I.faults input.old }
         ensures other { result ≢ Step.Over RunEnd.WriteFault }
         ensures counted { I.faults input.old ≤ I.faults input.new }
     {
@@ -339,8 +340,9 @@ impl Calls {
     /// Writes the low byte of the last operand, and leaves that byte in its place.
     fn put_char<O: Sink>(&mut self, out: &mut O) -> Step
         requires { self.old.innermost.place + 1 < 2 ^ 64 }
-        ensures does { (code : machine.Code) (function : machine.Function) (heap : machine.Heap) (left : Option (List ℕ)) → Does code function Instr.PutChar self.old heap left (O.written out.old) result self.new heap left (O.written out.new) }
+        ensures does { (code : machine.Code) (function : machine.Function) (heap : machine.Heap) (left : Option (List ℕ)) → ExecutesInstr code function Instr.PutChar self.old heap left (O.written out.old) result self.new heap left (O.written out.new) }
         ensures fault { result ≡ Step.Over RunEnd.WriteFault → Rose (O.faults out.old) (O.faults out.new) }
+        ensures faultless { result ≢ Step.Over RunEnd.WriteFault → O.faults out.new ≡ O.faults out.old }
         ensures other { result ≢ Step.Over RunEnd.ReadFault }
         ensures counted { O.faults out.old ≤ O.faults out.new }
     {
@@ -423,9 +425,11 @@ impl Calls {
     ) -> Step
         requires next { self.old.innermost.place + 1 < 2 ^ 64 }
         requires kinds { AllByRecursion IsKind image.now.kinds.items }
-        ensures does { (function : machine.Function) → function.height ≡ height → Does (code_of (form_of image.now)) function instr self.old (heap_of heap.old) (I.left input.old) (O.written out.old) result self.new (heap_of heap.new) (I.left input.new) (O.written out.new) }
+        ensures does { (function : machine.Function) → function.height ≡ height → ExecutesInstr (code_of (form_of image.now)) function instr self.old (heap_of heap.old) (I.left input.old) (O.written out.old) result self.new (heap_of heap.new) (I.left input.new) (O.written out.new) }
         ensures read_cause { result ≡ Step.Over RunEnd.ReadFault → Rose (I.faults input.old) (I.faults input.new) }
         ensures write_cause { result ≡ Step.Over RunEnd.WriteFault → Rose (O.faults out.old) (O.faults out.new) }
+        ensures read_faultless { result ≢ Step.Over RunEnd.ReadFault → I.faults input.new ≡ I.faults input.old }
+        ensures write_faultless { result ≢ Step.Over RunEnd.WriteFault → O.faults out.new ≡ O.faults out.old }
         ensures reads_counted { I.faults input.old ≤ I.faults input.new }
         ensures writes_counted { O.faults out.old ≤ O.faults out.new }
     {

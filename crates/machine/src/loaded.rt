@@ -1,6 +1,6 @@
 // A machine with an image, and its runs.
 
-ghost use Rattle.std.specs.Prelude.{◌≡◌, ℕ, ◌+◌, ◌-◌, ◌^◌, ◌<◌, ◌≤◌, List, [], ◌++◌, slice_get, Some, None, IfOk, OnOk};
+ghost use Rattle.std.specs.Prelude.{◌≡◌, ◌≢◌, ℕ, ◌+◌, ◌-◌, ◌^◌, ◌<◌, ◌≤◌, List, [], ◌++◌, slice_get, Some, None, IfOk, OnOk};
 ghost use Rattle.run_theory.specs.Runs.{Trace, Final, output_of};
 ghost use Rattle.pcc_outside.specs.Outside.{Rose};
 ghost use Rattle.image_form.specs.Form.{code_of, form_of, IsImage};
@@ -32,7 +32,7 @@ pub struct Machine<'a> {
 
 impl<'a> Machine<'a> {
     ghost use Rattle.machine.specs.Heaps.{function_rows, code_rows, row_of};
-    ghost use Rattle.machine.specs.Steps.{Gives};
+    ghost use Rattle.machine.specs.Steps.{StepGives};
     ghost use Rattle.machine.specs.Run.{state_at, is_over, RunGives};
     ghost use Rattle.machine.specs.Loaded.{ready_of, IsLoaded};
 
@@ -68,11 +68,13 @@ impl<'a> Machine<'a> {
     /// Makes one step.
     fn step<I: Source, O: Sink>(&mut self, input: &mut I, out: &mut O) -> Step
         requires { IsLoaded self.old }
-        ensures gives { (history : History) (left base : List ℕ) (trace : Trace) → I.left input.old ≡ Some left → O.written out.old ≡ Some (base ++ output_of trace) → Gives (act (ready_of self.old).code (state_at (ready_of self.old) history left trace)) base (state_at (ready_of self.old) history left trace) result (ready_of self.new).activations (ready_of self.new).heap (I.left input.new) (O.written out.new) }
+        ensures gives { (history : History) (left base : List ℕ) (trace : Trace) → I.left input.old ≡ Some left → O.written out.old ≡ Some (base ++ output_of trace) → StepGives (act (ready_of self.old).code (state_at (ready_of self.old) history left trace)) base (state_at (ready_of self.old) history left trace) result (ready_of self.new).activations (ready_of self.new).heap (I.left input.new) (O.written out.new) }
         ensures loaded { IsLoaded self.new }
         ensures same { ready_of self.new ≡ record (ready_of self.old) { activations = (ready_of self.new).activations; heap = (ready_of self.new).heap } }
         ensures read_cause { result ≡ Step.Over RunEnd.ReadFault → Rose (I.faults input.old) (I.faults input.new) }
         ensures write_cause { result ≡ Step.Over RunEnd.WriteFault → Rose (O.faults out.old) (O.faults out.new) }
+        ensures read_faultless { result ≢ Step.Over RunEnd.ReadFault → I.faults input.new ≡ I.faults input.old }
+        ensures write_faultless { result ≢ Step.Over RunEnd.WriteFault → O.faults out.new ≡ O.faults out.old }
         ensures reads_counted { I.faults input.old ≤ I.faults input.new }
         ensures writes_counted { O.faults out.old ≤ O.faults out.new }
     {
@@ -106,6 +108,8 @@ impl<'a> Machine<'a> {
         ensures within { (ready_of self.new).spent ≤ (ready_of self.old).spent + steps }
         ensures read_cause { result ≡ RunEnd.ReadFault → Rose (I.faults input.old) (I.faults input.new) }
         ensures write_cause { result ≡ RunEnd.WriteFault → Rose (O.faults out.old) (O.faults out.new) }
+        ensures read_faultless { result ≢ RunEnd.ReadFault → I.faults input.new ≡ I.faults input.old }
+        ensures write_faultless { result ≢ RunEnd.WriteFault → O.faults out.new ≡ O.faults out.old }
         ensures reads_counted { I.faults input.old ≤ I.faults input.new }
         ensures writes_counted { O.faults out.old ≤ O.faults out.new }
     {
@@ -140,6 +144,8 @@ impl<'a> Machine<'a> {
         ensures within { (ready_of self.new).spent ≤ (ready_of self.old).spent + steps }
         ensures read_cause { result ≡ RunEnd.ReadFault → Rose (I.faults input.old) (I.faults input.new) }
         ensures write_cause { result ≡ RunEnd.WriteFault → Rose (O.faults out.old) (O.faults out.new) }
+        // Want of memory is told of only where no call on the input or the output has failed.
+        ensures memory_cause { result ≡ RunEnd.OutOfMemory → (I.faults input.new ≡ I.faults input.old) × (O.faults out.new ≡ O.faults out.old) }
         ensures reads_counted { I.faults input.old ≤ I.faults input.new }
         ensures writes_counted { O.faults out.old ≤ O.faults out.new }
     {

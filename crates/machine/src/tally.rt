@@ -109,12 +109,12 @@ impl Tally {
     }
 
     /// An object was placed in a pool of an instruction.
-    fn count_object(&mut self, site: Site, peak: u32, slabs: u32)
+    fn count_object(&mut self, site: Site, peak: u64, slabs: u32)
         ensures { tally_of self.new ≡ record (tally_of self.old) { counts = counts_placed peak slabs (Some site) (tally_of self.old).counts } }
     {
         if let Some(counts) = self.counts.get_mut(&site) {
             counts.objects = counts.objects.saturating_add(1);
-            counts.peak = counts.peak.max(u64::from(peak));
+            counts.peak = counts.peak.max(peak);
             counts.slabs = counts.slabs.max(slabs);
         }
     }
@@ -128,7 +128,7 @@ impl Tally {
 
     /// An object was placed in a pool, in which at most `peak` objects have lived at once, and which holds `slabs` slabs;
     /// `free` slabs are free.
-    pub(crate) fn object_placed(&mut self, pool: u64, peak: u32, slabs: u32, free: u32)
+    pub(crate) fn object_placed(&mut self, pool: u64, peak: u64, slabs: u32, free: u32)
         ensures { tally_of self.new ≡ object_placed pool peak slabs free (tally_of self.old) }
     {
         if let Some(site) = self.origins.get(&pool).copied() {

@@ -1,6 +1,6 @@
 //! The real outside: readers, writers and files of the system. What they give and take is not told.
 
-ghost use Rattle.std.specs.Prelude.{◌≡◌, ℕ, ◌<◌, ◌≤◌, List, length, take, IfOk, OnErr, None};
+ghost use Rattle.std.specs.Prelude.{◌≡◌, ℕ, ◌<◌, ◌≤◌, List, length, take, IfOk, OnOk, OnErr, None};
 ghost use Rattle.std.specs.Io.KnownBytes.{Keeps, Appends, Consumes, IsAtEnd};
 ghost use Rattle.pcc_outside.specs.Host.{source_reader, source_faults, sink_writer, sink_faults};
 ghost use Rattle.pcc_outside.specs.Outside.{Rose, Untold};
@@ -69,6 +69,7 @@ impl<R: Read> Source for StdSource<R> {
         requires { 0 < length buf.old }
         ensures within { IfOk result (λ n. n ≤ length buf.old) }
         ensures fault { OnErr result (Rose (source_faults self.old) (source_faults self.new)) }
+        ensures faultless { OnOk result (source_faults self.new ≡ source_faults self.old) }
         ensures counted { source_faults self.old ≤ source_faults self.new }
 
         // The bytes are the reader's, where it is known what it has left.
@@ -145,6 +146,7 @@ impl<W: Write> Sink for StdSink<W> {
         requires { 0 < length piece.now }
         ensures within { IfOk result (λ n. (0 < n) × (n ≤ length piece.now)) }
         ensures fault { OnErr result (Rose (sink_faults self.old) (sink_faults self.new)) }
+        ensures faultless { OnOk result (sink_faults self.new ≡ sink_faults self.old) }
         ensures counted { sink_faults self.old ≤ sink_faults self.new }
 
         // The bytes come to the writer, where it is known what it holds.
@@ -221,106 +223,5 @@ impl<R: rt::Files> Files for HostFiles<R> {
             }
             Err(_) => Err(fail(&mut self.faults)),
         }
-    }
-}
-
-#[cfg(test)]
-mod tests {
-    use super::*;
-    use std::test::Fail;
-    use std::{env, process};
-
-    /// Answers `interrupts` calls with an interruption, and then what `kind` says, or that one byte was read or written.
-    #[derive(Drop)]
-    struct Flaky {
-        interrupts: u32,
-        kind: Option<ErrorKind>,
-        flushes: u32,
-    }
-
-    impl Flaky {
-        fn answer(&mut self, room: usize) -> io::Result<usize>
-            ensures { IfOk result (λ n. n ≤ room) }
-        {
-            if self.interrupts > 0 {
-                self.interrupts -= 1;
-                return Err(io::Error::from(ErrorKind::Interrupted));
-            }
-            match self.kind {
-                Some(kind) => Err(io::Error::from(kind)),
-                None => Ok(room.min(1)),
-            }
-        }
-    }
-
-    impl Read for Flaky {
-        fn read(&mut self, buf: &mut [u8]) -> io::Result<usize> {
-            let n = self.answer(buf.len())?;
-            buf[..n].fill(7);
-            Ok(n)
-        }
-    }
-
-    impl Write for Flaky {
-        fn write(&mut self, piece: &[u8]) -> io::Result<usize> {
-            self.answer(piece.len())
-        }
-
-        fn flush(&mut self) -> io::Result<()> {
-            self.flushes = self.flushes.saturating_add(1);
-            Ok(())
-        }
-    }
-
-    fn make_flaky(interrupts: u32, kind: Option<ErrorKind>) -> Flaky {
-        Flaky {
-            interrupts,
-            kind,
-            flushes: 0,
-        }
-    }
-
-    #[test]
-    fn source_tries_again(rt: HostRuntime) {
-        let mut buf = [0u8; 2];
-        let mut source = StdSource::new(make_flaky(1000, None));
-        assert_eq!(rt; source.read(&mut buf), Ok(1));
-        assert_eq!(rt; buf, [7, 0]);
-        assert_eq!(rt; source.faults, 0);
-        let mut source = StdSource::new(make_flaky(1001, None));
-        assert_eq!(rt; source.read(&mut buf), Err(Failed));
-        assert_eq!(rt; source.faults, 1);
-        let mut source = StdSource::new(make_flaky(0, Some(ErrorKind::BrokenPipe)));
-        assert_eq!(rt; source.read(&mut buf), Err(Failed));
-    }
-
-    #[test]
-    fn sink_flushes(rt: HostRuntime) {
-        let mut sink = StdSink::new(make_flaky(1000, None));
-        assert_eq!(rt; sink.write(b"ab"), Ok(1));
-        assert_eq!(rt; sink.write(b"b"), Ok(1));
-        assert_eq!(rt; sink.writer.flushes, 2);
-        let mut sink = StdSink::new(make_flaky(0, Some(ErrorKind::BrokenPipe)));
-        assert_eq!(rt; sink.write(b"ab"), Err(Failed));
-        assert_eq!(rt; sink.faults, 1);
-    }
-
-    #[test]
-    fn files_of_the_host(rt: HostRuntime) -> Result<(), Fail> {
-        let dir = env::temp_dir(&rt)?;
-        let own = format!(in rt.alloc(); "pcc_outside-{}", process::id(rt.process()))?;
-        let path = dir.as_path().join(rt.alloc(), own.as_str())?;
-        fs::write(&rt, path.as_path(), b"abcd")?;
-        let name = path.as_path().to_str().ok_or("a path that is text")?;
-        let mut files = HostFiles::new(rt.clone()?);
-        let mut buf = [0u8; 3];
-        assert_eq!(rt; files.read_at(name, 1, &mut buf), Ok(3));
-        assert_eq!(rt; &buf, b"bcd");
-        assert_eq!(rt; files.read_at(name, 4, &mut buf), Ok(0));
-        assert_eq!(rt; files.reach, 4);
-        assert_eq!(rt; files.read_at("/no/such/file", 0, &mut buf), Err(Failed));
-        assert_eq!(rt; files.faults, 1);
-        fs::remove_file(&rt, path.as_path())?;
-        Ok(())
     }
 }

@@ -1,7 +1,7 @@
 //! The outside as traits: sources, sinks and files, whose calls may fail.
 #![tactic(auto)]
 
-ghost use Rattle.std.specs.Prelude.{◌≡◌, ℕ, ◌<◌, ◌≤◌, ◌^◌, List, Option, length, take, IfOk, OnErr};
+ghost use Rattle.std.specs.Prelude.{◌≡◌, ℕ, ◌<◌, ◌≤◌, ◌^◌, List, Option, length, take, IfOk, OnOk, OnErr};
 ghost use Rattle.pcc_outside.specs.Outside.{Rose, Takes, Adds, Told, Gives, Reaches};
 
 mod counts;
@@ -32,6 +32,7 @@ pub trait Source {
         ensures within { IfOk result (λ n. n ≤ length buf.old) }
         ensures unread { OnErr result (left self.new ≡ left self.old) }
         ensures fault { OnErr result (Rose (faults self.old) (faults self.new)) }
+        ensures faultless { OnOk result (faults self.new ≡ faults self.old) }
         ensures counted { faults self.old ≤ faults self.new };
 }
 
@@ -50,6 +51,7 @@ pub trait Sink {
         ensures within { IfOk result (λ n. (0 < n) × (n ≤ length piece.now)) }
         ensures unwritten { OnErr result (written self.new ≡ written self.old) }
         ensures fault { OnErr result (Rose (faults self.old) (faults self.new)) }
+        ensures faultless { OnOk result (faults self.new ≡ faults self.old) }
         ensures counted { faults self.old ≤ faults self.new };
 }
 
@@ -75,6 +77,7 @@ pub trait Files {
         ensures reached { IfOk result (λ n. Reaches at n (reach self.old name.now) (reach self.new name.now)) }
         ensures unreached { OnErr result (reach self.new name.now ≡ reach self.old name.now) }
         ensures fault { OnErr result (Rose (faults self.old name.now) (faults self.new name.now)) }
+        ensures faultless { OnOk result ((other : List ℕ) → faults self.new other ≡ faults self.old other) }
         ensures counted { (other : List ℕ) → faults self.old other ≤ faults self.new other }
         ensures further { (other : List ℕ) → reach self.old other ≤ reach self.new other }
         ensures kept { (other : List ℕ) → contents self.new other ≡ contents self.old other };

@@ -1,6 +1,6 @@
 //! Sources, sinks and files in memory. Their calls fail where they are told to.
 
-ghost use Rattle.std.specs.Prelude.{◌≡◌, ℕ, ◌+◌, ◌-◌, ◌^◌, ◌<◌, ◌≤◌, ◌↔◌, ◌⊎◌, min, List, [], length, take, Some, None, Ok, IfSome, IfNone, IfOk, OnErr, IsErr, IsTrue};
+ghost use Rattle.std.specs.Prelude.{◌≡◌, ℕ, ◌+◌, ◌-◌, ◌^◌, ◌<◌, ◌≤◌, ◌↔◌, ◌⊎◌, min, List, [], length, take, Some, None, Ok, IfSome, IfNone, IfOk, OnOk, OnErr, IsErr, IsTrue};
 ghost use Rattle.pcc_outside.specs.Outside.{Rose, Takes, Adds, Missing, Holds, Gives, Reaches};
 ghost use Rattle.pcc_outside.specs.Memory.{uncalled, one_more, IsNextDue, OneCall, files_of, file_of};
 
@@ -124,6 +124,7 @@ impl Source for MemSource {
         ensures within { IfOk result (λ n. n ≤ length buf.old) }
         ensures unread { OnErr result (Some self.new.left ≡ Some self.old.left) }
         ensures fault { OnErr result (Rose self.old.calls.failed self.new.calls.failed) }
+        ensures faultless { OnOk result (self.new.calls.failed ≡ self.old.calls.failed) }
         ensures counted { self.old.calls.failed ≤ self.new.calls.failed }
 
         ensures due { IsErr result ↔ IsNextDue self.old.calls }
@@ -200,6 +201,7 @@ impl Sink for MemSink {
         ensures within { IfOk result (λ n. (0 < n) × (n ≤ length piece.now)) }
         ensures unwritten { OnErr result (Some self.new.written ≡ Some self.old.written) }
         ensures fault { OnErr result (Rose self.old.calls.failed self.new.calls.failed) }
+        ensures faultless { OnOk result (self.new.calls.failed ≡ self.old.calls.failed) }
         ensures counted { self.old.calls.failed ≤ self.new.calls.failed }
 
         ensures due { IsErr result ↔ (IsNextDue self.old.calls ⊎ (self.old.room ≤ length self.old.written)) }
@@ -299,6 +301,7 @@ impl Files for MemFiles {
         ensures reached { IfOk result (λ n. Reaches at n self.old.reach self.new.reach) }
         ensures unreached { OnErr result (self.new.reach ≡ self.old.reach) }
         ensures fault { OnErr result (Rose self.old.calls.failed self.new.calls.failed) }
+        ensures faultless { OnOk result ((other : List ℕ) → self.new.calls.failed ≡ self.old.calls.failed) }
         ensures counted { (other : List ℕ) → self.old.calls.failed ≤ self.new.calls.failed }
         ensures further { (other : List ℕ) → self.old.reach ≤ self.new.reach }
         ensures kept { (other : List ℕ) → file_of self.new.files other ≡ file_of self.old.files other }
@@ -316,65 +319,5 @@ impl Files for MemFiles {
         };
         self.reach = further(self.reach, at, n);
         Ok(n)
-    }
-}
-
-#[cfg(test)]
-mod tests {
-    use super::*;
-    use std::test::Fail;
-
-    #[test]
-    fn source_gives_pieces(rt: HostRuntime) -> Result<(), Fail> {
-        let bytes = [1, 2, 3, 4, 5].to_vec(rt.alloc())?;
-        let failing = [2].to_vec(rt.alloc())?;
-        let mut source = MemSource::new(bytes, failing, 2);
-        let mut buf = [0u8; 3];
-        assert_eq!(rt; source.read(&mut buf), Ok(2));
-        assert_eq!(rt; buf, [1, 2, 0]);
-        assert_eq!(rt; source.read(&mut buf), Err(Failed));
-        assert_eq!(rt; source.read(&mut buf), Ok(2));
-        assert_eq!(rt; buf, [3, 4, 0]);
-        assert_eq!(rt; source.left(), [5].as_slice());
-        assert_eq!(rt; source.read(&mut buf), Ok(1));
-        assert_eq!(rt; buf, [5, 4, 0]);
-        assert_eq!(rt; source.read(&mut buf), Ok(0));
-        Ok(())
-    }
-
-    #[test]
-    fn sink_keeps_to_its_room(rt: HostRuntime) -> Result<(), Fail> {
-        let failing = [1].to_vec(rt.alloc())?;
-        let mut sink = MemSink::new(rt.alloc(), 3, failing, 2)?;
-        assert_eq!(rt; sink.write(&[1, 2, 3, 4]), Err(Failed));
-        assert_eq!(rt; sink.write(&[1, 2, 3, 4]), Ok(2));
-        assert_eq!(rt; sink.write(&[3, 4]), Ok(1));
-        assert_eq!(rt; sink.write(&[4]), Err(Failed));
-        assert_eq!(rt; sink.bytes(), [1, 2, 3].as_slice());
-        Ok(())
-    }
-
-    #[test]
-    fn null_sink_takes_all(rt: HostRuntime) {
-        let mut sink = NullSink;
-        assert_eq!(rt; sink.write(&[1, 2, 3]), Ok(3));
-    }
-
-    #[test]
-    fn files_are_read_by_name(rt: HostRuntime) -> Result<(), Fail> {
-        let mut map = BTreeMap::new(rt.alloc());
-        let name = String::from_str(rt.alloc(), "a.c")?;
-        map.insert(name, [1, 2, 3, 4].to_vec(rt.alloc())?)?;
-        let mut files = MemFiles::new(map, [2].to_vec(rt.alloc())?);
-        let mut buf = [0u8; 2];
-        assert_eq!(rt; files.read_at("a.c", 1, &mut buf), Ok(2));
-        assert_eq!(rt; buf, [2, 3]);
-        assert_eq!(rt; files.read_at("a.c", 1, &mut buf), Err(Failed));
-        assert_eq!(rt; files.read_at("a.c", 3, &mut buf), Ok(1));
-        assert_eq!(rt; buf, [4, 3]);
-        assert_eq!(rt; files.read_at("a.c", 4, &mut buf), Ok(0));
-        assert_eq!(rt; files.read_at("a.c", 9, &mut buf), Ok(0));
-        assert_eq!(rt; files.read_at("b.c", 0, &mut buf), Err(Failed));
-        Ok(())
     }
 }

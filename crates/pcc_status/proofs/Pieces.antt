@@ -3,7 +3,6 @@ use Rattle.std.proofs.Common.{refl, ◌≡◌, ℕ, ◌+◌, ◌<◌, ◌≤◌,
 use Rattle.std.proofs.lemmas.List.{drop_more, drop_all}
 use Rattle.std.specs.Prelude.{IsErr, OnOk, OnErr}
 use Rattle.pcc_outside.specs.Outside.{Rose, Adds, AddsPart}
-use Rattle.pcc_outside.proofs.Faults.{Rose-after}
 use Rattle.pcc_outside.proofs.Writing.{AddsBefore, Adds-nil, Adds-append}
 use Rattle.pcc_status.specs.Said.{Puts, line_of}
 
@@ -30,14 +29,14 @@ AddsPart-last old mid new text last h k =
     (h.0 ++ k.0, k.1, h.1 ∙ (ap (λ p. h.0 ++ p) k.2 ∙ simp append_assoc), k.3, Adds-append old mid new h.0 k.0 h.2 k.4)
 
 -- a call failed in a piece
-pub Puts-failed : {T E : Type 0} (result : Result T E) (old mid new : Option (List ℕ)) (text piece rest : List ℕ) (start before after : ℕ) → IsErr result → AddsBefore old text (piece ++ rest) mid → AddsPart mid piece new → start ≤ before → Rose before after → Puts result text old new start after
-Puts-failed (Ok done) old mid new text piece rest start before after failed h k counted rose = cc
-Puts-failed (Err e) old mid new text piece rest start before after failed h k counted rose = (AddsPart-piece old mid new text piece rest h k, Rose-after start before after counted rose)
+pub Puts-failed : {T E : Type 0} (result : Result T E) (old mid new : Option (List ℕ)) (text piece rest : List ℕ) (start before after : ℕ) → IsErr result → AddsBefore old text (piece ++ rest) mid → AddsPart mid piece new → before ≡ start → Rose before after → Puts result text old new start after
+Puts-failed (Ok done) old mid new text piece rest start before after failed h k same rose = cc
+Puts-failed (Err e) old mid new text piece rest start before after failed h k same rose = (AddsPart-piece old mid new text piece rest h k, subst (λ n. Rose n after) same rose)
 
 -- the last call answers for the whole
-pub Puts-last : {T E : Type 0} (result : Result T E) (old mid new : Option (List ℕ)) (text last : List ℕ) (start before after : ℕ) → AddsBefore old text last mid → start ≤ before → OnOk result (Adds mid last new) → OnErr result (AddsPart mid last new) → OnErr result (Rose before after) → Puts result text old new start after
-Puts-last (Ok done) old mid new text last start before after h counted all part rose = Adds-last old mid new text last h all
-Puts-last (Err e) old mid new text last start before after h counted all part rose = (AddsPart-last old mid new text last h part, Rose-after start before after counted rose)
+pub Puts-last : {T E : Type 0} (result : Result T E) (old mid new : Option (List ℕ)) (text last : List ℕ) (start before after : ℕ) → AddsBefore old text last mid → before ≡ start → OnOk result (Adds mid last new) → OnErr result (AddsPart mid last new) → OnErr result (Rose before after) → OnOk result (after ≡ before) → Puts result text old new start after
+Puts-last (Ok done) old mid new text last start before after h same all part rose faultless = (Adds-last old mid new text last h all, faultless ∙ same)
+Puts-last (Err e) old mid new text last start before after h same all part rose faultless = (AddsPart-last old mid new text last h part, subst (λ n. Rose n after) same rose)
 
 -- the piece at an index stands in front of what follows it
 pub AddsBefore-at : (old new : Option (List ℕ)) (text : List ℕ) (pieces : List (Bor (List ℕ))) (i : ℕ) (d : Bor (List ℕ)) (piece : List ℕ) → i < length pieces → piece ≡ (get_or pieces i d).now → AddsBefore old text (line_of (drop i pieces)) new → AddsBefore old text (piece ++ line_of (drop (i + 1) pieces)) new

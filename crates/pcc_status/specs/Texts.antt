@@ -1,7 +1,7 @@
 -- The line that the program writes on its error output for an answer other than its own success.
 use Rattle.std.specs.Prelude.{ℕ, List, [], ◌∷◌, ◌++◌, codes, decimal}
-use Rattle.run_theory.specs.declared.ends.Pos.{Pos}
-use Rattle.run_theory.specs.Places.{place_text}
+use Rattle.text_place.specs.declared.place.Pos.{Pos}
+use Rattle.text_place.specs.Places.{place_text}
 use Rattle.run_theory.specs.Names.{undefined_name, trap_name}
 use Rattle.pcc_status.specs.declared.status.Status.{Status}
 use Rattle.pcc_status.specs.declared.status.Status.TheVariants as S

@@ -4,7 +4,8 @@ ghost use Rattle.std.specs.Prelude.{◌≡◌};
 ghost use Rattle.pcc_status.specs.Status.{exit_status_of};
 
 use c_rules::TypeRule;
-use run_theory::{Pos, TrapKind, UbKind};
+use run_theory::{TrapKind, UbKind};
+use text_place::Pos;
 
 /// What a command comes to.
 #[derive(Clone, Copy, Debug, PartialEq, Eq)]
@@ -49,6 +50,8 @@ pub enum UsageKind {
     Command,
     /// The command is known, and the rest is no line of it.
     Words,
+    /// A word isn't UTF-8.
+    Encoding,
 }
 
 /// Why a source was refused.

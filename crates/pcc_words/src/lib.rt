@@ -4,7 +4,5 @@
 mod app;
 mod line;
 mod matches;
-#[cfg(test)]
-mod tests;
 
 pub use line::{Limits, Line, read_line};

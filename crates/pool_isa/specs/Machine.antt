@@ -4,12 +4,12 @@
 -- another, each rounded up to 16 bytes; a frame holds its parameters in words from its offset 0, then its extra bytes, zero at
 -- entry. The slabs of the heap lie from 2 ^ 44 on. The word of function f is 2 ^ 48 + f. Each call has operands of its own,
 -- empty at entry. A step is one executed instruction; one that traps or ends counts.
-use Rattle.std.specs.Prelude.{ℕ, suc, ◌+◌, ◌-◌, ◌*◌, ◌/◌, ◌%◌, ◌^◌, ℤ, pos, Bool, true, false, not, ◌&&◌, ◌||◌, ◌==◌, nat_eq, nat_lt, nat_le, if◌then◌else◌, List, [], ◌∷◌, ◌++◌, length, take, drop, reverse, replicate, slice_get, option_map, Option, Some, None, is_some}
+use Rattle.std.specs.Prelude.{ℕ, zero, suc, ◌+◌, ◌-◌, ◌*◌, ◌/◌, ◌%◌, ◌^◌, ℤ, pos, Bool, true, false, not, ◌&&◌, ◌||◌, ◌==◌, nat_eq, nat_lt, nat_le, if◌then◌else◌, List, [], ◌∷◌, ◌++◌, length, take, drop, reverse, replicate, slice_get, option_map, Option, Some, None, is_some}
 use Rattle.std.specs.List.{flat_map}
 use Rattle.byteorder.specs.Endian.{little_bytes, little_number}
 use Rattle.run_theory.specs.declared.ends.TrapKind.{TrapKind}
 use Rattle.run_theory.specs.declared.ends.TrapKind.TheVariants as traps
-use Rattle.run_theory.specs.Runs.{Event, Trace, Output, Called, Returned, Allocated, Freed, Loaded, Stored, Ended, DepthReached, HeapExhausted, IndexExhausted, Trapped, Move, To, Halt, steps, Run}
+use Rattle.run_theory.specs.Runs.{Event, Trace, Output, Called, CalledStart, Returned, Allocated, Freed, Loaded, Stored, Ended, DepthReached, HeapExhausted, IndexExhausted, Trapped, Move, To, Halt, steps, Run}
 use Rattle.c_num.specs.declared.IntType.{IntType}
 use Rattle.c_num.specs.declared.BinOp.{BinOp}
 use Rattle.c_num.specs.declared.Relation.{Relation}
@@ -62,6 +62,7 @@ pub record Heap : Type 0 where
 -- What is done with pools, between calls and returns: the p-th pool made is pool p.
 pub data PoolEvent : Type 0 where
   Entered : (function : ℕ) → PoolEvent
+  EnteredStart : PoolEvent
   Left : PoolEvent
   Made : (kind : ℕ) → PoolEvent
   Destroyed : (pool : ℕ) → PoolEvent
@@ -87,9 +88,14 @@ trap kind state = Halt (Trapped kind) state
 
 -- ---- what happens
 
--- The program's functions follow `start`, and events name them by their numbers without it.
-abbrev pub program_number : ℕ → ℕ
-program_number function = function - 1
+-- The program's functions follow `start`, and events name them by their numbers without it; `start` is none of them.
+abbrev pub call_event : ℕ → Event
+call_event zero = CalledStart
+call_event (suc number) = Called number
+
+abbrev pub entry_event : ℕ → PoolEvent
+entry_event zero = EnteredStart
+entry_event (suc number) = Entered number
 
 abbrev pub happened : List Event → State → State
 happened [] state = state
@@ -254,7 +260,7 @@ abbrev pub next_start : Activation → ℕ
 next_start top = top.start + (length top.bytes + 15) / 16 * 16
 
 abbrev pub entered : ℕ → State → State
-entered function state = pool_happened (Entered (program_number function) ∷ []) (happened (Called (program_number function) ∷ []) state)
+entered function state = pool_happened (entry_event function ∷ []) (happened (call_event function ∷ []) state)
 
 abbrev pub left : State → State
 left state = pool_happened (Left ∷ []) (happened (Returned ∷ []) state)

@@ -16,6 +16,3 @@ pub use number::{BadNumber, append_number, decode_number};
 pub use reading::{BadInstr, decode_one};
 pub use site::{PoolCounts, Site};
 pub use writing::{append, encode};
-
-#[cfg(test)]
-mod tests;

@@ -8,6 +8,3 @@ mod kinds;
 mod linking;
 
 pub use linking::link;
-
-#[cfg(test)]
-mod tests;

@@ -23,7 +23,7 @@ use Rattle.pool_runtime.specs.Bytes.{range}
 use Rattle.pool_runtime.specs.Seen.{place, class_seen, large_seen, pool_seen}
 use Rattle.pool_runtime.specs.Tables.{IsLarge, IsPool, of_class, of_large}
 use Rattle.pool_runtime.specs.Lookup.{cell_of}
-use Rattle.pool_runtime.specs.Changes.{Finds}
+use Rattle.pool_runtime.specs.Changes.{FindsCell}
 use Rattle.pool_runtime.proofs.CellsSeen.{length-cells_seen, get_or-cells_seen}
 use Rattle.pool_runtime.proofs.Fresh.{all_at}
 use Rattle.pool_runtime.proofs.Freed.{freed_there, freed_nowhere}
@@ -64,7 +64,7 @@ no_large address bytes [] none = refl
 no_large address bytes (e ∷ es) none =
     ap (λ (b : Bool). if b then Some (large_seen bytes e) else large_at address (map (large_seen bytes) es)) (ne_eqb (slab_address e.0) address none.0) ∙ no_large address bytes es none.1
 
-module _ (slabs : Slabs) (pool : Pool) (id : ℕ) (is : IsPool slabs id pool) (address : ℕ) (result : Option Found) (finds : Finds slabs address result) where
+module _ (slabs : Slabs) (pool : Pool) (id : ℕ) (is : IsPool slabs id pool) (address : ℕ) (result : Option Found) (finds : FindsCell slabs address result) where
   abbrev number_in : Cells → ℕ
   number_in r = number_at (class_seen slabs.space.bytes r) (made_in (class_seen slabs.space.bytes r)) address
 

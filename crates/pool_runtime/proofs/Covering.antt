@@ -7,13 +7,13 @@ use Rattle.pool_runtime.specs.declared.pool.Pool.{Pool}
 use Rattle.pool_runtime.specs.declared.slabs.Found.{Found}
 use Rattle.pool_runtime.specs.declared.slabs.Slabs.{Slabs}
 use Rattle.pool_runtime.specs.Lookup.{is_covered}
-use Rattle.pool_runtime.specs.Changes.{Finds, CoversAt}
+use Rattle.pool_runtime.specs.Changes.{FindsCell, CoversAt}
 
 module _ (slabs : Slabs) (pools : BTreeMap ℕ Pool) (address width : ℕ) where
-  pub nothing_found : Finds slabs address None → CoversAt slabs pools address width false
+  pub nothing_found : FindsCell slabs address None → CoversAt slabs pools address width false
   nothing_found finds = λ first count home pool at low high there. let both = finds.there first count home at low high in absurd cc
 
-  module _ (found : Found) (finds : Finds slabs address (Some found)) where
+  module _ (found : Found) (finds : FindsCell slabs address (Some found)) where
     pub no_pool_found : get nat_cmp pools found.home.pool ≡ None → CoversAt slabs pools address width false
     no_pool_found none = λ first count home pool at low high there.
         let same = same_Some _ _ (finds.there first count home at low high) in

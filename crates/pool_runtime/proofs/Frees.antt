@@ -13,7 +13,7 @@ use Rattle.pool_runtime.specs.declared.slabs.Found.{Found}
 use Rattle.pool_runtime.specs.declared.slabs.Slabs.{Slabs}
 use Rattle.pool_runtime.specs.Seen.{pool_seen, pools_of}
 use Rattle.pool_runtime.specs.Tables.{IsPools}
-use Rattle.pool_runtime.specs.Changes.{Finds, Frees, Unchanged}
+use Rattle.pool_runtime.specs.Changes.{FindsCell, Frees, Unchanged}
 use Rattle.pool_runtime.proofs.Begun.{apart_freed}
 use Rattle.pool_runtime.proofs.PoolsSeen.{pool_there, no_pool_there}
 
@@ -21,15 +21,15 @@ module _ (s : Inside) (is : IsPools s) (id address : ℕ) where
   pub free_step_is : (pool : Pool) → get nat_cmp s.pools id ≡ Some pool → free_step (pools_of s) id address ≡ option_map (with_change (pools_of s) id) (freed_in s.slabs.space.owners (pool_seen s.slabs.space.bytes pool) address)
   free_step_is pool there = ap (free_in (pools_of s) id address) (pool_there s is id pool there)
 
-  apart_by : (o : Option Pool) (result : Option Found) → get nat_cmp s.pools id ≡ o → Finds s.slabs address result → ((found : Found) → result ≡ Some found → ¬ (found.home.pool ≡ id)) → free_step (pools_of s) id address ≡ None
+  apart_by : (o : Option Pool) (result : Option Found) → get nat_cmp s.pools id ≡ o → FindsCell s.slabs address result → ((found : Found) → result ≡ Some found → ¬ (found.home.pool ≡ id)) → free_step (pools_of s) id address ≡ None
   apart_by None result there finds other = ap (free_in (pools_of s) id address) (no_pool_there s is id there)
   apart_by (Some pool) result there finds other =
       free_step_is pool there ∙ ap (option_map (with_change (pools_of s) id)) (apart_freed s.slabs pool id (is.pools id pool there) address result finds s.slabs.space.owners other)
 
-  pub nothing_freed : Finds s.slabs address None → free_step (pools_of s) id address ≡ None
+  pub nothing_freed : FindsCell s.slabs address None → free_step (pools_of s) id address ≡ None
   nothing_freed finds = apart_by (get nat_cmp s.pools id) None refl finds (λ found e. absurd cc)
 
-  pub other_freed : (found : Found) → Finds s.slabs address (Some found) → ¬ (found.home.pool ≡ id) → free_step (pools_of s) id address ≡ None
+  pub other_freed : (found : Found) → FindsCell s.slabs address (Some found) → ¬ (found.home.pool ≡ id) → free_step (pools_of s) id address ≡ None
   other_freed found finds other = apart_by (get nat_cmp s.pools id) (Some found) refl finds (λ f e same. other (ap (λ (x : Found). x.home.pool) (let e' : found ≡ f = cc in e') ∙ same))
 
 module _ (p : all.Pools) (id : ℕ) (step : Option PoolInSlabs) (old new : Slabs) (pool pool' : Pool) (p' : all.Pools) where

@@ -22,7 +22,7 @@ use Rattle.pool_runtime.specs.declared.slabs.Held.TheVariants as held
 use Rattle.pool_runtime.specs.Seen.{place, class_seen, pools_of}
 use Rattle.pool_runtime.specs.Tables.{IsPools, of_class}
 use Rattle.pool_runtime.specs.Lookup.{cell_of, number_begun, held_index, index_found, is_homogeneous_kind}
-use Rattle.pool_runtime.specs.Changes.{Finds}
+use Rattle.pool_runtime.specs.Changes.{FindsCell}
 use Rattle.pool_runtime.proofs.CellsSeen.{length-cells_seen}
 use Rattle.pool_runtime.proofs.Places.{run_inside, place_high}
 use Rattle.pool_runtime.proofs.PoolsSeen.{pool_there, no_pool_there}
@@ -74,7 +74,7 @@ module _ (s : Inside) (is : IsPools s) (id address : ℕ) (pool : Pool) (there :
 
   module _ (one_kind : is_homogeneous_kind pool.kind ≡ true) (r : Cells) (at : slice_get pool.classes.items 0 ≡ Some r) where
     -- a cell that begins at the address is found
-    found_cell : (result : Option Found) → Finds s.slabs address result → (m : ℕ) → 1 ≤ m → m ≤ r.made → cell_address (class_seen s.slabs.space.bytes r) m ≡ address
+    found_cell : (result : Option Found) → FindsCell s.slabs address result → (m : ℕ) → 1 ≤ m → m ≤ r.made → cell_address (class_seen s.slabs.space.bytes r) m ≡ address
         → (found : Found) × (result ≡ Some found) × (found.home ≡ of_class id 0 ((m - 1) / cells_per_run r.size)) × (cell_of pool.classes.items found 0 ((m - 1) / cells_per_run r.size) ≡ Some (m, 0))
     found_cell result finds m some made e =
         let t = (is.pools id pool there).classes 0 r at in
@@ -104,10 +104,10 @@ module _ (s : Inside) (is : IsPools s) (id address : ℕ) (pool : Pool) (there :
     from_result result only among =
         sym (index_is ∙ ap (λ n. number_at (class_seen s.slabs.space.bytes r) n address) counted ∙ number_from (class_seen s.slabs.space.bytes r) address result r.made only among)
 
-    pub nothing_begins : Finds s.slabs address None → 0 ≡ index_of (pools_of s) id address
+    pub nothing_begins : FindsCell s.slabs address None → 0 ≡ index_of (pools_of s) id address
     nothing_begins finds = from_result 0 (λ m some made e. let f = found_cell None finds m some made e in let both = f.1 in absurd cc) (inl refl)
 
-    pub other_begins : (found : Found) → Finds s.slabs address (Some found) → ¬ (found.home.pool ≡ id) → 0 ≡ index_of (pools_of s) id address
+    pub other_begins : (found : Found) → FindsCell s.slabs address (Some found) → ¬ (found.home.pool ≡ id) → 0 ≡ index_of (pools_of s) id address
     other_begins found finds other = from_result 0 (λ m some made e.
         let f = found_cell (Some found) finds m some made e in
         let same = same_Some found f.0 f.1 in
@@ -116,7 +116,7 @@ module _ (s : Inside) (is : IsPools s) (id address : ℕ) (pool : Pool) (there :
     begun_is : (m : ℕ) (found : Found) (h : Held) (j : ℕ) → h ≡ held.Cells 0 j → cell_of pool.classes.items found 0 j ≡ Some (m, 0) → held_index pool found h ≡ m
     begun_is m found h j e cell = ap (held_index pool found) e ∙ ap number_begun cell
 
-    begun_among : (found : Found) (class' run : ℕ) (o : Option (ℕ × ℕ)) → Finds s.slabs address (Some found) → cell_of pool.classes.items found class' run ≡ o → Among (class_seen s.slabs.space.bytes r) address (number_begun o) r.made
+    begun_among : (found : Found) (class' run : ℕ) (o : Option (ℕ × ℕ)) → FindsCell s.slabs address (Some found) → cell_of pool.classes.items found class' run ≡ o → Among (class_seen s.slabs.space.bytes r) address (number_begun o) r.made
     begun_among found class' run None finds e = inl refl
     begun_among found class' run (Some q) finds e = elim (cases_eq q.1 0) [
       | inl begins ↦ (
@@ -136,11 +136,11 @@ module _ (s : Inside) (is : IsPools s) (id address : ℕ) (pool : Pool) (there :
       | inr middle ↦ inl (ap (λ (b : Bool). if b then q.0 else 0) (ne_eqb q.1 0 middle))
     ]
 
-    held_among : (found : Found) (h : Held) → Finds s.slabs address (Some found) → Among (class_seen s.slabs.space.bytes r) address (held_index pool found h) r.made
+    held_among : (found : Found) (h : Held) → FindsCell s.slabs address (Some found) → Among (class_seen s.slabs.space.bytes r) address (held_index pool found h) r.made
     held_among found (held.Cells class' run) finds = begun_among found class' run (cell_of pool.classes.items found class' run) finds refl
     held_among found held.Large finds = inl refl
 
-    pub index_begins : (found : Found) → Finds s.slabs address (Some found) → index_found pool found ≡ index_of (pools_of s) id address
+    pub index_begins : (found : Found) → FindsCell s.slabs address (Some found) → index_found pool found ≡ index_of (pools_of s) id address
     index_begins found finds =
         ap (λ (b : Bool). if b then held_index pool found found.home.held else 0) one_kind
         ∙ from_result (held_index pool found found.home.held) (λ m some made e.
@@ -155,13 +155,13 @@ module _ (s : Inside) (is : IsPools s) (id address : ℕ) (pool : Pool) (there :
   with_first X true None kind at not_one one = absurd (some_inside pool.classes.items 0 (omega (arith, some_class s.slabs id pool (is.pools id pool there))) at)
   with_first X true (Some r) kind at not_one one = one r kind at
 
-  none_of : Finds s.slabs address None → 0 ≡ index_of (pools_of s) id address
+  none_of : FindsCell s.slabs address None → 0 ≡ index_of (pools_of s) id address
   none_of finds = with_first (0 ≡ index_of (pools_of s) id address) (is_homogeneous_kind pool.kind) (slice_get pool.classes.items 0) refl refl not_one_kind (λ r kind at. nothing_begins kind r at finds)
 
-  other_of : (found : Found) → Finds s.slabs address (Some found) → ¬ (found.home.pool ≡ id) → 0 ≡ index_of (pools_of s) id address
+  other_of : (found : Found) → FindsCell s.slabs address (Some found) → ¬ (found.home.pool ≡ id) → 0 ≡ index_of (pools_of s) id address
   other_of found finds other = with_first (0 ≡ index_of (pools_of s) id address) (is_homogeneous_kind pool.kind) (slice_get pool.classes.items 0) refl refl not_one_kind (λ r kind at. other_begins kind r at found finds other)
 
-  pub index_some : (found : Found) → Finds s.slabs address (Some found) → index_found pool found ≡ index_of (pools_of s) id address
+  pub index_some : (found : Found) → FindsCell s.slabs address (Some found) → index_found pool found ≡ index_of (pools_of s) id address
   index_some found finds =
       with_first (index_found pool found ≡ index_of (pools_of s) id address) (is_homogeneous_kind pool.kind) (slice_get pool.classes.items 0) refl refl
       (λ e. ap (λ (b : Bool). if b then held_index pool found found.home.held else 0) e ∙ not_one_kind e) (λ r kind at. index_begins kind r at found finds)
@@ -170,16 +170,16 @@ module _ (s : Inside) (is : IsPools s) (id address : ℕ) where
   pub index_gone : get nat_cmp s.pools id ≡ None → 0 ≡ index_of (pools_of s) id address
   index_gone none = sym (ap (λ (o : Option seen.Pool). number_in (cells_of o) address) (no_pool_there s is id none))
 
-  none_by : (o : Option Pool) → get nat_cmp s.pools id ≡ o → Finds s.slabs address None → 0 ≡ index_of (pools_of s) id address
+  none_by : (o : Option Pool) → get nat_cmp s.pools id ≡ o → FindsCell s.slabs address None → 0 ≡ index_of (pools_of s) id address
   none_by None there finds = index_gone there
   none_by (Some pool) there finds = none_of s is id address pool there finds
 
-  pub index_none : Finds s.slabs address None → 0 ≡ index_of (pools_of s) id address
+  pub index_none : FindsCell s.slabs address None → 0 ≡ index_of (pools_of s) id address
   index_none finds = none_by (get nat_cmp s.pools id) refl finds
 
-  other_by : (o : Option Pool) (found : Found) → get nat_cmp s.pools id ≡ o → Finds s.slabs address (Some found) → ¬ (found.home.pool ≡ id) → 0 ≡ index_of (pools_of s) id address
+  other_by : (o : Option Pool) (found : Found) → get nat_cmp s.pools id ≡ o → FindsCell s.slabs address (Some found) → ¬ (found.home.pool ≡ id) → 0 ≡ index_of (pools_of s) id address
   other_by None found there finds other = index_gone there
   other_by (Some pool) found there finds other = other_of s is id address pool there found finds other
 
-  pub index_other : (found : Found) → Finds s.slabs address (Some found) → ¬ (found.home.pool ≡ id) → 0 ≡ index_of (pools_of s) id address
+  pub index_other : (found : Found) → FindsCell s.slabs address (Some found) → ¬ (found.home.pool ≡ id) → 0 ≡ index_of (pools_of s) id address
   index_other found finds other = other_by (get nat_cmp s.pools id) found refl finds other

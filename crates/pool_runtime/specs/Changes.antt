@@ -48,7 +48,7 @@ Keeps kept old new =
     → IsAtHome new first count home × SameAt old.space.bytes new.space.bytes (4096 * first) (4096 * count)
 
 -- an address was looked up among the slabs
-pub record Finds (slabs : Slabs) (address : ℕ) (result : Option Found) : Type 0 where
+pub record FindsCell (slabs : Slabs) (address : ℕ) (result : Option Found) : Type 0 where
   pub at : IfSome result (λ found. 2 ^ 44 + 4096 * found.first + found.within ≡ address)
   pub near : IfSome result (λ found. found.within < 4294967296)
   pub there : (first count : ℕ) (home : Home) → IsAtHome slabs first count home → 2 ^ 44 + 4096 * first ≤ address → address < 2 ^ 44 + 4096 * (first + count)

@@ -13,6 +13,3 @@ mod slabs;
 pub use pools::{AllocEnd, NotLive, PoolId, Pools};
 pub use raw_slab::OutOfMemory;
 pub use slab_space::PoolKind;
-
-#[cfg(test)]
-mod tests;

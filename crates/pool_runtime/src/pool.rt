@@ -1,6 +1,6 @@
 // A pool: its cells, by class, and its large objects.
 
-ghost use Rattle.std.specs.Prelude.{◌≡◌, ◌+◌, ◌≤◌, ◌<◌, ℕ, List, [], length, map, max, true, nat_le, position, slice_index_or, IfOk, IfSome, OnOk, Some};
+ghost use Rattle.std.specs.Prelude.{◌≡◌, ◌+◌, ◌≤◌, ◌<◌, ◌^◌, ℕ, List, [], length, map, max, true, nat_le, position, slice_index_or, IfOk, IfSome, OnOk, Some};
 ghost use Rattle.slab_space.specs.Runs.{need as slabs_needed, free_count, lowest_run};
 ghost use Rattle.slab_space.specs.Pool.{IsKind, has_room as is_room, class_for as class_of, address_in, numbered, no_cells};
 ghost use Rattle.pool_runtime.specs.Changes.{Added};
@@ -24,14 +24,14 @@ pub(crate) struct Pool {
     // How many bytes each large object has, by its first slab.
     large: BTreeMap<u32, u64>,
     pub(crate) slabs: u32,
-    pub(crate) live: u32,
-    pub(crate) peak: u32,
+    pub(crate) live: u64,
+    pub(crate) peak: u64,
 }
 
 impl Pool {
     ghost use Rattle.pool_runtime.specs.Seen.{class_seen, pool_seen};
     ghost use Rattle.pool_runtime.specs.Tables.{IsSpace, IsPool};
-    ghost use Rattle.pool_runtime.specs.Changes.{Changes, Ends, Finds, Frees, IsNew, AddsRun};
+    ghost use Rattle.pool_runtime.specs.Changes.{Changes, Ends, FindsCell, Frees, IsNew, AddsRun};
     ghost use Rattle.pool_runtime.specs.Given.{pool_runs};
     ghost use Rattle.pool_runtime.specs.Lookup.{AreSized, cell_of, is_covered, is_homogeneous_kind, is_indexed_kind, index_found};
 
@@ -231,7 +231,7 @@ impl Pool {
     }
 
     fn count_one(&mut self)
-        requires { self.old.live < 4294967295 }
+        requires { self.old.live + 1 < 2 ^ 64 }
         ensures { self.new ≡ record self.old { live = self.old.live + 1; peak = max self.old.peak (self.old.live + 1) } }
     {
         self.live += 1;
@@ -243,7 +243,7 @@ impl Pool {
         requires space { IsSpace slabs.old.space }
         requires pool { IsPool slabs.old found.now.home.pool self.old }
         ensures changes { Changes found.now.home.pool slabs.old slabs.new self.old self.new }
-        ensures frees { (address : ℕ) → Finds slabs.old address (Some found.now) → Frees (freed_in slabs.old.space.owners (pool_seen slabs.old.space.bytes self.old) address) slabs.old slabs.new self.old self.new result }
+        ensures frees { (address : ℕ) → FindsCell slabs.old address (Some found.now) → Frees (freed_in slabs.old.space.owners (pool_seen slabs.old.space.bytes self.old) address) slabs.old slabs.new self.old self.new result }
     {
         match found.home.held {
             Held::Cells { class, run } => self.free_cell(slabs, found, class, run),
@@ -262,7 +262,7 @@ impl Pool {
         requires pool { IsPool slabs.old found.now.home.pool self.old }
         requires held { found.now.home.held ≡ Held.Cells class run }
         ensures changes { Changes found.now.home.pool slabs.old slabs.new self.old self.new }
-        ensures frees { (address : ℕ) → Finds slabs.old address (Some found.now) → Frees (freed_in slabs.old.space.owners (pool_seen slabs.old.space.bytes self.old) address) slabs.old slabs.new self.old self.new result }
+        ensures frees { (address : ℕ) → FindsCell slabs.old address (Some found.now) → Frees (freed_in slabs.old.space.owners (pool_seen slabs.old.space.bytes self.old) address) slabs.old slabs.new self.old self.new result }
     {
         let Some((number, off)) = self.cell_at(found, class, run) else {
             return Err(NotLive);
@@ -283,7 +283,7 @@ impl Pool {
         requires pool { IsPool slabs.old found.now.home.pool self.old }
         requires held { found.now.home.held ≡ Held.Large }
         ensures changes { Changes found.now.home.pool slabs.old slabs.new self.old self.new }
-        ensures frees { (address : ℕ) → Finds slabs.old address (Some found.now) → Frees (freed_in slabs.old.space.owners (pool_seen slabs.old.space.bytes self.old) address) slabs.old slabs.new self.old self.new result }
+        ensures frees { (address : ℕ) → FindsCell slabs.old address (Some found.now) → Frees (freed_in slabs.old.space.owners (pool_seen slabs.old.space.bytes self.old) address) slabs.old slabs.new self.old self.new result }
     {
         if found.within > 0 {
             return Err(NotLive);

@@ -218,7 +218,7 @@ impl Pools {
     }
 
     /// The most cells and objects of a pool that were live at once.
-    pub fn peak(&self, id: PoolId) -> u32
+    pub fn peak(&self, id: PoolId) -> u64
         ensures { result ≡ peak_of self.now id.0 }
     {
         match self.pools.get(&id.0) {
@@ -228,7 +228,7 @@ impl Pools {
     }
 
     /// How many cells and objects of a pool are live.
-    pub fn live(&self, id: PoolId) -> u32
+    pub fn live(&self, id: PoolId) -> u64
         ensures { result ≡ live_of self.now id.0 }
     {
         match self.pools.get(&id.0) {

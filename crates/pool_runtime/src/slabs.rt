@@ -42,7 +42,7 @@ pub(crate) struct Slabs {
 
 impl Slabs {
     ghost use Rattle.pool_runtime.specs.Tables.{IsSpace};
-    ghost use Rattle.pool_runtime.specs.Changes.{KeepsNotes, KeepsAllNotes, Finds};
+    ghost use Rattle.pool_runtime.specs.Changes.{KeepsNotes, KeepsAllNotes, FindsCell};
 
     pub(crate) fn new(alloc: Global, limit: u32) -> Slabs
         requires least { 1 ≤ limit }
@@ -96,7 +96,7 @@ impl Slabs {
 
     pub(crate) fn find(&self, address: u64) -> Option<Found>
         requires { IsSpace self.now.space }
-        ensures { Finds self.now address result }
+        ensures { FindsCell self.now address result }
     {
         let place = address.checked_sub(START)?;
         let slab = place / SLAB_BYTES as u64;

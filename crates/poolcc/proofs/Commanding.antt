@@ -4,7 +4,7 @@ use Rattle.pcc_outside.specs.Outside.{Told, Missing, Holds}
 use Rattle.pcc_status.specs.declared.status.Status.{Status}
 use Rattle.pcc_status.specs.declared.status.Status.TheVariants as S
 use Rattle.pcc_words.specs.Line.{Line, Limits, NoCommand, NoLine, Build, Exec, Run, Ref}
-use Rattle.poolcc.specs.Answering.{Answers}
+use Rattle.poolcc.specs.Answering.{IsAnswer}
 use Rattle.poolcc.specs.Build.{BuildGives}
 use Rattle.poolcc.specs.Command.{Names, machine_limits}
 use Rattle.poolcc.specs.Exec.{ExecGives}
@@ -12,7 +12,7 @@ use Rattle.poolcc.specs.Exec.{ExecGives}
 module _ (file : List ℕ) (limits : Limits) (contents : List ℕ → Told) (left written written' : Option (List ℕ)) (answer : Status)
     (gives : (text base : List ℕ) → contents file ≡ Holds text → written ≡ Some base → BuildGives text (machine_limits limits) base answer written')
     (missing : contents file ≡ Missing → ((answer ≡ S.ReadFault) ⊎ (answer ≡ S.OutOfMemory)) × (written' ≡ written)) where
-  of_build : Answers (Build file limits) contents left written left written' answer
+  of_build : IsAnswer (Build file limits) contents left written left written' answer
   of_build = record {
     no_command = λ e. let no : ⊥ = cc in absurd no;
     no_line = λ e. let no : ⊥ = cc in absurd no;
@@ -26,13 +26,13 @@ module _ (file : List ℕ) (limits : Limits) (contents : List ℕ → Told) (lef
     missing = λ name same none. let there = missing (subst (λ f. contents f ≡ Missing) (sym same) none) in (there.0, refl, there.1);
   }
 
-  pub build_answers : (line : Line) → line ≡ Build file limits → Answers line contents left written left written' answer
-  build_answers line is = subst (λ l. Answers l contents left written left written' answer) (sym is) of_build
+  pub build_answers : (line : Line) → line ≡ Build file limits → IsAnswer line contents left written left written' answer
+  build_answers line is = subst (λ l. IsAnswer l contents left written left written' answer) (sym is) of_build
 
 module _ (file : List ℕ) (limits : Limits) (steps : ℕ) (contents : List ℕ → Told) (left written left' written' : Option (List ℕ)) (answer : Status)
     (gives : (text input base : List ℕ) → contents file ≡ Holds text → left ≡ Some input → written ≡ Some base → ExecGives text (machine_limits limits) steps input base answer left' written')
     (missing : contents file ≡ Missing → ((answer ≡ S.ReadFault) ⊎ (answer ≡ S.OutOfMemory)) × (left' ≡ left) × (written' ≡ written)) where
-  of_exec : Answers (Exec file limits steps) contents left written left' written' answer
+  of_exec : IsAnswer (Exec file limits steps) contents left written left' written' answer
   of_exec = record {
     no_command = λ e. let no : ⊥ = cc in absurd no;
     no_line = λ e. let no : ⊥ = cc in absurd no;
@@ -48,5 +48,5 @@ module _ (file : List ℕ) (limits : Limits) (steps : ℕ) (contents : List ℕ 
     missing = λ name same none. missing (subst (λ f. contents f ≡ Missing) (sym same) none);
   }
 
-  pub exec_answers : (line : Line) → line ≡ Exec file limits steps → Answers line contents left written left' written' answer
-  exec_answers line is = subst (λ l. Answers l contents left written left' written' answer) (sym is) of_exec
+  pub exec_answers : (line : Line) → line ≡ Exec file limits steps → IsAnswer line contents left written left' written' answer
+  exec_answers line is = subst (λ l. IsAnswer l contents left written left' written' answer) (sym is) of_exec

@@ -7,7 +7,7 @@ use Rattle.run_theory.proofs.Following.{follows_trapped}
 use Rattle.pcc_outside.specs.Outside.{Rose}
 use Rattle.c_syntax.specs.Trees.{ProgramTree}
 use Rattle.c_rules.specs.Elaborated.{typed_of}
-use Rattle.c_meaning.specs.First.{reference}
+use Rattle.ref_semantics.specs.First.{reference}
 use Rattle.pool_isa.specs.Machine.{Activation, Heap}
 use Rattle.image_form.specs.declared.image.MachineLimits.{MachineLimits}
 use Rattle.image_form.specs.Form.{Form, code_of}

@@ -2,13 +2,14 @@
 use Rattle.std.proofs.Common.{◌≡◌, ℕ, List, [], Result, Ok, Err, IfOk, refl, sym, ap, ◌∙◌, subst, arith}
 use Rattle.std.specs.declared.alloc.AllocError.{AllocError}
 use Rattle.std.specs.List.{AllByRecursion}
-use Rattle.run_theory.specs.Runs.{Simulates, Follows}
-use Rattle.run_theory.proofs.Simulations.{compose, follows}
+use Rattle.run_theory.specs.Runs.{all_events, Simulates, Follows}
+use Rattle.run_theory.proofs.Simulations.{compose_all, never_in_front, follows}
 use Rattle.c_typed.specs.Typed.{Program}
-use Rattle.c_meaning.specs.First.{reference}
+use Rattle.ref_semantics.specs.First.{reference}
 use Rattle.tac_ir.specs.declared.Tac.{Tac}
 use Rattle.tac_ir.specs.Meaning.{tac_run}
 use Rattle.tac_ir.specs.Fits.{FitsFrame}
+use Rattle.tac_ir.proofs.Limits.{no_limit}
 use Rattle.tac_build.specs.Laws.{IsCompiled}
 use Rattle.tac_build.proofs.Simulation as lowering
 use Rattle.pool_isa.specs.Machine.{Function, mach}
@@ -27,11 +28,11 @@ use Rattle.poolcc.specs.Compiled.{IsImageFor}
 -- each program step is at most 32 of the machine, and two more lead to the first
 pub simulated : (program : Program) (tac : Tac) (input : List ℕ) (slabs index : ℕ) → IsCompiled program tac → FitsFrame tac → Simulates (reference program input) (mach (code_of tac) slabs index input) 32 2
 simulated program tac input slabs index code fits =
-    compose (reference program input) (tac_run tac input) (mach (code_of tac) slabs index input) 4 0 8 2 32 2 (lowering.follows program tac input code) (emission_follows tac input slabs index fits) (λ n j le. omega arith)
+    compose_all (reference program input) (tac_run tac input) (mach (code_of tac) slabs index input) 4 0 8 2 32 2 (lowering.follows program tac input code) (emission_follows tac input slabs index fits) (λ n j le. omega arith)
 
 pub followed : (program : Program) (tac : Tac) (input : List ℕ) (slabs index : ℕ) → IsCompiled program tac → FitsFrame tac → Follows (reference program input) (mach (code_of tac) slabs index input)
 followed program tac input slabs index code fits =
-    follows (reference program input) (mach (code_of tac) slabs index input) 32 2 (simulated program tac input slabs index code fits) (mach_is_run (code_of tac) slabs index input) (λ n. omega arith)
+    follows all_events (λ s t. refl) (reference program input) (mach (code_of tac) slabs index input) 32 2 (simulated program tac input slabs index code fits) (mach_is_run (code_of tac) slabs index input) (never_in_front all_events (reference program input) (tac_run tac input) 4 0 (lowering.follows program tac input code) (no_limit tac input)) (λ n. omega arith)
 
 -- the form of an image with these functions and limits, and neither globals nor kinds
 abbrev pub image_with : List Function → MachineLimits → Form

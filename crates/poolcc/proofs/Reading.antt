@@ -1,6 +1,6 @@
 -- What the reader answers of a text's tokens, as facts of the text.
 use Rattle.std.proofs.Common.{◌≡◌, ℕ, List, sym, subst}
-use Rattle.run_theory.specs.Places.{first_place}
+use Rattle.text_place.specs.Places.{first_place}
 use Rattle.c_token.specs.Leaves.{Leaf}
 use Rattle.c_lexer.specs.Tokens.{Divides}
 use Rattle.c_syntax.specs.Trees

@@ -3,7 +3,7 @@ use Rattle.std.proofs.Common.{◌≡◌, ℕ, ◌≤◌, ◌⊎◌, inl, inr, �
 use Rattle.run_theory.specs.Runs.{Answer, Final, Ended, DepthReached, Undefined, Over, output_of, trace_of}
 use Rattle.c_syntax.specs.Trees
 use Rattle.c_rules.specs.Elaborated.{typed_of}
-use Rattle.c_meaning.specs.First.{reference}
+use Rattle.ref_semantics.specs.First.{reference}
 use Rattle.pcc_status.specs.declared.status.Refusal.{Refusal}
 use Rattle.pcc_status.specs.declared.status.Status.{Status}
 use Rattle.pcc_status.specs.declared.status.Status.TheVariants as S
@@ -12,7 +12,7 @@ use Rattle.ref_meaning.specs.declared.run.RefEnd.TheVariants as E
 use Rattle.poolcc.specs.Compiled.{IsAccepted}
 use Rattle.poolcc.specs.Complete.{told, IsToldOf, IsToldUnlessMemory}
 use Rattle.poolcc.specs.Exec.{source_limit}
-use Rattle.poolcc.specs.Ref.{Ends, ProgramGives, Does, RefGives}
+use Rattle.poolcc.specs.Ref.{Ends, ProgramGives, RunsMeaning, RefGives}
 use Rattle.poolcc.specs.Refused.{IsRefused, IsLate}
 use Rattle.poolcc.proofs.Refusals.{one_refusal, accepted_not_refused}
 
@@ -28,7 +28,7 @@ module _ (text : List ℕ) (steps : ℕ) (left base : List ℕ) (left' written' 
     answer = reference (typed_of program) left steps
 
     -- what it did is what this program does, since the text reads as no other
-    given : (end : RefEnd) → Does text steps left base end written' → ProgramGives answer base end written'
+    given : (end : RefEnd) → RunsMeaning text steps left base end written' → ProgramGives answer base end written'
     given end does = subst (λ other. ProgramGives (reference (typed_of other) left steps) base end written') (accepted.reads.only does.program does.accepted.reads.reads) does.gives
 
     -- an answer of ref that is no fault is the program's, or memory ran out
@@ -53,7 +53,7 @@ module _ (text : List ℕ) (steps : ℕ) (left base : List ℕ) (left' written' 
     ref_completed (S.Usage kind) gives read write = absurd gives
 
   module _ (refusal : Refusal) (refused : IsRefused text refusal) (at_once : IsLate refusal → ⊥) where
-    not_run : {end : RefEnd} → Does text steps left base end written' → ⊥
+    not_run : {end : RefEnd} → RunsMeaning text steps left base end written' → ⊥
     not_run does = accepted_not_refused text does.program refusal does.accepted refused at_once
 
     -- a text that is refused at once gets that answer, or memory ran out

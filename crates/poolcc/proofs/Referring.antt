@@ -4,17 +4,17 @@ use Rattle.run_theory.specs.Runs.{output_of, trace_of}
 use Rattle.run_theory.proofs.Traces.{output_of-append}
 use Rattle.c_syntax.specs.Trees
 use Rattle.c_rules.specs.Elaborated.{typed_of}
-use Rattle.c_meaning.specs.First.{reference}
-use Rattle.c_steps.proofs.Spans.{kept}
+use Rattle.ref_semantics.specs.First.{reference}
+use Rattle.ref_steps.proofs.Spans.{kept}
 use Rattle.ref_store.specs.Holding.{left}
 use Rattle.ref_meaning.specs.declared.run.RefRun.{RefRun}
 use Rattle.ref_meaning.specs.declared.run.RefEnd.{RefEnd}
 use Rattle.ref_meaning.specs.declared.run.RefEnd.TheVariants as E
 use Rattle.ref_meaning.specs.Views.{config_in, around_run, functions_of}
-use Rattle.ref_meaning.specs.Running.{Behaviour, GoesOn, Answers}
+use Rattle.ref_meaning.specs.Running.{Behaviour, GoesOn, RunAnswers}
 use Rattle.poolcc.specs.Compiled.{IsAccepted}
 use Rattle.poolcc.specs.Exec.{source_limit}
-use Rattle.poolcc.specs.Ref.{BreaksOff, ProgramGives, Does, RefGives}
+use Rattle.poolcc.specs.Ref.{BreaksOff, ProgramGives, RunsMeaning, RefGives}
 use Rattle.poolcc.specs.Seen.{end_seen}
 
 -- what was written before a run broke off is a front of the program's output
@@ -33,7 +33,7 @@ broken new behaviour base input done steps left' written' within goes =
     }
 
 -- what a run answers is what its program does
-pub does : (old new : RefRun) (behaviour : Behaviour) (base input : List ℕ) (steps : ℕ) (end : RefEnd) (left' written' : Option (List ℕ)) → Answers old new behaviour base input steps end left' written' → ProgramGives (behaviour input steps) base end written'
+pub does : (old new : RefRun) (behaviour : Behaviour) (base input : List ℕ) (steps : ℕ) (end : RefEnd) (left' written' : Option (List ℕ)) → RunAnswers old new behaviour base input steps end left' written' → ProgramGives (behaviour input steps) base end written'
 does old new behaviour base input steps (E.Ended status) left' written' a = record { trace = a.trace; is = a.is; out = a.out }
 does old new behaviour base input steps E.Depth left' written' a = record { trace = a.trace; is = a.is; out = a.out }
 does old new behaviour base input steps (E.Undefined kind place) left' written' a = record { trace = a.trace; is = a.is; out = a.out }
@@ -43,7 +43,7 @@ does old new behaviour base input steps E.WriteFault left' written' a = broken n
 does old new behaviour base input steps E.OutOfMemory left' written' a = broken new behaviour base input a.done steps left' written' a.within a.goes_on
 
 module _ (text : List ℕ) (steps : ℕ) (left base : List ℕ) (left' written' : Option (List ℕ)) (program : Trees.ProgramTree) (accepted : IsAccepted text program) (short : length text ≤ source_limit) where
-  done : (end : RefEnd) → ProgramGives (reference (typed_of program) left steps) base end written' → Does text steps left base end written'
+  done : (end : RefEnd) → ProgramGives (reference (typed_of program) left steps) base end written' → RunsMeaning text steps left base end written'
   done end gives = record { short = short; program = program; accepted = accepted; gives = gives }
 
   pub ref_gives : (end : RefEnd) → ProgramGives (reference (typed_of program) left steps) base end written' → RefGives text steps left base (end_seen end) left' written'

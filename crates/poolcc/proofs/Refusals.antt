@@ -1,16 +1,16 @@
 -- A text has at most one refusal, and none where it is accepted.
 use Rattle.std.proofs.Common.{◌≡◌, ℕ, List, Option, Some, None, sym, ap, ◌∙◌, refl, subst}
-use Rattle.run_theory.specs.declared.ends.Pos.{Pos}
+use Rattle.text_place.specs.declared.place.Pos.{Pos}
 use Rattle.c_syntax.specs.Trees
 use Rattle.c_rules.specs.declared.violation.Violation.{Violation}
 use Rattle.c_rules.specs.Known.{least}
 use Rattle.c_rules.specs.Programs as rules
 use Rattle.c_rules.specs.Elaborated as elaborated
 use Rattle.c_types.specs.NamedItems.{named_types}
-use Rattle.c_limits.specs.declared.limits.LimitErr.{LimitErr}
-use Rattle.c_limits.specs.declared.limits.Limit.{Limit}
-use Rattle.c_limits.specs.declared.limits.Limit.TheVariants as L
-use Rattle.c_limits.specs.Limits.{exceeded}
+use Rattle.c_types_limits.specs.declared.limits.LimitErr.{LimitErr}
+use Rattle.c_types_limits.specs.declared.limits.Limit.{Limit}
+use Rattle.c_types_limits.specs.declared.limits.Limit.TheVariants as L
+use Rattle.c_types_limits.specs.Limits.{exceeded}
 use Rattle.tac_build.specs.Inside.{is_integer_program}
 use Rattle.pcc_status.specs.declared.status.LexKind.{LexKind}
 use Rattle.pcc_status.specs.declared.status.LexKind.TheVariants as K

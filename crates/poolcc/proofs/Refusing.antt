@@ -1,7 +1,7 @@
 -- What the code refuses is refused, and what is refused gets that answer.
 use Rattle.std.proofs.Common.{◌≡◌, ℕ, ◌≤◌, ◌⊎◌, inl, inr, true, List, [], ◌∷◌, Option, Some, length, ap, refl, arith}
-use Rattle.run_theory.specs.declared.ends.Pos.{Pos}
-use Rattle.run_theory.specs.Places.{first_place}
+use Rattle.text_place.specs.declared.place.Pos.{Pos}
+use Rattle.text_place.specs.Places.{first_place}
 use Rattle.c_lexer.specs.declared.lex_err.LexErr.{LexErr}
 use Rattle.c_lexer.specs.declared.lex_err.LexErr.TheVariants as X
 use Rattle.c_lexer.specs.Tokens.{Faults, UnlessMemory}

@@ -13,7 +13,7 @@ use Rattle.poolcc.specs.Ref.{RefGives}
 
 -- What a command line comes to, before its line on the error output, by what is told of each file, of the input and of
 -- the output.
-pub record Answers (line : Line) (contents : List ℕ → Told) (left written left' written' : Option (List ℕ)) (answer : Status) : Type 0 where
+pub record IsAnswer (line : Line) (contents : List ℕ → Told) (left written left' written' : Option (List ℕ)) (answer : Status) : Type 0 where
   pub no_command : line ≡ NoCommand → ((answer ≡ S.Usage U.Command) ⊎ (answer ≡ S.OutOfMemory)) × (left' ≡ left) × (written' ≡ written)
   pub no_line : line ≡ NoLine → ((answer ≡ S.Usage U.Words) ⊎ (answer ≡ S.OutOfMemory)) × (left' ≡ left) × (written' ≡ written)
   pub build : (file : List ℕ) (limits : Limits) (text base : List ℕ) → line ≡ Build file limits → contents file ≡ Holds text → written ≡ Some base → (left' ≡ left) × BuildGives text (machine_limits limits) base answer written'

@@ -1,17 +1,17 @@
 -- When an image is a program's.
 use Rattle.std.specs.Prelude.{◌≡◌, ℕ, true, List, [], Option, None}
-use Rattle.run_theory.specs.Places.{first_place}
+use Rattle.text_place.specs.Places.{first_place}
 use Rattle.run_theory.specs.Runs.{Run, Follows}
 use Rattle.c_token.specs.Leaves.{Leaf}
 use Rattle.c_lexer.specs.Tokens.{Divides}
 use Rattle.c_syntax.specs.Trees
 use Rattle.c_reader.specs.Readings.{IsProgram}
 use Rattle.c_typed.specs.Typed.{Program}
-use Rattle.c_meaning.specs.First.{reference}
+use Rattle.ref_semantics.specs.First.{reference}
 use Rattle.c_rules.specs.Programs as rules
 use Rattle.c_rules.specs.Elaborated as elaborated
 use Rattle.c_types.specs.NamedItems.{named_types}
-use Rattle.c_limits.specs.Limits.{exceeded}
+use Rattle.c_types_limits.specs.Limits.{exceeded}
 use Rattle.c_integer.specs.Outside.{outside}
 use Rattle.tac_build.specs.Inside.{is_integer_program}
 use Rattle.pool_isa.specs.Machine.{Function, State, initial, mach}

@@ -3,7 +3,7 @@ use Rattle.std.specs.Prelude.{◌≡◌, ℕ, ◌<◌, ◌≤◌, ◌⊎◌, Lis
 use Rattle.run_theory.specs.Runs.{Answer, Final, Trace, Ended, DepthReached, Undefined, Going, Over, output_of, trace_of}
 use Rattle.c_syntax.specs.Trees
 use Rattle.c_rules.specs.Elaborated.{typed_of}
-use Rattle.c_meaning.specs.First.{reference}
+use Rattle.ref_semantics.specs.First.{reference}
 use Rattle.pcc_status.specs.declared.status.Status.{Status}
 use Rattle.pcc_status.specs.declared.status.Status.TheVariants as S
 use Rattle.ref_meaning.specs.declared.run.RefEnd.{RefEnd}
@@ -42,7 +42,7 @@ ProgramGives answer base E.WriteFault written = BreaksOff base written answer
 ProgramGives answer base E.OutOfMemory written = BreaksOff base written answer
 
 -- The text, which is within the limit, is accepted, and its program was run: this is its answer, and this is what was written.
-pub record Does (text : List ℕ) (steps : ℕ) (left base : List ℕ) (end : RefEnd) (written : Option (List ℕ)) : Type 0 where
+pub record RunsMeaning (text : List ℕ) (steps : ℕ) (left base : List ℕ) (end : RefEnd) (written : Option (List ℕ)) : Type 0 where
   pub short : length text ≤ source_limit
   pub program : Trees.ProgramTree
   pub accepted : IsAccepted text program
@@ -52,13 +52,13 @@ pub record Does (text : List ℕ) (steps : ℕ) (left base : List ℕ) (end : Re
 -- units; a refusal of the text, of which none is for later; that it is too long; or a fault or want of memory, before the run
 -- or in it.
 abbrev pub RefGives : List ℕ → ℕ → List ℕ → List ℕ → Status → Option (List ℕ) → Option (List ℕ) → Type 0
-RefGives text steps left base (S.Program status) left' written' = Does text steps left base (E.Ended status) written'
-RefGives text steps left base S.Depth left' written' = Does text steps left base E.Depth written'
-RefGives text steps left base (S.Undefined kind place) left' written' = Does text steps left base (E.Undefined kind place) written'
-RefGives text steps left base S.StepsSpent left' written' = Does text steps left base E.StepsSpent written'
-RefGives text steps left base S.WriteFault left' written' = Does text steps left base E.WriteFault written'
-RefGives text steps left base S.ReadFault left' written' = IsUntouched left base left' written' ⊎ Does text steps left base E.ReadFault written'
-RefGives text steps left base S.OutOfMemory left' written' = IsUntouched left base left' written' ⊎ Does text steps left base E.OutOfMemory written'
+RefGives text steps left base (S.Program status) left' written' = RunsMeaning text steps left base (E.Ended status) written'
+RefGives text steps left base S.Depth left' written' = RunsMeaning text steps left base E.Depth written'
+RefGives text steps left base (S.Undefined kind place) left' written' = RunsMeaning text steps left base (E.Undefined kind place) written'
+RefGives text steps left base S.StepsSpent left' written' = RunsMeaning text steps left base E.StepsSpent written'
+RefGives text steps left base S.WriteFault left' written' = RunsMeaning text steps left base E.WriteFault written'
+RefGives text steps left base S.ReadFault left' written' = IsUntouched left base left' written' ⊎ RunsMeaning text steps left base E.ReadFault written'
+RefGives text steps left base S.OutOfMemory left' written' = IsUntouched left base left' written' ⊎ RunsMeaning text steps left base E.OutOfMemory written'
 RefGives text steps left base (S.Refused refusal) left' written' = (length text ≤ source_limit) × IsRefused text refusal × (IsLate refusal → ⊥) × IsUntouched left base left' written'
 RefGives text steps left base S.SourceTooLong left' written' = (source_limit < length text) × IsUntouched left base left' written'
 RefGives text steps left base S.HeapExhausted left' written' = ⊥

@@ -1,7 +1,7 @@
 -- When a text is refused, and of which kind and place.
 use Rattle.std.specs.Prelude.{◌≡◌, ℕ, Bool, true, false, List, [], Option, Some, None}
-use Rattle.run_theory.specs.declared.ends.Pos.{Pos}
-use Rattle.run_theory.specs.Places.{first_place}
+use Rattle.text_place.specs.declared.place.Pos.{Pos}
+use Rattle.text_place.specs.Places.{first_place}
 use Rattle.c_token.specs.Leaves.{Leaf}
 use Rattle.c_lexer.specs.declared.lex_err.LexErr.{LexErr}
 use Rattle.c_lexer.specs.declared.lex_err.LexErr.TheVariants as X
@@ -14,9 +14,9 @@ use Rattle.c_rules.specs.declared.rule.TypeRule.{TypeRule}
 use Rattle.c_rules.specs.Programs as rules
 use Rattle.c_rules.specs.Elaborated as elaborated
 use Rattle.c_types.specs.NamedItems.{named_types}
-use Rattle.c_limits.specs.declared.limits.Limit.{Limit}
-use Rattle.c_limits.specs.declared.limits.Limit.TheVariants as L
-use Rattle.c_limits.specs.Limits.{exceeded}
+use Rattle.c_types_limits.specs.declared.limits.Limit.{Limit}
+use Rattle.c_types_limits.specs.declared.limits.Limit.TheVariants as L
+use Rattle.c_types_limits.specs.Limits.{exceeded}
 use Rattle.pcc_status.specs.declared.status.LexKind.{LexKind}
 use Rattle.pcc_status.specs.declared.status.LexKind.TheVariants as K
 use Rattle.pcc_status.specs.declared.status.SyntaxKind.{SyntaxKind}

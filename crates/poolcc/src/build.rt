@@ -6,7 +6,7 @@ ghost use Rattle.poolcc.specs.Build.{BuildGives};
 ghost use Rattle.poolcc.specs.Exec.{IsUsage, source_limit};
 ghost use Rattle.poolcc.specs.Seen.{AreInRange};
 
-use crate::exec::SOURCE_LIMIT;
+use crate::execution::SOURCE_LIMIT;
 use crate::text::{Stop, image_of};
 use image_form::{MachineLimits, to_bytes};
 use pcc_outside::{Files, ReadErr, Sink, read_all, write_all};

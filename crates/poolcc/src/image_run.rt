@@ -5,7 +5,7 @@ ghost use Rattle.pcc_outside.specs.Outside.{Rose, Missing, Holds};
 ghost use Rattle.poolcc.specs.Exec.{IsUsage};
 ghost use Rattle.poolcc.specs.ImageRun.{ImageGives, image_limit};
 
-use crate::exec::{run_image, status_of};
+use crate::execution::{run_image, status_of};
 use image_form::{ImageErr, from_bytes};
 use pcc_outside::{Files, ReadErr, Sink, Source, read_all};
 use pcc_status::Status;

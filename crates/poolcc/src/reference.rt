@@ -3,12 +3,12 @@
 ghost use Rattle.std.specs.Prelude.{◌≡◌, ◌≢◌, ℕ, ◌<◌, ◌≤◌, ◌⊎◌, List, Some, length};
 ghost use Rattle.pcc_outside.specs.Outside.{Rose, Missing, Holds};
 ghost use Rattle.c_typed.specs.DefinitionViews.{program_of, ProgramStands};
-ghost use Rattle.c_meaning.specs.First.{reference};
+ghost use Rattle.ref_semantics.specs.First.{reference};
 ghost use Rattle.poolcc.specs.Exec.{IsUsage, source_limit};
 ghost use Rattle.poolcc.specs.Ref.{RefGives, ProgramGives};
 ghost use Rattle.poolcc.specs.Seen.{end_seen};
 
-use crate::exec::SOURCE_LIMIT;
+use crate::execution::SOURCE_LIMIT;
 use crate::text::{Stop, typed_program};
 use c_typed::Program;
 use pcc_outside::{Files, ReadErr, Sink, Source, read_all};

@@ -1,7 +1,7 @@
 // From a text to its image.
 
 ghost use Rattle.std.specs.Prelude.{◌≡◌, ◌≤◌, ℕ, List, length, IfOk, IfErr};
-ghost use Rattle.run_theory.specs.Places.{first_place};
+ghost use Rattle.text_place.specs.Places.{first_place};
 ghost use Rattle.c_syntax.specs.Trees as whole;
 ghost use Rattle.c_rules.specs.Elaborated as elaborated;
 ghost use Rattle.c_typed.specs.DefinitionViews.{program_of as typed_program_of, ProgramStands};
@@ -14,14 +14,14 @@ ghost use Rattle.poolcc.specs.Compiled.{ReadsAs, IsAccepted, IsInteger, Compiles
 ghost use Rattle.poolcc.specs.Exec.{source_limit};
 ghost use Rattle.poolcc.specs.Refused.{IsStop, IsAtOnce, limit_named, stop_of};
 
-use crate::compile::compile;
+use crate::compilation::compile;
 use c_integer::first_outside;
 use c_lexer::{LexErr, tokens};
-use c_limits::{Limit, LimitErr, check_limits};
 use c_reader::{SyntaxErr, read};
 use c_rules::Violation;
 use c_syntax::Program;
 use c_token::Token;
+use c_types_limits::{Limit, LimitErr, check_limits};
 use image_form::{Image, ImageErr, MachineLimits, from_bytes, to_bytes};
 use pcc_status::{LexKind, LimitKind, Refusal, SyntaxKind};
 use std::alloc::Global;

@@ -10,8 +10,8 @@ ghost use Rattle.poolcc.specs.Seen.{AreInRange};
 ghost use Rattle.run_theory.specs.Runs.{IsUndefined};
 ghost use Rattle.run_theory.specs.declared.ends.TrapKind.{TrapKind};
 ghost use Rattle.pcc_outside.specs.Outside.{Holds};
-ghost use Rattle.run_theory.specs.Places.{first_place};
-ghost use Rattle.run_theory.specs.declared.ends.Pos.{Pos};
+ghost use Rattle.text_place.specs.Places.{first_place};
+ghost use Rattle.text_place.specs.declared.place.Pos.{Pos};
 ghost use Rattle.pcc_status.specs.declared.status.LexKind.{LexKind};
 ghost use Rattle.pcc_status.specs.declared.status.Refusal.{Refusal};
 ghost use Rattle.pcc_status.specs.declared.status.Refusal.TheVariants as Refusal;
@@ -20,15 +20,15 @@ ghost use Rattle.poolcc.specs.Refused.{fault_of, IsRefused, IsLate};
 ghost use Rattle.poolcc.specs.Compiled.{IsAccepted, IsInteger, image_run};
 ghost use Rattle.c_syntax.specs.Trees.{ProgramTree};
 ghost use Rattle.c_rules.specs.Elaborated.{typed_of};
-ghost use Rattle.c_meaning.specs.First.{reference};
-ghost use Rattle.poolcc.specs.Answering.{Answers};
+ghost use Rattle.ref_semantics.specs.First.{reference};
+ghost use Rattle.poolcc.specs.Answering.{IsAnswer};
 ghost use Rattle.poolcc.specs.Complete.{RunsUnlessMemory, IsToldUnlessMemory, IsBuiltUnlessMemory, IsBadUnlessMemory};
 ghost use Rattle.poolcc.specs.Exec.{source_limit};
 ghost use Rattle.poolcc.specs.ImageRun.{image_limit};
 ghost use Rattle.image_form.specs.Form.{Form, ImageOf, IsImageBytes};
 
 use crate::build::build_file;
-use crate::exec::exec;
+use crate::execution::exec;
 use crate::image_run::run_file;
 use crate::reference::ref_file;
 use image_form::MachineLimits;
@@ -48,7 +48,7 @@ pub fn poolcc<F: Files, I: Source, O: Sink, E: Sink>(
     err: &mut E,
 ) -> Status
     // What the command answers, and the line that is written of it.
-    ensures answers { (answer : Status) × Answers (line_of (map string_bytes words.now)) (F.contents files.old) (I.left input.old) (O.written out.old) (I.left input.new) (O.written out.new) answer
+    ensures answers { (answer : Status) × IsAnswer (line_of (map string_bytes words.now)) (F.contents files.old) (I.left input.old) (O.written out.old) (I.left input.new) (O.written out.new) answer
         × Said answer result (E.written err.old) (E.written err.new) (E.faults err.old) (E.faults err.new) }
 
     // The cause of each answer that the text and the input don't give.
@@ -131,7 +131,7 @@ fn command<F: Files, I: Source, O: Sink>(
     input: &mut I,
     out: &mut O,
 ) -> Status
-    ensures answers { Answers (line_of (map string_bytes words.now)) (F.contents files.old) (I.left input.old) (O.written out.old) (I.left input.new) (O.written out.new) result }
+    ensures answers { IsAnswer (line_of (map string_bytes words.now)) (F.contents files.old) (I.left input.old) (O.written out.old) (I.left input.new) (O.written out.new) result }
     ensures command_cause { result ≡ Status.Usage UsageKind.Command → line_of (map string_bytes words.now) ≡ NoCommand }
     ensures words_cause { result ≡ Status.Usage UsageKind.Words → line_of (map string_bytes words.now) ≡ NoLine }
     ensures read_cause { result ≡ Status.ReadFault → (file : List ℕ) × Names (line_of (map string_bytes words.now)) file × (Rose (F.faults files.old file) (F.faults files.new file) ⊎ Rose (I.faults input.old) (I.faults input.new)) }

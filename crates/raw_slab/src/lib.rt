@@ -115,6 +115,3 @@ fn write_word(page: &mut [u8; SLAB_BYTES], off: usize, width: usize, word: u64)
     LittleEndian::write_u64(&mut word_bytes, word);
     page[off..off + width].copy_from_slice(&word_bytes[..width]);
 }
-
-#[cfg(test)]
-mod tests;

@@ -7,11 +7,11 @@ use Rattle.c_typed.specs.StatementViews.{stmt_in}
 use Rattle.c_typed.specs.DefinitionViews.{function_in}
 use Rattle.std.specs.Borrow.{Bor}
 use Rattle.c_typed.specs.Table.{Interned}
-use Rattle.c_meaning.specs.Store.{State, Eval}
-use Rattle.c_meaning.specs.Meaning.{Onward}
-use Rattle.c_steps.specs.Steps as steps
-use Rattle.c_steps.specs.Steps.{Config}
-use Rattle.c_steps.specs.Units as units
+use Rattle.ref_semantics.specs.Store.{State, Eval}
+use Rattle.ref_semantics.specs.Meaning.{Normal}
+use Rattle.ref_steps.specs.Steps as steps
+use Rattle.ref_steps.specs.Steps.{Config}
+use Rattle.ref_steps.specs.Units as units
 use Rattle.ref_meaning.specs.declared.control.Node as memory_node
 use Rattle.ref_meaning.specs.declared.control.Node.TheVariants as N
 use Rattle.ref_meaning.specs.declared.control.Way.TheVariants as W
@@ -94,10 +94,10 @@ body-begins old new function (Ok done) holds is_node is_task begins same only =
     let locals = old.store.locals.items in
     let operands = operands_of old in
     let back = sym is_task in
-    let config : Config = steps.came (around_run old) (functions_of old) (steps.WayGiven Onward) (steps.waits (around_run old) (functions_of old) (steps.Items (function_in table function.now).body) (config_in old)) in
+    let config : Config = steps.came (around_run old) (functions_of old) (steps.WayGiven Normal) (steps.waits (around_run old) (functions_of old) (steps.Items (function_in table function.now).body) (config_in old)) in
     let is : config_in new ≡ config =
     becomes-config old new _ _ begins ∙ (λ i. record {
-      task = steps.Give (steps.WayGiven Onward);
+      task = steps.Give (steps.WayGiven Normal);
       frames = at_item (part_in table (is_node i)) 0 ∷ frames_in table locals old.base (operands_after (back i) operands) (stack_of old);
       depth = (config_in old).depth;
     }) in

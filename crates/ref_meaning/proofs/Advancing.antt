@@ -12,19 +12,19 @@ use Rattle.c_typed.specs.Typed as T
 use Rattle.c_typed.specs.Typed.{LocalDef, FunctionDef}
 use Rattle.c_typed.specs.Table.{Interned}
 use Rattle.c_typed.specs.StatementViews.{stmt_in}
-use Rattle.c_meaning.specs.Store.{Around, State, Eval, ◌>>=◌, give}
-use Rattle.c_meaning.specs.Pointers.{write}
-use Rattle.c_meaning.specs.Meaning as rules
-use Rattle.c_meaning.specs.Meaning.{Way, Onward}
-use Rattle.c_steps.specs.Parts.{Part, ValuePart, StmtPart, BodyPart}
-use Rattle.c_steps.specs.Steps as steps
-use Rattle.c_steps.specs.Steps.{Config, WayGiven}
+use Rattle.ref_semantics.specs.Store.{TypeEnvironment, State, Eval, ◌>>=◌, give}
+use Rattle.ref_semantics.specs.Pointers.{write}
+use Rattle.ref_semantics.specs.Meaning as rules
+use Rattle.ref_semantics.specs.Meaning.{Completion, Normal}
+use Rattle.ref_steps.specs.Parts.{Part, ValuePart, StmtPart, BodyPart}
+use Rattle.ref_steps.specs.Steps as steps
+use Rattle.ref_steps.specs.Steps.{Config, WayGiven}
 use Rattle.ref_store.specs.declared.value.Place as memory_place
 use Rattle.ref_store.specs.declared.value.Scalar as memory_scalar
 use Rattle.ref_store.specs.declared.value.Stop.{Stop}
 use Rattle.ref_store.specs.declared.store.Store.{Store}
 use Rattle.ref_store.specs.Views.{place_in, scalar_in, PlaceStands}
-use Rattle.ref_store.specs.Holding.{At, Comes, Gives}
+use Rattle.ref_store.specs.Holding.{At, Comes, CallGives}
 use Rattle.ref_meaning.specs.declared.control.Control.{Control}
 use Rattle.ref_meaning.specs.declared.control.Frame as memory_frame
 use Rattle.ref_meaning.specs.declared.control.Given as memory_given
@@ -119,7 +119,7 @@ stored-moves old new mid top part stage waits given result first next a plain ok
     (comes state at))
 
 -- the newest locals die
-pub left-comes : (around : Around) (old new : Store) (base height : ℕ) (way : Way)
+pub left-comes : (around : TypeEnvironment) (old new : Store) (base height : ℕ) (way : Completion)
     → ((state : State) → At around old base state → At around new base (record state { objects = rules.killed (height - base) state.locals state.objects; locals = rules.kept (height - base) state.locals }))
     → (state : State) → At around old base state → Comes around new base (rules.leave way (height - base)) state way
 left-comes around old new base height way left state at =
@@ -235,31 +235,31 @@ for-item table _ number is = absurd is
 -- ---- what is done with it
 
 module _ (old : RefRun) where
-  pub block-taking : (node : memory_node.Node) (number : ℕ) (way : Way) → IsBlock node
+  pub block-taking : (node : memory_node.Node) (number : ℕ) (way : Completion) → IsBlock node
       → taking old (at_item (part_in (table_of old) node) number) (WayGiven way)
       ≡ steps.behind (around_run old) (functions_of old) way (steps.next_item (around_run old) (functions_of old) (items_from number (block_of (part_in (table_of old) node))) (popped (config_in old))) (popped (config_in old))
   block-taking node number way is = λ i. steps.take (around_run old) (functions_of old) (block-item (table_of old) node number is i) (WayGiven way) (popped (config_in old))
 
   pub block-declares : (node : memory_node.Node) (number : ℕ) (local : LocalDef) → IsBlock node
       → items_from number (block_of (part_in (table_of old) node)) ≡ T.Declare local (items_from (suc number) (block_of (part_in (table_of old) node)))
-      → taking old (at_item (part_in (table_of old) node) number) (WayGiven Onward) ≡ declaring old local (at_item (part_in (table_of old) node) (suc number))
+      → taking old (at_item (part_in (table_of old) node) number) (WayGiven Normal) ≡ declaring old local (at_item (part_in (table_of old) node) (suc number))
   block-declares node number local is e =
-      block-taking node number Onward is
+      block-taking node number Normal is
       ∙ (ap (λ items. steps.next_item (around_run old) (functions_of old) items (popped (config_in old))) e
       ∙ ap (λ frame. declaring old local frame) (sym (block-item (table_of old) node (suc number) is)))
 
   pub block-performs : (node : memory_node.Node) (number : ℕ) (one : T.Stmt) → IsBlock node
       → items_from number (block_of (part_in (table_of old) node)) ≡ T.Perform one (items_from (suc number) (block_of (part_in (table_of old) node)))
-      → taking old (at_item (part_in (table_of old) node) number) (WayGiven Onward)
+      → taking old (at_item (part_in (table_of old) node) number) (WayGiven Normal)
       ≡ give (steps.enters (around_run old) (functions_of old) (StmtPart one) (steps.waits (around_run old) (functions_of old) (at_item (part_in (table_of old) node) (suc number)) (popped (config_in old))))
   block-performs node number one is e =
-      block-taking node number Onward is
+      block-taking node number Normal is
       ∙ (ap (λ items. steps.next_item (around_run old) (functions_of old) items (popped (config_in old))) e
       ∙ ap (λ frame. give (steps.enters (around_run old) (functions_of old) (StmtPart one) (steps.waits (around_run old) (functions_of old) frame (popped (config_in old))))) (sym (block-item (table_of old) node (suc number) is)))
 
   pub block-ends : (node : memory_node.Node) (number : ℕ) → IsBlock node → items_from number (block_of (part_in (table_of old) node)) ≡ T.Close
-      → taking old (at_item (part_in (table_of old) node) number) (WayGiven Onward) ≡ give (steps.came (around_run old) (functions_of old) (WayGiven Onward) (popped (config_in old)))
-  block-ends node number is e = block-taking node number Onward is ∙ ap (λ items. steps.next_item (around_run old) (functions_of old) items (popped (config_in old))) e
+      → taking old (at_item (part_in (table_of old) node) number) (WayGiven Normal) ≡ give (steps.came (around_run old) (functions_of old) (WayGiven Normal) (popped (config_in old)))
+  block-ends node number is e = block-taking node number Normal is ∙ ap (λ items. steps.next_item (around_run old) (functions_of old) items (popped (config_in old))) e
 
   -- what does not go on breaks off
   breaks : (way : memory_way.Way) (rest : Eval Config) → (way ≡ W.Onward → ⊥)
@@ -273,7 +273,7 @@ module _ (old : RefRun) where
       → taking old (at_item (part_in (table_of old) node) number) (WayGiven (way_in (table_of old) way)) ≡ give (steps.came (around_run old) (functions_of old) (WayGiven (way_in (table_of old) way)) (popped (config_in old)))
   block-breaks node number way is off = block-taking node number (way_in (table_of old) way) is ∙ breaks way _ off
 
-  case-taking : (s : Bor memory_stmt.Stmt) (number : ℕ) (way : Way) → IsSwitch (N.Stmt s)
+  case-taking : (s : Bor memory_stmt.Stmt) (number : ℕ) (way : Completion) → IsSwitch (N.Stmt s)
       → taking old (at_item (StmtPart (stmt_in (table_of old) s.now)) number) (WayGiven way)
       ≡ steps.behind (around_run old) (functions_of old) way (give (steps.next_case_item (around_run old) (functions_of old) (case_items_from number (case_items_of (stmt_in (table_of old) s.now))) (popped (config_in old)))) (popped (config_in old))
   case-taking s number way is = λ i. steps.take (around_run old) (functions_of old) (case-item (table_of old) s number is i) (WayGiven way) (popped (config_in old))
@@ -284,37 +284,37 @@ module _ (old : RefRun) where
 
   pub case-performs : (s : Bor memory_stmt.Stmt) (number : ℕ) (one : T.Stmt) → IsSwitch (N.Stmt s)
       → case_items_from number (case_items_of (stmt_in (table_of old) s.now)) ≡ T.SwitchStmt one (case_items_from (suc number) (case_items_of (stmt_in (table_of old) s.now)))
-      → taking old (at_item (StmtPart (stmt_in (table_of old) s.now)) number) (WayGiven Onward)
+      → taking old (at_item (StmtPart (stmt_in (table_of old) s.now)) number) (WayGiven Normal)
       ≡ give (steps.enters (around_run old) (functions_of old) (StmtPart one) (steps.waits (around_run old) (functions_of old) (at_item (StmtPart (stmt_in (table_of old) s.now)) (suc number)) (popped (config_in old))))
   case-performs s number one is e =
-      case-taking s number Onward is
+      case-taking s number Normal is
       ∙ (ap (λ items. give (steps.next_case_item (around_run old) (functions_of old) items (popped (config_in old)))) e
       ∙ ap (λ frame. give (steps.enters (around_run old) (functions_of old) (StmtPart one) (steps.waits (around_run old) (functions_of old) frame (popped (config_in old))))) (sym (case-item (table_of old) s (suc number) is)))
 
   -- a label is behind it
   pub case-passes : (s : Bor memory_stmt.Stmt) (number : ℕ) (item : memory_switch.SwitchItem) → IsSwitch (N.Stmt s) → ThisCaseItem (table_of old) number (case_items_of (stmt_in (table_of old) s.now)) item → ((stmt : memory_stmt.Stmt) → item ≡ I.Statement stmt → ⊥)
-      → taking old (at_item (StmtPart (stmt_in (table_of old) s.now)) number) (WayGiven Onward)
-      ≡ give (steps.came (around_run old) (functions_of old) (WayGiven Onward) (steps.waits (around_run old) (functions_of old) (at_item (StmtPart (stmt_in (table_of old) s.now)) (suc number)) (popped (config_in old))))
+      → taking old (at_item (StmtPart (stmt_in (table_of old) s.now)) number) (WayGiven Normal)
+      ≡ give (steps.came (around_run old) (functions_of old) (WayGiven Normal) (steps.waits (around_run old) (functions_of old) (at_item (StmtPart (stmt_in (table_of old) s.now)) (suc number)) (popped (config_in old))))
   case-passes s number (I.Case label) is e label_ =
-      case-taking s number Onward is
+      case-taking s number Normal is
       ∙ (ap (λ items. give (steps.next_case_item (around_run old) (functions_of old) items (popped (config_in old)))) e
-      ∙ ap (λ frame. give (steps.came (around_run old) (functions_of old) (WayGiven Onward) (steps.waits (around_run old) (functions_of old) frame (popped (config_in old))))) (sym (case-item (table_of old) s (suc number) is)))
+      ∙ ap (λ frame. give (steps.came (around_run old) (functions_of old) (WayGiven Normal) (steps.waits (around_run old) (functions_of old) frame (popped (config_in old))))) (sym (case-item (table_of old) s (suc number) is)))
   case-passes s number I.Default is e label_ =
-      case-taking s number Onward is
+      case-taking s number Normal is
       ∙ (ap (λ items. give (steps.next_case_item (around_run old) (functions_of old) items (popped (config_in old)))) e
-      ∙ ap (λ frame. give (steps.came (around_run old) (functions_of old) (WayGiven Onward) (steps.waits (around_run old) (functions_of old) frame (popped (config_in old))))) (sym (case-item (table_of old) s (suc number) is)))
+      ∙ ap (λ frame. give (steps.came (around_run old) (functions_of old) (WayGiven Normal) (steps.waits (around_run old) (functions_of old) frame (popped (config_in old))))) (sym (case-item (table_of old) s (suc number) is)))
   case-passes s number (I.Statement stmt) is e label_ = absurd (label_ stmt refl)
 
   pub case-ends : (s : Bor memory_stmt.Stmt) (number : ℕ) → IsSwitch (N.Stmt s) → case_items_from number (case_items_of (stmt_in (table_of old) s.now)) ≡ T.SwitchEnd
-      → taking old (at_item (StmtPart (stmt_in (table_of old) s.now)) number) (WayGiven Onward) ≡ give (steps.came (around_run old) (functions_of old) (WayGiven Onward) (popped (config_in old)))
-  case-ends s number is e = case-taking s number Onward is ∙ ap (λ items. give (steps.next_case_item (around_run old) (functions_of old) items (popped (config_in old)))) e
+      → taking old (at_item (StmtPart (stmt_in (table_of old) s.now)) number) (WayGiven Normal) ≡ give (steps.came (around_run old) (functions_of old) (WayGiven Normal) (popped (config_in old)))
+  case-ends s number is e = case-taking s number Normal is ∙ ap (λ items. give (steps.next_case_item (around_run old) (functions_of old) items (popped (config_in old)))) e
 
-  for-taking : (s : memory_stmt.Stmt) (number : ℕ) (way : Way) → IsFor s
+  for-taking : (s : memory_stmt.Stmt) (number : ℕ) (way : Completion) → IsFor s
       → taking old (at_item (StmtPart (stmt_in (table_of old) s)) number) (WayGiven way)
       ≡ steps.next_start (around_run old) (functions_of old) (drop number (locals_of (start_of (stmt_in (table_of old) s)))) (loop_of (stmt_in (table_of old) s)) (popped (config_in old))
   for-taking s number way is = λ i. steps.take (around_run old) (functions_of old) (for-item (table_of old) s number is i) (WayGiven way) (popped (config_in old))
 
-  pub for-declares : (s : memory_stmt.Stmt) (number : ℕ) (way : Way) (local : LocalDef) → IsFor s
+  pub for-declares : (s : memory_stmt.Stmt) (number : ℕ) (way : Completion) (local : LocalDef) → IsFor s
       → drop number (locals_of (start_of (stmt_in (table_of old) s))) ≡ local ∷ drop (suc number) (locals_of (start_of (stmt_in (table_of old) s)))
       → taking old (at_item (StmtPart (stmt_in (table_of old) s)) number) (WayGiven way) ≡ declaring old local (at_item (StmtPart (stmt_in (table_of old) s)) (suc number))
   for-declares s number way local is e =
@@ -322,14 +322,14 @@ module _ (old : RefRun) where
       ∙ (ap (λ locals. steps.next_start (around_run old) (functions_of old) locals (loop_of (stmt_in (table_of old) s)) (popped (config_in old))) e
       ∙ ap (λ frame. declaring old local frame) (sym (for-item (table_of old) s (suc number) is)))
 
-  pub for-begins : (s : memory_stmt.Stmt) (number : ℕ) (way : Way) → IsFor s → drop number (locals_of (start_of (stmt_in (table_of old) s))) ≡ []
+  pub for-begins : (s : memory_stmt.Stmt) (number : ℕ) (way : Completion) → IsFor s → drop number (locals_of (start_of (stmt_in (table_of old) s))) ≡ []
       → taking old (at_item (StmtPart (stmt_in (table_of old) s)) number) (WayGiven way) ≡ beginning_turn old (stmt_in (table_of old) s)
   for-begins s number way is e = for-taking s number way is ∙ ap (λ locals. steps.next_start (around_run old) (functions_of old) locals (loop_of (stmt_in (table_of old) s)) (popped (config_in old))) e
 
 -- ---- behind the body of a turn
 
 module _ (old : RefRun) where
-  pub switch-turns : (s : Bor memory_stmt.Stmt) (way : Way) → IsSwitch (N.Stmt s)
+  pub switch-turns : (s : Bor memory_stmt.Stmt) (way : Completion) → IsSwitch (N.Stmt s)
       → taking old (behind_body (StmtPart (stmt_in (table_of old) s.now))) (WayGiven way) ≡ give (steps.came (around_run old) (functions_of old) (WayGiven (rules.broken_out way)) (popped (config_in old)))
   switch-turns s way is = by s.now is
     where
@@ -350,13 +350,13 @@ module _ (old : RefRun) where
       by (M.Switch' value shape items) is other = absurd (other _ _ (sym (roll-out-Stmt (M.Switch' value shape items)) ∙ ap roll-Stmt (M.outs-Switch' value shape items) ∙ M.rolls-Switch _ _))
       by _ is other = absurd is
 
-  pub turn-breaks : (s : memory_stmt.Stmt) (way later : Way) → behind_body (StmtPart (stmt_in (table_of old) s)) ≡ steps.Body (loop_of (stmt_in (table_of old) s)) → Some later ≡ rules.after_body way
+  pub turn-breaks : (s : memory_stmt.Stmt) (way later : Completion) → behind_body (StmtPart (stmt_in (table_of old) s)) ≡ steps.Body (loop_of (stmt_in (table_of old) s)) → Some later ≡ rules.after_body way
       → taking old (behind_body (StmtPart (stmt_in (table_of old) s))) (WayGiven way) ≡ give (steps.came (around_run old) (functions_of old) (WayGiven later) (popped (config_in old)))
   turn-breaks s way later is e =
       ap (λ frame. steps.take (around_run old) (functions_of old) frame (WayGiven way) (popped (config_in old))) is
       ∙ ap (λ after. give (steps.body_done (around_run old) (functions_of old) (loop_of (stmt_in (table_of old) s)) after (popped (config_in old)))) (sym e)
 
-  pub turn-ends : (s : memory_stmt.Stmt) (way : Way) → behind_body (StmtPart (stmt_in (table_of old) s)) ≡ steps.Body (loop_of (stmt_in (table_of old) s)) → None ≡ rules.after_body way
+  pub turn-ends : (s : memory_stmt.Stmt) (way : Completion) → behind_body (StmtPart (stmt_in (table_of old) s)) ≡ steps.Body (loop_of (stmt_in (table_of old) s)) → None ≡ rules.after_body way
       → taking old (behind_body (StmtPart (stmt_in (table_of old) s))) (WayGiven way) ≡ ending_turn old (stmt_in (table_of old) s)
   turn-ends s way is e =
       ap (λ frame. steps.take (around_run old) (functions_of old) frame (WayGiven way) (popped (config_in old))) is
@@ -387,25 +387,25 @@ pub hold-moves : (old new : RefRun) (mid : Store) (top : ℕ) (part : Part) (pla
     → Becomes (record old { store = mid }) new (record { node = old.control.node; task = K.Give (G.Way W.Onward) }) waits.others
     → Moves old new (taking old (innermost old part (S.Local place)) (given_in (table_of old) given)) result
 hold-moves old new mid top part place given value waits result is ok holds free types locals comes becomes =
-    subst (λ v. Moves old new (write (around_run old) (record { line = 1; column = 1 }) (place_in (table_of old) place) v >>= λ b. give (steps.came (around_run old) (functions_of old) (WayGiven Onward) (popped (config_in old)))) result) is
+    subst (λ v. Moves old new (write (around_run old) (record { line = 1; column = 1 }) (place_in (table_of old) place) v >>= λ b. give (steps.came (around_run old) (functions_of old) (WayGiven Normal) (popped (config_in old)))) result) is
     (stored-moves old new mid top part (S.Local place) waits (G.Way W.Onward) result
-    (write (around_run old) (record { line = 1; column = 1 }) (place_in (table_of old) place) (scalar_in (table_of old) value)) (λ b. give (steps.came (around_run old) (functions_of old) (WayGiven Onward) (popped (config_in old)))) (scalar_in (table_of old) value)
+    (write (around_run old) (record { line = 1; column = 1 }) (place_in (table_of old) place) (scalar_in (table_of old) value)) (λ b. give (steps.came (around_run old) (functions_of old) (WayGiven Normal) (popped (config_in old)))) (scalar_in (table_of old) value)
     tt ok holds free tt (stored-alters old new mid (record { node = old.control.node; task = K.Give (G.Way W.Onward) }) waits.others types locals holds becomes) becomes.store comes refl)
 
 pub hold-stops : (old : RefRun) (mid : Store) (part : Part) (place : memory_place.Place) (given : memory_given.Given) (value : memory_scalar.Scalar) (stop : Stop)
     → scalar_in (table_of old) value ≡ steps.scalar_of (given_in (table_of old) given) → Holds old → mid.types ≡ old.store.types → mid.locals ≡ old.store.locals
-    → Gives {B = Unit {0}} (around_run old) old.store mid old.base (λ done. scalar_in (table_of old) value) (write (around_run old) (record { line = 1; column = 1 }) (place_in (table_of old) place) (scalar_in (table_of old) value)) (Err stop)
+    → CallGives {B = Unit {0}} (around_run old) old.store mid old.base (λ done. scalar_in (table_of old) value) (write (around_run old) (record { line = 1; column = 1 }) (place_in (table_of old) place) (scalar_in (table_of old) value)) (Err stop)
     → Moves {A = Unit {0}} old (record old { store = mid }) (taking old (innermost old part (S.Local place)) (given_in (table_of old) given)) (Err (halt_of stop))
 hold-stops old mid part place given value stop is holds types locals gives =
-    subst (λ v. Moves {A = Unit {0}} old (record old { store = mid }) (write (around_run old) (record { line = 1; column = 1 }) (place_in (table_of old) place) v >>= λ b. give (steps.came (around_run old) (functions_of old) (WayGiven Onward) (popped (config_in old)))) (Err (halt_of stop))) is
+    subst (λ v. Moves {A = Unit {0}} old (record old { store = mid }) (write (around_run old) (record { line = 1; column = 1 }) (place_in (table_of old) place) v >>= λ b. give (steps.came (around_run old) (functions_of old) (WayGiven Normal) (popped (config_in old)))) (Err (halt_of stop))) is
     (stops (Unit {0}) old mid (λ (done : Unit {0}). scalar_in (table_of old) value) (write (around_run old) (record { line = 1; column = 1 }) (place_in (table_of old) place) (scalar_in (table_of old) value))
-    (λ b. give (steps.came (around_run old) (functions_of old) (WayGiven Onward) (popped (config_in old)))) stop types locals holds gives)
+    (λ b. give (steps.came (around_run old) (functions_of old) (WayGiven Normal) (popped (config_in old)))) stop types locals holds gives)
 
 -- a scope ends
 pub leave-moves : (old new : RefRun) (mid : Store) (top : ℕ) (part : Part) (height : ℕ) (given : memory_given.Given) (way : memory_way.Way) (waits : IsInnermost old top part (S.Scope height)) (result : Result (Unit {0}) Halt)
     → way_in (table_of old) way ≡ steps.way_of (given_in (table_of old) given) → IsOk result → Holds old → TakesNone old.control.task → WayStands (table_of old) way
     → mid.types ≡ old.store.types → take height mid.locals.items ≡ take height old.store.locals.items
-    → ((around : Around) (base : ℕ) (state : State) → base ≤ height → At around old.store base state → At around mid base (record state { objects = rules.killed (height - base) state.locals state.objects; locals = rules.kept (height - base) state.locals }))
+    → ((around : TypeEnvironment) (base : ℕ) (state : State) → base ≤ height → At around old.store base state → At around mid base (record state { objects = rules.killed (height - base) state.locals state.objects; locals = rules.kept (height - base) state.locals }))
     → Becomes (record old { store = mid }) new (record { node = old.control.node; task = K.Give (G.Way way) }) waits.others
     → Moves old new (taking old (innermost old part (S.Scope height)) (given_in (table_of old) given)) result
 leave-moves old new mid top part height given way waits result is ok holds free stands types front left becomes =
@@ -419,7 +419,7 @@ leave-moves old new mid top part height given way waits result is ok holds free 
     becomes.store (left-comes (around_run old) old.store mid old.base height (way_in (table_of old) way) (λ state at. left (around_run old) old.base state low at)) refl)
 
 -- items and turns look at the way alone
-module _ (around : Around) (functions : List FunctionDef) where
+module _ (around : TypeEnvironment) (functions : List FunctionDef) where
   stmt-way : (s : T.Stmt) (number : ℕ) (given : steps.Given) (config : Config) → steps.take around functions (at_item (StmtPart s) number) given config ≡ steps.take around functions (at_item (StmtPart s) number) (WayGiven (steps.way_of given)) config
   stmt-way (T.BlockStmt items) number given config = refl
   stmt-way (T.Switch v items) number given config = refl
@@ -461,7 +461,7 @@ halt-moves {A = A} old new eval (Err e) halt out moves = subst (λ h. Moves {A =
 
 -- no room for a local
 pub local-fails : (old : RefRun) (mid : Store) (frames : Vec memory_frame.Frame Global) → Holds old → frames.items ≡ old.frames.items → mid.types ≡ old.store.types → mid.locals.items ≡ old.store.locals.items
-    → ((around : Around) (base : ℕ) (state : State) → At around old.store base state → At around mid base state) → Stays old (record old { store = mid; frames = frames })
+    → ((around : TypeEnvironment) (base : ℕ) (state : State) → At around old.store base state → At around mid base state) → Stays old (record old { store = mid; frames = frames })
 local-fails old mid frames holds same types locals keeps =
     alters-stays old (record old { store = mid; frames = frames })
     (behind-alters old (record old { store = mid; frames = frames }) mid old.control (stack_of old) types (ap (take old.base) locals) (subst (λ l. old.base ≤ length l) (sym locals) holds.within) (roomy old mid frames same))

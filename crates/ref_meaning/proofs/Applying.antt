@@ -6,12 +6,12 @@ use Rattle.c_typed.specs.declared.typed.Value.{roll-Value, roll-out-Value}
 use Rattle.c_typed.specs.declared.typed.Value.TheVariants as V
 use Rattle.c_typed.specs.Typed as T
 use Rattle.c_typed.specs.Views.{value_in}
-use Rattle.c_meaning.specs.Values.{Scalar}
-use Rattle.c_meaning.specs.Store.{State, Then, Eval, ◌>>=◌, continue_with, give}
-use Rattle.c_meaning.specs.Meaning.{greatest_depth}
-use Rattle.c_steps.specs.Steps as steps
-use Rattle.c_steps.specs.Steps.{Config, ScalarGiven}
-use Rattle.c_steps.specs.Units as units
+use Rattle.ref_semantics.specs.Values.{Scalar}
+use Rattle.ref_semantics.specs.Store.{State, Then, Eval, ◌>>=◌, continue_with, give}
+use Rattle.ref_semantics.specs.Meaning.{greatest_depth}
+use Rattle.ref_steps.specs.Steps as steps
+use Rattle.ref_steps.specs.Steps.{Config, ScalarGiven}
+use Rattle.ref_steps.specs.Units as units
 use Rattle.ref_store.specs.declared.value.Scalar as memory_scalar
 use Rattle.ref_store.specs.Views.{scalar_in, ScalarStands}
 use Rattle.ref_store.specs.Holding.{At, left}

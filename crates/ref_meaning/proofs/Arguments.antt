@@ -11,11 +11,11 @@ use Rattle.c_typed.specs.Typed.{Values}
 use Rattle.c_typed.specs.Table.{Interned, Stands}
 use Rattle.c_typed.specs.Views.{value_in, values_in}
 use Rattle.c_typed.specs.DefinitionViews.{TypesStand}
-use Rattle.c_meaning.specs.Store.{State, give}
-use Rattle.c_meaning.specs.Meaning.{greatest_depth}
-use Rattle.c_steps.specs.Parts.{ValuePart}
-use Rattle.c_steps.specs.Steps as steps
-use Rattle.c_steps.specs.Steps.{Config}
+use Rattle.ref_semantics.specs.Store.{State, give}
+use Rattle.ref_semantics.specs.Meaning.{greatest_depth}
+use Rattle.ref_steps.specs.Parts.{ValuePart}
+use Rattle.ref_steps.specs.Steps as steps
+use Rattle.ref_steps.specs.Steps.{Config}
 use Rattle.ref_store.specs.declared.value.Scalar as memory_scalar
 use Rattle.ref_store.specs.Views.{scalar_in, ScalarStands}
 use Rattle.ref_store.specs.Holding.{At}

@@ -2,14 +2,14 @@
 use Rattle.std.proofs.Common.{◌≡◌, ℕ, suc, ◌+◌, ◌-◌, ◌≤◌, ◌<◌, List, [], ◌∷◌, ◌++◌, length, drop, take, reverse, Bool, refl, sym, ap, subst, ◌∙◌, arith, take_all, add-one}
 use Rattle.std.proofs.lemmas.List.{drop_all}
 use Rattle.std.specs.Borrow.{Bor}
-use Rattle.run_theory.specs.declared.ends.Pos.{Pos}
+use Rattle.text_place.specs.declared.place.Pos.{Pos}
 use Rattle.run_theory.specs.Runs as Runs
 use Rattle.c_typed.specs.declared.definition.FunctionDef as memory_function
 use Rattle.c_typed.specs.DefinitionViews.{function_in, FunctionStands}
-use Rattle.c_meaning.specs.Store.{State, Then}
-use Rattle.c_meaning.specs.Meaning.{greatest_depth}
-use Rattle.c_steps.specs.Steps as steps
-use Rattle.c_steps.specs.Steps.{Config, Frame}
+use Rattle.ref_semantics.specs.Store.{State, Then}
+use Rattle.ref_semantics.specs.Meaning.{greatest_depth}
+use Rattle.ref_steps.specs.Steps as steps
+use Rattle.ref_steps.specs.Steps.{Config, Frame}
 use Rattle.ref_store.specs.Holding.{At, left}
 use Rattle.ref_store.proofs.Updating.{unheard}
 use Rattle.ref_meaning.specs.declared.control.Node.TheVariants as N

@@ -5,11 +5,11 @@ use Rattle.c_typed.specs.declared.statement.Stmt.TheVariants as M
 use Rattle.c_typed.specs.Typed as T
 use Rattle.c_typed.specs.Typed.{FunctionDef}
 use Rattle.c_typed.specs.Table.{Interned}
-use Rattle.c_meaning.specs.Store.{Around, State, give}
-use Rattle.c_meaning.specs.Meaning.{greatest_depth}
-use Rattle.c_steps.specs.Parts.{Part, ValuePart, StmtPart}
-use Rattle.c_steps.specs.Steps as steps
-use Rattle.c_steps.specs.Steps.{Loop, WhileLoop, DoLoop, ForLoop, Config}
+use Rattle.ref_semantics.specs.Store.{TypeEnvironment, State, give}
+use Rattle.ref_semantics.specs.Meaning.{greatest_depth}
+use Rattle.ref_steps.specs.Parts.{Part, ValuePart, StmtPart}
+use Rattle.ref_steps.specs.Steps as steps
+use Rattle.ref_steps.specs.Steps.{Loop, WhileLoop, DoLoop, ForLoop, Config}
 use Rattle.ref_store.specs.Holding.{At}
 use Rattle.ref_store.specs.declared.value.Scalar as memory_scalar
 use Rattle.ref_meaning.specs.declared.control.Control.{Control}
@@ -211,7 +211,7 @@ waits-as-loop table (N.Stmt s) is = as-loop table s s.now is
 waits-as-loop table (N.Body function) is = absurd is
 waits-as-loop table N.Nothing is = absurd is
 
-same-body : (around : Around) (functions : List FunctionDef) (l : Loop) → body_in l ≡ steps.body_of around functions l
+same-body : (around : TypeEnvironment) (functions : List FunctionDef) (l : Loop) → body_in l ≡ steps.body_of around functions l
 same-body around functions (WhileLoop condition body) = refl
 same-body around functions (DoLoop body condition) = refl
 same-body around functions (ForLoop condition step body) = refl

@@ -4,11 +4,11 @@ use Rattle.std.proofs.lemmas.List.{reverse-append, reverse-reverse, length-rever
 use Rattle.std.proofs.lemmas.Option.{none-some, same_Some}
 use Rattle.c_typed.specs.Types.{CType}
 use Rattle.c_typed.specs.Typed.{FunctionDef}
-use Rattle.c_meaning.specs.Values.{Scalar}
-use Rattle.c_meaning.specs.Store.{Around, give}
-use Rattle.c_steps.specs.Parts.{BodyPart}
-use Rattle.c_steps.specs.Steps as steps
-use Rattle.c_steps.specs.Steps.{Config}
+use Rattle.ref_semantics.specs.Values.{Scalar}
+use Rattle.ref_semantics.specs.Store.{TypeEnvironment, give}
+use Rattle.ref_steps.specs.Parts.{BodyPart}
+use Rattle.ref_steps.specs.Steps as steps
+use Rattle.ref_steps.specs.Steps.{Config}
 
 -- the last items are the newest ones
 module _ {X : Type 0} (items : List X) (count : ℕ) (there : count ≤ length items) where
@@ -52,7 +52,7 @@ get-mapped f (first ∷ others) (suc number) x h = get-mapped f others number x 
 
 -- ---- what is bound next
 
-module _ (around : Around) (functions : List FunctionDef) (function : FunctionDef) (types : List CType) (given : List Scalar) (config : Config) where
+module _ (around : TypeEnvironment) (functions : List FunctionDef) (function : FunctionDef) (types : List CType) (given : List Scalar) (config : Config) where
   -- no parameter is left
   pub bound-types : types ≡ [] → steps.bind_next around functions function types given config ≡ give (steps.enters around functions (BodyPart function) config)
   bound-types e = ap (λ t. steps.bind_next around functions function t given config) e

@@ -5,7 +5,7 @@ use Rattle.c_typed.specs.declared.definition.FunctionDef as memory_function
 use Rattle.c_typed.specs.Typed.{FunctionDef}
 use Rattle.c_typed.specs.Table.{Interned}
 use Rattle.c_typed.specs.DefinitionViews.{function_in, FunctionStands, FunctionsStand}
-use Rattle.c_meaning.specs.Meaning.{function_from}
+use Rattle.ref_semantics.specs.Meaning.{function_from}
 
 -- a function in memory, by the number that is found
 pub record Found (table : Interned) (start : ℕ) (items : List memory_function.FunctionDef) (name : List ℕ) (n : ℕ) : Type 0 where

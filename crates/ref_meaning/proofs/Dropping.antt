@@ -2,9 +2,9 @@
 use Rattle.std.proofs.Common.{◌≡◌, ℕ, zero, suc, ◌-◌, ◌≤◌, List, [], ◌∷◌, length, drop, take, reverse, Vec, Global, sym, ap, subst, ◌∙◌}
 use Rattle.std.proofs.lemmas.List.{length-reverse}
 use Rattle.c_typed.specs.Table.{Interned}
-use Rattle.c_meaning.specs.Store.{Eval, State, give}
-use Rattle.c_meaning.specs.Meaning.{greatest_depth}
-use Rattle.c_steps.specs.Steps.{Config}
+use Rattle.ref_semantics.specs.Store.{Eval, State, give}
+use Rattle.ref_semantics.specs.Meaning.{greatest_depth}
+use Rattle.ref_steps.specs.Steps.{Config}
 use Rattle.ref_store.specs.declared.value.Scalar as memory_scalar
 use Rattle.ref_store.specs.Holding.{At}
 use Rattle.ref_meaning.specs.declared.control.Control.{Control}

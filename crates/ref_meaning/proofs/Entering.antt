@@ -3,11 +3,11 @@ use Rattle.std.proofs.Common.{◌≡◌, ℕ, List, ◌∷◌, Result, refl, sym
 use Rattle.c_typed.specs.Table.{Interned}
 use Rattle.c_typed.specs.Typed as T
 use Rattle.c_typed.specs.Typed.{FunctionDef, Value}
-use Rattle.c_meaning.specs.Store.{Around, State, Eval, ◌>>=◌, give}
-use Rattle.c_meaning.specs.Values as V
-use Rattle.c_steps.specs.Parts.{Part, ValuePart, entry_of}
-use Rattle.c_steps.specs.Steps as steps
-use Rattle.c_steps.specs.Steps.{Config}
+use Rattle.ref_semantics.specs.Store.{TypeEnvironment, State, Eval, ◌>>=◌, give}
+use Rattle.ref_semantics.specs.Values as V
+use Rattle.ref_steps.specs.Parts.{Part, ValuePart, entry_of}
+use Rattle.ref_steps.specs.Steps as steps
+use Rattle.ref_steps.specs.Steps.{Config}
 use Rattle.ref_store.specs.declared.value.Place as memory_place
 use Rattle.ref_store.specs.declared.value.Scalar as memory_scalar
 use Rattle.ref_store.specs.declared.value.Scalar.TheVariants as M
@@ -44,11 +44,11 @@ expression-waits (N.Stmt s) is = absurd is
 expression-waits (N.Body function) is = absurd is
 expression-waits N.Nothing is = absurd is
 
-value-waiting : (around : Around) (functions : List FunctionDef) (v : Value) → waiting (ValuePart v) ≡ steps.first_frame around functions (ValuePart v)
+value-waiting : (around : TypeEnvironment) (functions : List FunctionDef) (v : Value) → waiting (ValuePart v) ≡ steps.first_frame around functions (ValuePart v)
 value-waiting around functions (T.Call is_used place function c_type arguments) = refl
 value-waiting around functions _ = refl
 
-pub first-waiting : (around : Around) (functions : List FunctionDef) (table : Interned) (node : memory_node.Node) → IsExpression node → waiting (part_in table node) ≡ steps.first_frame around functions (part_in table node)
+pub first-waiting : (around : TypeEnvironment) (functions : List FunctionDef) (table : Interned) (node : memory_node.Node) → IsExpression node → waiting (part_in table node) ≡ steps.first_frame around functions (part_in table node)
 first-waiting around functions table (N.Value v) is = value-waiting around functions (views.value_of (part_in table (N.Value v)))
 first-waiting around functions table (N.Object object) is = refl
 first-waiting around functions table (N.Address object) is = refl
@@ -57,11 +57,11 @@ first-waiting around functions table (N.Stmt s) is = absurd is
 first-waiting around functions table (N.Body function) is = absurd is
 first-waiting around functions table N.Nothing is = absurd is
 
-value-named : (around : Around) (functions : List FunctionDef) (v : Value) (groups : ℕ) (config : Config) → record config { task = views.named_call (ValuePart v) groups } ≡ steps.named_call around functions (ValuePart v) groups config
+value-named : (around : TypeEnvironment) (functions : List FunctionDef) (v : Value) (groups : ℕ) (config : Config) → record config { task = views.named_call (ValuePart v) groups } ≡ steps.named_call around functions (ValuePart v) groups config
 value-named around functions (T.LibraryCall function groups' place arguments) groups config = refl
 value-named around functions _ groups config = refl
 
-part-named : (around : Around) (functions : List FunctionDef) (part : Part) (groups : ℕ) (config : Config) → record config { task = views.named_call part groups } ≡ steps.named_call around functions part groups config
+part-named : (around : TypeEnvironment) (functions : List FunctionDef) (part : Part) (groups : ℕ) (config : Config) → record config { task = views.named_call part groups } ≡ steps.named_call around functions part groups config
 part-named around functions (ValuePart v) groups config = value-named around functions v groups config
 part-named around functions _ groups config = refl
 

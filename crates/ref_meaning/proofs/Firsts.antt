@@ -1,16 +1,16 @@
 -- What waits is given what it waits for.
 use Rattle.std.proofs.Common.{◌≡◌, ℕ, List, ◌∷◌, Result, Ok, Err, IsErrAnd, length, refl, sym, ap, subst, ◌∙◌}
-use Rattle.c_meaning.specs.Store.{State, ◌>>=◌, give}
-use Rattle.c_steps.specs.Parts as parts
-use Rattle.c_steps.specs.Parts.{Part}
-use Rattle.c_steps.specs.Steps as steps
-use Rattle.c_steps.specs.Steps.{Config, Frame, Given, ScalarGiven}
-use Rattle.c_steps.specs.Units as units
+use Rattle.ref_semantics.specs.Store.{State, ◌>>=◌, give}
+use Rattle.ref_steps.specs.Parts as parts
+use Rattle.ref_steps.specs.Parts.{Part}
+use Rattle.ref_steps.specs.Steps as steps
+use Rattle.ref_steps.specs.Steps.{Config, Frame, Given, ScalarGiven}
+use Rattle.ref_steps.specs.Units as units
 use Rattle.ref_store.specs.declared.store.Store.{Store}
 use Rattle.ref_store.specs.declared.value.Stop.{Stop}
 use Rattle.ref_store.specs.declared.value.Scalar as memory_scalar
 use Rattle.ref_store.specs.Views.{scalar_in, ScalarStands}
-use Rattle.ref_store.specs.Holding.{At, Comes, Gives}
+use Rattle.ref_store.specs.Holding.{At, Comes, CallGives}
 use Rattle.ref_meaning.specs.declared.control.Control.{Control}
 use Rattle.ref_meaning.specs.declared.control.Given as memory_given
 use Rattle.ref_meaning.specs.declared.control.Given.TheVariants as G
@@ -154,7 +154,7 @@ done-arrives old new top part stage given holds free plain waits stands becomes 
 
 pub first-stops : (old : RefRun) (mid : Store) (node : memory_node.Node) (first : memory_scalar.Scalar) (stop : Stop) (result : Result (Unit {0}) Halt) → IsErrAnd result (λ e. e ≡ halt_of stop) → Holds old → mid.types ≡ old.store.types → mid.locals ≡ old.store.locals
     → waiting (part_in (table_of old) node) ≡ steps.First (part_in (table_of old) node)
-    → Gives (around_run old) old.store mid old.base (next_in (table_of old)) (parts.next_of (around_run old) (part_in (table_of old) node) (scalar_in (table_of old) first)) (Err stop)
+    → CallGives (around_run old) old.store mid old.base (next_in (table_of old)) (parts.next_of (around_run old) (part_in (table_of old) node) (scalar_in (table_of old) first)) (Err stop)
     → Moves old (record old { store = mid }) (taking old (waiting (part_in (table_of old) node)) (ScalarGiven (scalar_in (table_of old) first))) result
 first-stops old mid node first stop (Ok done) same holds types locals is gives = absurd same
 first-stops old mid node first stop (Err halt) same holds types locals is gives =
@@ -165,14 +165,14 @@ first-stops old mid node first stop (Err halt) same holds types locals is gives 
 
 pub second-stops : (old : RefRun) (mid : Store) (node : memory_node.Node) (first second : memory_scalar.Scalar) (given : Given) (stop : Stop) (result : Result (Unit {0}) Halt) → IsErrAnd result (λ e. e ≡ halt_of stop) → Holds old → mid.types ≡ old.store.types → mid.locals ≡ old.store.locals
     → scalar_in (table_of old) second ≡ steps.scalar_of given
-    → Gives (around_run old) old.store mid old.base (scalar_in (table_of old)) (parts.both_of (around_run old) (part_in (table_of old) node) (scalar_in (table_of old) first) (scalar_in (table_of old) second)) (Err stop)
+    → CallGives (around_run old) old.store mid old.base (scalar_in (table_of old)) (parts.both_of (around_run old) (part_in (table_of old) node) (scalar_in (table_of old) first) (scalar_in (table_of old) second)) (Err stop)
     → Moves old (record old { store = mid }) (taking old (innermost old (part_in (table_of old) node) (S.Second first)) given) result
 second-stops old mid node first second given stop (Ok done) same holds types locals is gives = absurd same
 second-stops old mid node first second given stop (Err halt) same holds types locals is gives =
     subst (λ h. Moves {A = Unit {0}} old (record old { store = mid }) (taking old (innermost old (part_in (table_of old) node) (S.Second first)) given) (Err h)) (sym same)
     (stops (Unit {0}) old mid (scalar_in (table_of old)) (parts.both_of (around_run old) (part_in (table_of old) node) (scalar_in (table_of old) first) (steps.scalar_of given))
     (λ c. give (steps.came (around_run old) (functions_of old) (ScalarGiven c) (popped (config_in old)))) stop types locals holds
-    (subst (λ b. Gives (around_run old) old.store mid old.base (scalar_in (table_of old)) (parts.both_of (around_run old) (part_in (table_of old) node) (scalar_in (table_of old) first) b) (Err stop)) is gives))
+    (subst (λ b. CallGives (around_run old) old.store mid old.base (scalar_in (table_of old)) (parts.both_of (around_run old) (part_in (table_of old) node) (scalar_in (table_of old) first) b) (Err stop)) is gives))
 
 -- ---- what the innermost takes
 

@@ -3,12 +3,12 @@ use Rattle.std.proofs.Common.{◌≡◌, ℕ, suc, ◌+◌, ◌-◌, ◌<◌, �
 use Rattle.std.proofs.lemmas.Bool.{false≢true, cases_lt}
 use Rattle.std.specs.Int.{from_bool}
 use Rattle.run_theory.specs.Runs.{Going, Over, IsGoing, output_of}
-use Rattle.c_meaning.specs.Store.{State, ◌>>=◌, continue_with}
-use Rattle.c_meaning.specs.First.{status_of, around_of}
+use Rattle.ref_semantics.specs.Store.{State, ◌>>=◌, continue_with}
+use Rattle.ref_semantics.specs.First.{status_of, around_of}
 use Rattle.c_typed.specs.DefinitionViews.{program_of}
-use Rattle.c_steps.specs.Steps.{goes_on, task_then, resume}
-use Rattle.c_steps.specs.Units.{takes_unit}
-use Rattle.c_steps.proofs.Spending.{goes-spending, goes-nowhere, goes-freely}
+use Rattle.ref_steps.specs.Steps.{goes_on, task_then, resume}
+use Rattle.ref_steps.specs.Units.{takes_unit}
+use Rattle.ref_steps.proofs.Spending.{goes-spending, goes-nowhere, goes-freely}
 use Rattle.ref_store.specs.Holding.{left}
 use Rattle.ref_meaning.specs.declared.control.Final as memory_final
 use Rattle.ref_meaning.specs.declared.control.Final.TheVariants as F
@@ -23,7 +23,7 @@ use Rattle.ref_meaning.specs.Views.{table_of, operands_of, part_in, task_in, con
 use Rattle.ref_meaning.specs.Holding.{Holds}
 use Rattle.ref_meaning.specs.Doing.{acting, takes}
 use Rattle.ref_meaning.specs.Moving.{IsKept, IsTold, IsOverTold, StaysTold, Acts}
-use Rattle.ref_meaning.specs.Running.{Behaviour, answers, StandsFor, Ends, GoesOn, BreaksOff, Answers, SpendsNeeded, end_in, answer_of, halted, spent_at, IsHalted, HoldsUnlessOver}
+use Rattle.ref_meaning.specs.Running.{Behaviour, answers, StandsFor, Ends, GoesOn, BreaksOff, RunAnswers, SpendsNeeded, end_in, answer_of, halted, spent_at, IsHalted, HoldsUnlessOver}
 
 -- Of so many units some are left, and the run goes on behind the others; with fewer than these it was going.
 pub record Goes (first now : RefRun) (behaviour : Behaviour) (base input : List ℕ) (steps units : ℕ) (is_left written : Option (List ℕ)) : Type 0 where
@@ -119,7 +119,7 @@ needed-over first now behaviour base input steps units is_left written final goe
     }
 
 pub answers-end : (old new : RefRun) (behaviour : Behaviour) (base input : List ℕ) (steps : ℕ) (is_left written : Option (List ℕ)) (final : memory_final.Final)
-    → Ends behaviour base input steps (final_of final) written → Answers old new behaviour base input steps (answer_of final) is_left written
+    → Ends behaviour base input steps (final_of final) written → RunAnswers old new behaviour base input steps (answer_of final) is_left written
 answers-end old new behaviour base input steps is_left written (F.Ended status) ends = ends
 answers-end old new behaviour base input steps is_left written F.Depth ends = ends
 answers-end old new behaviour base input steps is_left written (F.Undefined kind place) ends = ends
@@ -137,7 +137,7 @@ goes-nowhere-now now behaviour base input done is_left written far e =
     none-more n = omega arith
 
 pub spent-all : (first now : RefRun) (behaviour : Behaviour) (base input : List ℕ) (steps units : ℕ) (is_left written : Option (List ℕ))
-    → Goes first now behaviour base input steps units is_left written → takes_unit (takes now) ≡ true → units ≡ 0 → Answers first now behaviour base input steps E.StepsSpent is_left written
+    → Goes first now behaviour base input steps units is_left written → takes_unit (takes now) ≡ true → units ≡ 0 → RunAnswers first now behaviour base input steps E.StepsSpent is_left written
 spent-all first now behaviour base input steps units is_left written goes e none =
     let far = goes.goes_on in
     let stands = far.stands in
@@ -303,7 +303,7 @@ breaks-off first now behaviour base input steps units is_left written goes = rec
 pub answers-halted : (A : Type 0) (first old mid new : RefRun) (behaviour : Behaviour) (base input : List ℕ) (steps units units' : ℕ) (is_left written left' written' : Option (List ℕ)) (b : Bool) (halt : Halt)
     → Goes first old behaviour base input steps units is_left written → IsKept old mid → Acts {A = A} old mid (acting old) (Err halt) is_left written left' written'
     → takes_unit (takes old) ≡ b → units ≡ from_bool b + units' → IsHalted mid halt new
-    → Answers first new behaviour base input steps (halted halt) left' written'
+    → RunAnswers first new behaviour base input steps (halted halt) left' written'
 answers-halted A first old mid new behaviour base input steps units units' is_left written left' written' b (H.Final final) goes kept acts takes_is rest_is is =
     answers-end first new behaviour base input steps left' written' final (ends-final A old mid first behaviour base input steps units units' is_left written left' written' b final goes acts takes_is rest_is)
 answers-halted A first old mid new behaviour base input steps units units' is_left written left' written' b H.ReadFault goes kept acts takes_is rest_is is =

@@ -2,28 +2,28 @@
 use Rattle.std.proofs.Common.{◌≡◌, List, refl, sym, ap, ◌∙◌}
 use Rattle.c_typed.specs.Typed as T
 use Rattle.c_typed.specs.Typed.{FunctionDef, Stmt, Value}
-use Rattle.c_meaning.specs.Store.{Around}
-use Rattle.c_meaning.specs.Values.{Scalar}
-use Rattle.c_steps.specs.Parts.{Part, ValuePart, StmtPart}
-use Rattle.c_steps.specs.Steps as steps
-use Rattle.c_steps.specs.Steps.{Given, ScalarGiven, Config}
+use Rattle.ref_semantics.specs.Store.{TypeEnvironment}
+use Rattle.ref_semantics.specs.Values.{Scalar}
+use Rattle.ref_steps.specs.Parts.{Part, ValuePart, StmtPart}
+use Rattle.ref_steps.specs.Steps as steps
+use Rattle.ref_steps.specs.Steps.{Given, ScalarGiven, Config}
 use Rattle.ref_meaning.specs.declared.control.Stage as memory_stage
 use Rattle.ref_meaning.specs.declared.control.Stage.TheVariants as S
 use Rattle.ref_meaning.specs.declared.run.RefRun.{RefRun}
 use Rattle.ref_meaning.specs.Views.{config_in, around_run, functions_of, waiting}
 use Rattle.ref_meaning.specs.Doing.{IsOfStatement, innermost, popped, taking}
 
-value-scalar : (around : Around) (functions : List FunctionDef) (v : Value) (given : Given) (config : Config)
+value-scalar : (around : TypeEnvironment) (functions : List FunctionDef) (v : Value) (given : Given) (config : Config)
     → steps.take around functions (waiting (ValuePart v)) given config ≡ steps.take around functions (waiting (ValuePart v)) (ScalarGiven (steps.scalar_of given)) config
 value-scalar around functions (T.Call is_used place function c_type arguments) given config = refl
 value-scalar around functions _ given config = refl
 
-stmt-scalar : (around : Around) (functions : List FunctionDef) (s : Stmt) (given : Given) (config : Config)
+stmt-scalar : (around : TypeEnvironment) (functions : List FunctionDef) (s : Stmt) (given : Given) (config : Config)
     → steps.take around functions (waiting (StmtPart s)) given config ≡ steps.take around functions (waiting (StmtPart s)) (ScalarGiven (steps.scalar_of given)) config
 stmt-scalar around functions (T.If condition taken) given config = refl
 stmt-scalar around functions _ given config = refl
 
-part-scalar : (around : Around) (functions : List FunctionDef) (part : Part) (given : Given) (config : Config)
+part-scalar : (around : TypeEnvironment) (functions : List FunctionDef) (part : Part) (given : Given) (config : Config)
     → steps.take around functions (waiting part) given config ≡ steps.take around functions (waiting part) (ScalarGiven (steps.scalar_of given)) config
 part-scalar around functions (ValuePart v) given config = value-scalar around functions v given config
 part-scalar around functions (StmtPart s) given config = stmt-scalar around functions s given config

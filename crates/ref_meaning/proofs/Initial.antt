@@ -4,12 +4,12 @@ use Rattle.std.proofs.Common.{◌≡◌, ℕ, ◌-◌, ◌≤◌, List, [], reve
 use Rattle.run_theory.specs.Runs.{Ended}
 use Rattle.c_typed.specs.Typed.{Program}
 use Rattle.c_typed.specs.DefinitionViews.{program_of, ProgramStands}
-use Rattle.c_meaning.specs.Values.{Scalar}
-use Rattle.c_meaning.specs.Store.{State, Outcome, Then, Stopped, continue_with, over}
-use Rattle.c_meaning.specs.Library.{low_byte}
-use Rattle.c_meaning.specs.Meaning.{greatest_depth}
-use Rattle.c_meaning.specs.First.{around_of, first_state, status_of, run_main, reference}
-use Rattle.c_steps.specs.Steps.{Start, Config, goes_on}
+use Rattle.ref_semantics.specs.Values.{Scalar}
+use Rattle.ref_semantics.specs.Store.{State, Outcome, Then, Stopped, continue_with, halt}
+use Rattle.ref_semantics.specs.Library.{low_byte}
+use Rattle.ref_semantics.specs.Meaning.{greatest_depth}
+use Rattle.ref_semantics.specs.First.{around_of, first_state, status_of, run_main, reference}
+use Rattle.ref_steps.specs.Steps.{Start, Config, goes_on}
 use Rattle.ref_store.specs.Holding.{At, left}
 use Rattle.ref_meaning.specs.declared.control.Node.TheVariants as N
 use Rattle.ref_meaning.specs.declared.control.Task.TheVariants as K
@@ -20,7 +20,7 @@ use Rattle.ref_meaning.specs.Numbers.{number_from, HasNumbers}
 use Rattle.ref_meaning.specs.Running.{StandsFor}
 use Rattle.ref_meaning.proofs.Numbering.{number-means}
 
-status-over : (outcome : Outcome Scalar) → status_of outcome ≡ status_of (continue_with (λ a. over (Ended (low_byte a))) outcome)
+status-over : (outcome : Outcome Scalar) → status_of outcome ≡ status_of (continue_with (λ a. halt (Ended (low_byte a))) outcome)
 status-over (Then value state) = refl
 status-over (Stopped answer state) = refl
 

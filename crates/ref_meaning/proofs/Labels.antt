@@ -11,12 +11,12 @@ use Rattle.c_typed.specs.Typed as T
 use Rattle.c_typed.specs.Typed.{SwitchItems}
 use Rattle.c_typed.specs.Table.{Interned}
 use Rattle.c_typed.specs.StatementViews.{stmt_in}
-use Rattle.c_meaning.specs.Meaning.{Onward}
-use Rattle.c_meaning.specs.Store.{State, Eval, give}
-use Rattle.c_steps.specs.Parts.{StmtPart}
-use Rattle.c_steps.specs.Steps as steps
-use Rattle.c_steps.specs.Steps.{Config, go_in, next_task, first_of, WayGiven}
-use Rattle.c_steps.specs.Units.{act, looks}
+use Rattle.ref_semantics.specs.Meaning.{Normal}
+use Rattle.ref_semantics.specs.Store.{State, Eval, give}
+use Rattle.ref_steps.specs.Parts.{StmtPart}
+use Rattle.ref_steps.specs.Steps as steps
+use Rattle.ref_steps.specs.Steps.{Config, go_in, next_task, first_of, WayGiven}
+use Rattle.ref_steps.specs.Units.{act, looks}
 use Rattle.ref_store.specs.Holding.{At}
 use Rattle.ref_meaning.specs.declared.control.Control.{Control}
 use Rattle.ref_meaning.specs.declared.control.Node as memory_node
@@ -134,7 +134,7 @@ module _ (old : RefRun) (holds : Holds old) (switch : memory_node.Node) (value :
         let holds' = becomes-holds old new found-next found-frames becomes holds holds.node tt (switch-stands, switch-items switch is-switch, tt, tt, frames-hold) holds.calls in
         let config = go_in (around_run old) (functions_of old) (Some (case_items_from from all)) (config_in old) in
         let same : config_in new ≡ config = becomes-config old new found-next found-frames becomes ∙ (λ i. record {
-          task = steps.Give (WayGiven Onward);
+          task = steps.Give (WayGiven Normal);
           frames = item-waits table from switch is-switch i ∷ sym frames-are i;
           depth = (config_in old).depth;
         }) in

@@ -5,11 +5,11 @@ use Rattle.c_typed.specs.declared.typed.Value.{roll-Value, roll-out-Value}
 use Rattle.c_typed.specs.declared.typed.Value.TheVariants as V
 use Rattle.c_typed.specs.Table.{Interned}
 use Rattle.c_typed.specs.Views.{value_in}
-use Rattle.c_meaning.specs.Values.{Scalar}
-use Rattle.c_meaning.specs.Store.{Around, give}
-use Rattle.c_steps.specs.Parts as parts
+use Rattle.ref_semantics.specs.Values.{Scalar}
+use Rattle.ref_semantics.specs.Store.{TypeEnvironment, give}
+use Rattle.ref_steps.specs.Parts as parts
 
-pub value_last : (around : Around) (table : Interned) (v : memory_value.Value) (a : Scalar)
+pub value_last : (around : TypeEnvironment) (table : Interned) (v : memory_value.Value) (a : Scalar)
     → ((place : _) (object : _) → v ≡ V.Read place object → ⊥)
     → ((place : _) (object : _) → v ≡ V.Decay place object → ⊥)
     → ((int_type : _) (value : _) → v ≡ V.Converted int_type value → ⊥)

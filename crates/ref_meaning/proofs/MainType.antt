@@ -8,7 +8,7 @@ use Rattle.c_typed.specs.declared.c_type.Parameters as numbers
 use Rattle.c_typed.specs.Types.{CType, CTypes, Integer, Function, NoTypes, same_type, same_types}
 use Rattle.c_typed.specs.Table.{Interned, type_in, types_in, IsSplit}
 use Rattle.c_typed.proofs.Grown.{integer_stands}
-use Rattle.c_meaning.specs.First.{main_type}
+use Rattle.ref_semantics.specs.First.{main_type}
 
 main-parts : (a : CType) (ps : CTypes) (x : CType) → x ≡ Integer I.Int → same_type (Function a ps) main_type ≡ (same_type a x && same_types ps NoTypes)
 main-parts a ps x e = ap (λ y. same_type a y && same_types ps NoTypes) (sym e)

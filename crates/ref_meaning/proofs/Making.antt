@@ -1,7 +1,7 @@
 -- A call of a function of the program is made.
 use Rattle.std.proofs.Common.{◌≡◌, ℕ, ◌<◌, Bool, true, false, not, List, [], ◌∷◌, length, slice_get, slice_index_or, Bor, codes, Some, None, option_map, refl, sym, ap, subst, ◌∙◌, arith}
 use Rattle.std.proofs.lemmas.Option.{slice_get_read, slice_get_within, same_Some}
-use Rattle.run_theory.specs.declared.ends.Pos.{Pos}
+use Rattle.text_place.specs.declared.place.Pos.{Pos}
 use Rattle.run_theory.specs.declared.ends.UbKind.TheVariants as Ub
 use Rattle.run_theory.specs.Runs as Runs
 use Rattle.c_typed.specs.declared.c_type.CType as number
@@ -10,13 +10,13 @@ use Rattle.c_typed.specs.Types.{CType, same_type}
 use Rattle.c_typed.specs.Typed.{FunctionDef}
 use Rattle.c_typed.specs.Table.{Stands, type_in}
 use Rattle.c_typed.specs.DefinitionViews.{function_in, FunctionStands}
-use Rattle.c_meaning.specs.Values.{Scalar, NullValue, FunctionValue}
-use Rattle.c_meaning.specs.Store.{Eval, State, give, unless, premise}
-use Rattle.c_meaning.specs.Meaning.{function_from}
-use Rattle.c_meaning.specs.First.{main_type}
-use Rattle.c_steps.specs.Steps as steps
-use Rattle.c_steps.specs.Steps.{Config}
-use Rattle.c_steps.specs.Units as units
+use Rattle.ref_semantics.specs.Values.{Scalar, NullValue, FunctionValue}
+use Rattle.ref_semantics.specs.Store.{Eval, State, give, unless, premise}
+use Rattle.ref_semantics.specs.Meaning.{function_from}
+use Rattle.ref_semantics.specs.First.{main_type}
+use Rattle.ref_steps.specs.Steps as steps
+use Rattle.ref_steps.specs.Steps.{Config}
+use Rattle.ref_steps.specs.Units as units
 use Rattle.ref_store.specs.declared.value.Scalar as memory_scalar
 use Rattle.ref_store.specs.declared.value.Scalar.TheVariants as M
 use Rattle.ref_store.specs.Views.{scalar_in}

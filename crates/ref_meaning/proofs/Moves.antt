@@ -1,22 +1,22 @@
 -- How a run moves.
 use Rattle.std.proofs.Common.{◌≡◌, ℕ, ◌-◌, ◌≤◌, List, [], ◌∷◌, Result, Err, Ok, IsOk, OnOk, OnErr, IfErr, length, take, drop, reverse, refl, sym, ap, ap₂, subst, ◌∙◌, true≢false, take-take, bytes_eq, option_map, codes}
 use Rattle.indexmap.specs.IndexMap.{get_by}
-use Rattle.run_theory.specs.declared.ends.Pos.{Pos}
+use Rattle.text_place.specs.declared.place.Pos.{Pos}
 use Rattle.run_theory.specs.declared.ends.UbKind.{UbKind}
 use Rattle.run_theory.specs.Runs as Runs
 use Rattle.c_typed.specs.Table.{Interned}
 use Rattle.c_typed.specs.DefinitionViews.{program_of, ProgramStands}
-use Rattle.c_meaning.specs.Store.{State, Eval, ◌>>=◌, continue_with, give}
-use Rattle.c_meaning.specs.Meaning.{greatest_depth, function_from}
-use Rattle.c_meaning.specs.First.{around_of}
-use Rattle.c_steps.specs.Parts.{Part}
-use Rattle.c_steps.specs.Steps as steps
-use Rattle.c_steps.specs.Steps.{Config, Frame}
+use Rattle.ref_semantics.specs.Store.{State, Eval, ◌>>=◌, continue_with, give}
+use Rattle.ref_semantics.specs.Meaning.{greatest_depth, function_from}
+use Rattle.ref_semantics.specs.First.{around_of}
+use Rattle.ref_steps.specs.Parts.{Part}
+use Rattle.ref_steps.specs.Steps as steps
+use Rattle.ref_steps.specs.Steps.{Config, Frame}
 use Rattle.ref_store.specs.declared.value.Scalar as memory_scalar
 use Rattle.ref_store.specs.declared.value.Stop.{Stop}
 use Rattle.ref_store.specs.declared.value.Stop.TheVariants as T
 use Rattle.ref_store.specs.declared.store.Store.{Store}
-use Rattle.ref_store.specs.Holding.{At, left, Comes, Gives, IsUndefined}
+use Rattle.ref_store.specs.Holding.{At, left, Comes, CallGives, IsUndefined}
 use Rattle.ref_store.proofs.Giving.{does-bind}
 use Rattle.ref_meaning.specs.declared.control.Control.{Control}
 use Rattle.ref_meaning.specs.declared.control.Frame as memory_frame
@@ -259,7 +259,7 @@ alters-stays old new alters holds keeps = record {
 
 -- what `?` hands on of a call on the store
 pub stops : {A B : Type 0} (C : Type 0) (old : RefRun) (mid : Store) (view : B → A) (first : Eval A) (next : A → Eval Config) (stop : Stop) → mid.types ≡ old.store.types → mid.locals ≡ old.store.locals → Holds old
-    → Gives (around_run old) old.store mid old.base view first (Err stop) → Moves {A = C} old (record old { store = mid }) (first >>= next) (Err (halt_of stop))
+    → CallGives (around_run old) old.store mid old.base view first (Err stop) → Moves {A = C} old (record old { store = mid }) (first >>= next) (Err (halt_of stop))
 stops C old mid view first next (T.Undefined kind place) types locals holds gives = λ state at. over-first first next state kind place (gives state at)
 stops C old mid view first next T.OutOfMemory types locals holds gives =
     alters-stays old (record old { store = mid })

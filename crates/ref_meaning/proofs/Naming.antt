@@ -4,11 +4,11 @@ use Rattle.c_typed.specs.declared.typed.Value as memory_value
 use Rattle.c_typed.specs.declared.typed.Value.TheVariants as V
 use Rattle.c_typed.specs.Typed.{FunctionDef}
 use Rattle.c_typed.specs.Table.{Interned}
-use Rattle.c_meaning.specs.Store.{Around, Eval, give}
-use Rattle.c_meaning.specs.Values.{Scalar}
-use Rattle.c_steps.specs.Steps as steps
-use Rattle.c_steps.specs.Steps.{Config}
-use Rattle.c_steps.specs.Units as units
+use Rattle.ref_semantics.specs.Store.{TypeEnvironment, Eval, give}
+use Rattle.ref_semantics.specs.Values.{Scalar}
+use Rattle.ref_steps.specs.Steps as steps
+use Rattle.ref_steps.specs.Steps.{Config}
+use Rattle.ref_steps.specs.Units as units
 use Rattle.ref_store.specs.declared.value.Scalar.TheVariants as M
 use Rattle.ref_store.specs.Views.{scalar_in}
 use Rattle.ref_meaning.specs.declared.control.Control.{Control}
@@ -28,7 +28,7 @@ use Rattle.ref_meaning.proofs.Moves.{memory-moves}
 use Rattle.ref_meaning.proofs.Arguments.{goes-arrives}
 
 -- no parentheses are left
-named-last : (table : Interned) (call : memory_node.Node) (a : Scalar) (around : Around) (functions : List FunctionDef) (config : Config) → IsLibraryCall call
+named-last : (table : Interned) (call : memory_node.Node) (a : Scalar) (around : TypeEnvironment) (functions : List FunctionDef) (config : Config) → IsLibraryCall call
     → units.act around functions (named_call (part_in table call) 0) config ≡ give (steps.next_argument around functions (callee_of (value_of (part_in table call)) a) [] (arguments_in table call 0) config)
 named-last table (N.Value v) a around functions config library = by v.now library
   where

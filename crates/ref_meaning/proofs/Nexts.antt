@@ -4,28 +4,28 @@ use Rattle.c_typed.specs.declared.typed.Value as memory_value
 use Rattle.c_typed.specs.declared.typed.Object as memory_object
 use Rattle.c_typed.specs.Table.{Interned}
 use Rattle.c_typed.specs.Views.{value_in, object_in}
-use Rattle.c_meaning.specs.Values.{Scalar, Place, PointerValue}
-use Rattle.c_meaning.specs.Store.{Around, State, Eval, Then, ◌>>=◌, give}
-use Rattle.c_steps.specs.Parts as parts
+use Rattle.ref_semantics.specs.Values.{Scalar, Place, PointerValue}
+use Rattle.ref_semantics.specs.Store.{TypeEnvironment, State, Eval, Then, ◌>>=◌, give}
+use Rattle.ref_steps.specs.Parts as parts
 use Rattle.ref_store.specs.declared.store.Store.{Store}
 use Rattle.ref_store.specs.declared.value.Stop.{Stop}
 use Rattle.ref_store.specs.declared.value.Stop.TheVariants as T
 use Rattle.ref_store.specs.declared.value.Place as memory_place
 use Rattle.ref_store.specs.declared.value.Scalar as memory_scalar
 use Rattle.ref_store.specs.Views.{place_in, scalar_in, ScalarStands}
-use Rattle.ref_store.specs.Holding.{At, Gives, Comes, left}
+use Rattle.ref_store.specs.Holding.{At, CallGives, Comes, left}
 use Rattle.ref_store.proofs.Giving.{comes-bind, comes-same, undefined-behind, undefined-first}
 use Rattle.ref_meaning.specs.declared.first.Next as memory_next
 use Rattle.ref_meaning.specs.Doing.{next_in, NextStands}
 use Rattle.ref_meaning.specs.Nexts.{scalar_next, place_next}
 
-module _ (around : Around) (base : ℕ) where
+module _ (around : TypeEnvironment) (base : ℕ) where
   -- ---- one call behind another
 
   -- one call behind another that leaves the store as it is
   pub gives-behind : {A C D : Type 0} (old new : Store) (view : D → C) (first : Eval A) (next : A → Eval C) (a : A) (r : Result D Stop)
-      → ((state : State) → At around old base state → Comes around old base first state a) → Gives around old new base view (next a) r
-      → Gives around old new base view (first >>= next) r
+      → ((state : State) → At around old base state → Comes around old base first state a) → CallGives around old new base view (next a) r
+      → CallGives around old new base view (first >>= next) r
   gives-behind old new view first next a (Ok value) one two = λ state at.
       let c = one state at in
       comes-bind around old new base first next state a (view value) c (two c.after c.at)
@@ -36,7 +36,7 @@ module _ (around : Around) (base : ℕ) where
 
   -- the first of two stops
   pub gives-first : {A C D E : Type 0} (old new : Store) (view : E → A) (view' : D → C) (first : Eval A) (next : A → Eval C) (stop : Stop)
-      → Gives {A = A} {B = E} around old new base view first (Err stop) → Gives {A = C} {B = D} around old new base view' (first >>= next) (Err stop)
+      → CallGives {A = A} {B = E} around old new base view first (Err stop) → CallGives {A = C} {B = D} around old new base view' (first >>= next) (Err stop)
   gives-first old new view view' first next (T.Undefined kind place) h = λ state at. undefined-first first next state kind place (h state at)
   gives-first old new view view' first next T.OutOfMemory h = h
 
@@ -50,73 +50,73 @@ module _ (around : Around) (base : ℕ) where
 
   -- ---- what is next
 
-  pub gives-scalar : (old new : Store) (table : Interned) (eval : Eval Scalar) (r : Result memory_scalar.Scalar Stop) → Gives around old new base (scalar_in table) eval r
-      → Gives around old new base (next_in table) (parts.comes eval) (scalar_next r)
+  pub gives-scalar : (old new : Store) (table : Interned) (eval : Eval Scalar) (r : Result memory_scalar.Scalar Stop) → CallGives around old new base (scalar_in table) eval r
+      → CallGives around old new base (next_in table) (parts.comes eval) (scalar_next r)
   gives-scalar old new table eval (Ok a) h = comes-then old new eval (λ x. parts.Comes x) (scalar_in table a) (parts.Comes (scalar_in table a)) refl h
   gives-scalar old new table eval (Err stop) h = gives-first old new (scalar_in table) (next_in table) eval (λ x. give (parts.Comes x)) stop h
 
-  pub gives-place : (old new : Store) (table : Interned) (eval : Eval Place) (r : Result memory_place.Place Stop) → Gives around old new base (place_in table) eval r
-      → Gives around old new base (next_in table) (eval >>= λ p. give (parts.Comes (PointerValue p))) (place_next r)
+  pub gives-place : (old new : Store) (table : Interned) (eval : Eval Place) (r : Result memory_place.Place Stop) → CallGives around old new base (place_in table) eval r
+      → CallGives around old new base (next_in table) (eval >>= λ p. give (parts.Comes (PointerValue p))) (place_next r)
   gives-place old new table eval (Ok p) h = comes-then old new eval (λ x. parts.Comes (PointerValue x)) (place_in table p) (parts.Comes (PointerValue (place_in table p))) refl h
   gives-place old new table eval (Err stop) h = gives-first old new (place_in table) (next_in table) eval (λ p. give (parts.Comes (PointerValue p))) stop h
 
   -- a place that is known where the program is
   pub gives-found : (store : Store) (target : Place) (r : Result memory_place.Place Stop)
       → ((state : State) → At around store base state → IfOk r (λ p. place_in store.types.now p ≡ target)) → IfErr r (λ e. e ≡ T.OutOfMemory)
-      → Gives around store store base (next_in store.types.now) (give (parts.Comes (PointerValue target))) (place_next r)
+      → CallGives around store store base (next_in store.types.now) (give (parts.Comes (PointerValue target))) (place_next r)
   gives-found store target (Ok p) found only = λ state at.
       comes-same around store base (give (parts.Comes (PointerValue target))) state (parts.Comes (PointerValue (place_in store.types.now p)))
       (λ units input. ap (λ q. Then (parts.Comes (PointerValue q)) (left units input state)) (sym (found state at))) at
   gives-found store target (Err stop) found only =
-      subst (λ (e : Stop). Gives around store store base (next_in store.types.now) (give (parts.Comes (PointerValue target))) (Err e)) (sym only) (λ state at. at)
+      subst (λ (e : Stop). CallGives around store store base (next_in store.types.now) (give (parts.Comes (PointerValue target))) (Err e)) (sym only) (λ state at. at)
 
   -- what changes nothing
   pub gives-next : (store : Store) (eval : Eval parts.Next) (next : memory_next.Next) → eval ≡ give (next_in store.types.now next)
-      → Gives around store store base (next_in store.types.now) eval (Ok next)
+      → CallGives around store store base (next_in store.types.now) eval (Ok next)
   gives-next store eval next is = λ state at.
       comes-same around store base eval state (next_in store.types.now next) (λ units input. ap (λ e. e (left units input state)) is) at
 
   pub gives-is : {A B : Type 0} (old new : Store) (view : B → A) (eval eval' : Eval A) (r r' : Result B Stop) → eval' ≡ eval → r' ≡ r
-      → Gives around old new base view eval r → Gives around old new base view eval' r'
+      → CallGives around old new base view eval r → CallGives around old new base view eval' r'
   gives-is old new view eval eval' r r' same is h =
-      subst (λ x. Gives around old new base view eval' x) (sym is) (subst (λ e. Gives around old new base view e r) (sym same) h)
+      subst (λ x. CallGives around old new base view eval' x) (sym is) (subst (λ e. CallGives around old new base view e r) (sym same) h)
 
 -- ---- what an operator does, by its form
 
-module _ (around : Around) (base : ℕ) (store : Store) (a : memory_scalar.Scalar) where
+module _ (around : TypeEnvironment) (base : ℕ) (store : Store) (a : memory_scalar.Scalar) where
   abbrev pub table : Interned
   table = store.types.now
 
   module _ {F : Type 0} (nexts : F → Eval parts.Next) (v w : F) (is : v ≡ w) where
-    pub form-next : (next : memory_next.Next) → nexts w ≡ give (next_in table next) → Gives around store store base (next_in table) (nexts v) (Ok next)
+    pub form-next : (next : memory_next.Next) → nexts w ≡ give (next_in table next) → CallGives around store store base (next_in table) (nexts v) (Ok next)
     form-next next same = gives-next around base store (nexts v) next (ap nexts is ∙ same)
 
     pub form-scalar : (new : Store) (eval : Eval Scalar) (r : Result memory_scalar.Scalar Stop) (r' : Result memory_next.Next Stop) → nexts w ≡ parts.comes eval → r' ≡ scalar_next r
-        → Gives around store new base (scalar_in table) eval r → Gives around store new base (next_in table) (nexts v) r'
+        → CallGives around store new base (scalar_in table) eval r → CallGives around store new base (next_in table) (nexts v) r'
     form-scalar new eval r r' same result h =
         gives-is around base store new (next_in table) (parts.comes eval) (nexts v) (scalar_next r) r' (ap nexts is ∙ same) result (gives-scalar around base store new table eval r h)
 
     pub form-place : (eval : Eval Place) (r : Result memory_place.Place Stop) (r' : Result memory_next.Next Stop) → nexts w ≡ (eval >>= λ p. give (parts.Comes (PointerValue p))) → r' ≡ place_next r
-        → Gives around store store base (place_in table) eval r → Gives around store store base (next_in table) (nexts v) r'
+        → CallGives around store store base (place_in table) eval r → CallGives around store store base (next_in table) (nexts v) r'
     form-place eval r r' same result h =
         gives-is around base store store (next_in table) (eval >>= λ p. give (parts.Comes (PointerValue p))) (nexts v) (place_next r) r' (ap nexts is ∙ same) result
         (gives-place around base store store table eval r h)
 
     pub form-found : (target : Place) (r : Result memory_place.Place Stop) (r' : Result memory_next.Next Stop) → nexts w ≡ give (parts.Comes (PointerValue target)) → r' ≡ place_next r
         → ((state : State) → At around store base state → IfOk r (λ p. place_in table p ≡ target)) → IfErr r (λ e. e ≡ T.OutOfMemory)
-        → Gives around store store base (next_in table) (nexts v) r'
+        → CallGives around store store base (next_in table) (nexts v) r'
     form-found target r r' same result found only =
         gives-is around base store store (next_in table) (give (parts.Comes (PointerValue target))) (nexts v) (place_next r) r' (ap nexts is ∙ same) result
         (gives-found around base store target r found only)
 
     pub form-behind : {A : Type 0} (first : Eval A) (next : A → Eval parts.Next) (x : A) (r : Result memory_next.Next Stop) → nexts w ≡ (first >>= next)
-        → ((state : State) → At around store base state → Comes around store base first state x) → Gives around store store base (next_in table) (next x) r
-        → Gives around store store base (next_in table) (nexts v) r
+        → ((state : State) → At around store base state → Comes around store base first state x) → CallGives around store store base (next_in table) (next x) r
+        → CallGives around store store base (next_in table) (nexts v) r
     form-behind first next x r same one two =
         gives-is around base store store (next_in table) (first >>= next) (nexts v) r r (ap nexts is ∙ same) refl (gives-behind around base store store (next_in table) first next x r one two)
 
     pub form-first : {A E : Type 0} (view : E → A) (first : Eval A) (next : A → Eval parts.Next) (stop : Stop) → nexts w ≡ (first >>= next)
-        → Gives {A = A} {B = E} around store store base view first (Err stop) → Gives {A = parts.Next} {B = memory_next.Next} around store store base (next_in table) (nexts v) (Err stop)
+        → CallGives {A = A} {B = E} around store store base view first (Err stop) → CallGives {A = parts.Next} {B = memory_next.Next} around store store base (next_in table) (nexts v) (Err stop)
     form-first view first next stop same h =
         gives-is around base store store (next_in table) (first >>= next) (nexts v) (Err stop) (Err stop) (ap nexts is ∙ same) refl (gives-first around base store store view (next_in table) first next stop h)
 

@@ -6,18 +6,18 @@ use Rattle.c_typed.specs.Typed as T
 use Rattle.c_typed.specs.Typed.{SwitchItems}
 use Rattle.c_typed.specs.Table.{Interned}
 use Rattle.c_typed.specs.Views.{value_in, values_in, ValueStands, ValuesStand}
-use Rattle.c_typed.specs.StatementViews.{stmt_in, local_in, block_in, switch_in, StmtStands, LocalStands, LocalsStand, BlockStands, SwitchStands, BlockRowStands, SwitchRowStands}
+use Rattle.c_typed.specs.StatementViews.{stmt_in, local_in, block_in, switch_in, StmtStands, LocalStands, LocalsStand, BlockStands, SwitchStands}
 use Rattle.c_typed.specs.declared.typed.Value as memory_value
 use Rattle.c_typed.specs.declared.statement.LocalDef as memory_local
 use Rattle.c_typed.specs.declared.statement.Stmt as memory_stmt
 use Rattle.c_typed.specs.declared.statement.Stmt.TheVariants as S
 use Rattle.c_typed.specs.declared.statement.BlockItem as memory_item
 use Rattle.c_typed.specs.declared.statement.BlockItem.TheVariants as B
-use Rattle.c_typed.specs.declared.statement.BlockItem.TheBlock.{hidden-the_row-BlockItem-0, items_hidden-the_row-BlockItem-0, hidden-the_row-SwitchItem-1, items_hidden-the_row-SwitchItem-1, items-the_row-BlockItem, items-the_row-SwitchItem}
 use Rattle.c_typed.specs.declared.statement.SwitchItem as memory_switch
 use Rattle.c_typed.specs.declared.statement.SwitchItem.TheVariants as W
+use Rattle.c_typed.proofs.StatementItems.{block-items, switch-items}
 use Rattle.c_typed.proofs.StatementsStay.{stmt_in-block, stmt_in-switch}
-use Rattle.c_steps.specs.Parts.{StmtPart}
+use Rattle.ref_steps.specs.Parts.{StmtPart}
 use Rattle.ref_meaning.specs.Views.{arguments_from, items_from, case_items_from, case_items_of}
 use Rattle.ref_meaning.specs.Items.{block_of, ThisItem, ThisCaseItem, ItemIs, CaseItemIs, StartLocalIs}
 
@@ -82,20 +82,12 @@ module _ (table : Interned) where
   item-found items xs number (Some item) same h small stands =
       (item-there items number item.now (subst (λ ys. slice_get ys number ≡ Some item.now) same (found-there xs number item h)) stands, omega (arith, found-within xs number item h, small))
 
-  block_row-items : (shape : _) (row : memory_stmt.Row_of-BlockItem shape) → BlockRowStands table row → BlockStands table (items-the_row-BlockItem shape row)
-  block_row-items shape memory_stmt.end_of-BlockItem h = tt
-  block_row-items shape (memory_stmt.more_of-BlockItem (B.Local local) others) h = (h.0, block_row-items _ others h.1)
-  block_row-items shape (memory_stmt.more_of-BlockItem (B.Statement stmt) others) h = (h.0, block_row-items _ others h.1)
-
-  pub block-items : (items : Vec memory_item.BlockItem Global) → StmtStands table (S.Block items) → BlockStands table items.items
-  block-items items h = subst (BlockStands table) (items_hidden-the_row-BlockItem-0 items) (block_row-items _ (hidden-the_row-BlockItem-0 items) h)
-
   -- those of a block in memory
   pub block-found : (s : memory_stmt.Stmt) (items : Vec memory_item.BlockItem Global) (xs : List memory_item.BlockItem) (number : ℕ) (r : Option (Bor memory_item.BlockItem)) → s ≡ S.Block items
       → xs ≡ items.items → IsItemAt xs number r → length xs < 2 ^ 64 → StmtStands table s → ItemIs table number (block_of (StmtPart (stmt_in table s))) r
   block-found s items xs number r is same h small stands =
       subst (λ x. ItemIs table number (block_of (StmtPart x)) r) (sym (ap (stmt_in table) is ∙ stmt_in-block table items))
-      (item-found items.items xs number r same h small (block-items items (subst (StmtStands table) is stands)))
+      (item-found items.items xs number r same h small (block-items table items (subst (StmtStands table) is stands)))
 
   -- ---- items of a `switch`
 
@@ -140,21 +132,12 @@ module _ (table : Interned) where
   cases-found items xs number (Some item) same h small stands =
       (case-there items number item.now (subst (λ ys. slice_get ys number ≡ Some item.now) same (found-there xs number item h)) stands, omega (arith, found-within xs number item h, small))
 
-  switch_row-items : (shape : _) (row : memory_stmt.Row_of-SwitchItem shape) → SwitchRowStands table row → SwitchStands table (items-the_row-SwitchItem shape row)
-  switch_row-items shape memory_stmt.end_of-SwitchItem h = tt
-  switch_row-items shape (memory_stmt.more_of-SwitchItem (W.Case label) others) h = switch_row-items _ others h
-  switch_row-items shape (memory_stmt.more_of-SwitchItem W.Default others) h = switch_row-items _ others h
-  switch_row-items shape (memory_stmt.more_of-SwitchItem (W.Statement stmt) others) h = (h.0, switch_row-items _ others h.1)
-
-  pub switch-items : (value : memory_value.Value) (items : Vec memory_switch.SwitchItem Global) → StmtStands table (S.Switch value items) → SwitchStands table items.items
-  switch-items value items h = subst (SwitchStands table) (items_hidden-the_row-SwitchItem-1 items) (switch_row-items _ (hidden-the_row-SwitchItem-1 items) h.1)
-
   -- those of a `switch` in memory
   pub switch-found : (s : memory_stmt.Stmt) (value : memory_value.Value) (items : Vec memory_switch.SwitchItem Global) (xs : List memory_switch.SwitchItem) (number : ℕ) (r : Option (Bor memory_switch.SwitchItem))
       → s ≡ S.Switch value items → xs ≡ items.items → IsItemAt xs number r → length xs < 2 ^ 64 → StmtStands table s → CaseItemIs table number (case_items_of (stmt_in table s)) r
   switch-found s value items xs number r is same h small stands =
       subst (λ x. CaseItemIs table number (case_items_of x) r) (sym (ap (stmt_in table) is ∙ stmt_in-switch table value items))
-      (cases-found items.items xs number r same h small (switch-items value items (subst (StmtStands table) is stands)))
+      (cases-found items.items xs number r same h small (switch-items table value items (subst (StmtStands table) is stands)))
 
   -- ---- locals of a `for`
 

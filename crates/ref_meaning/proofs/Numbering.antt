@@ -9,7 +9,7 @@ use Rattle.indexmap.specs.IndexMap.{IndexMap, insert_entry}
 use Rattle.c_typed.specs.declared.definition.FunctionDef as memory
 use Rattle.c_typed.specs.Table.{Interned}
 use Rattle.c_typed.specs.DefinitionViews.{function_in}
-use Rattle.c_meaning.specs.Meaning.{function_from}
+use Rattle.ref_semantics.specs.Meaning.{function_from}
 use Rattle.ref_meaning.specs.Numbers.{number_from, HasNumbers}
 
 -- ---- names

@@ -6,13 +6,13 @@ use Rattle.std.specs.Result.{IsErrAnd}
 use Rattle.c_typed.specs.declared.c_type.CType as memory_type
 use Rattle.c_typed.specs.Typed.{FunctionDef}
 use Rattle.c_typed.specs.Table.{Interned, type_in}
-use Rattle.c_meaning.specs.Values.{Scalar}
-use Rattle.c_meaning.specs.Store.{Eval, State, give}
-use Rattle.c_meaning.specs.Meaning.{Onward}
-use Rattle.c_steps.specs.Parts.{BodyPart}
-use Rattle.c_steps.specs.Steps as steps
-use Rattle.c_steps.specs.Steps.{Config}
-use Rattle.c_steps.specs.Units as units
+use Rattle.ref_semantics.specs.Values.{Scalar}
+use Rattle.ref_semantics.specs.Store.{Eval, State, give}
+use Rattle.ref_semantics.specs.Meaning.{Normal}
+use Rattle.ref_steps.specs.Parts.{BodyPart}
+use Rattle.ref_steps.specs.Steps as steps
+use Rattle.ref_steps.specs.Steps.{Config}
+use Rattle.ref_steps.specs.Units as units
 use Rattle.ref_store.specs.declared.value.Scalar as memory_scalar
 use Rattle.ref_store.specs.declared.store.Store.{Store}
 use Rattle.ref_store.specs.Views.{scalar_in, ScalarStands}
@@ -152,7 +152,7 @@ module _ (old : RefRun) (node : memory_node.Node) (count number : ℕ) (is : old
       (operand : drop number (newest (table_of old) count (operands_of old)) ≡ scalar_in (table_of old) value ∷ drop (suc number) (newest (table_of old) count (operands_of old)))
       (types : mid.types ≡ old.store.types) (locals : mid.locals.items ≡ old.store.locals.items ++ local ∷ [])
       (becomes : Becomes (record old { store = mid }) new (record { node = node; task = K.Bind count (number + 1) }) (stack_of old))
-      (comes : (state : State) → At (around_run old) old.store old.base state → Comes (around_run old) mid old.base (new_local_of (around_run old) (type_in (table_of old) c_type) (scalar_in (table_of old) value)) state Onward) where
+      (comes : (state : State) → At (around_run old) old.store old.base state → Comes (around_run old) mid old.base (new_local_of (around_run old) (type_in (table_of old) c_type) (scalar_in (table_of old) value)) state Normal) where
     abbrev next : Control
     next = record { node = node; task = K.Bind count (number + 1) }
 
@@ -186,7 +186,7 @@ module _ (old : RefRun) (node : memory_node.Node) (count number : ℕ) (is : old
     binds state at =
         subst (λ eval. Arrives new eval state)
         (sym (acting-bind ∙ (λ i. steps.bind_next (around_run old) (functions_of old) bound (drop-there bound.parameters number (type_in (table_of old) c_type) parameter i) (operand i) (config_in old))))
-        (arrives-behind old new mid (new_local_of (around_run old) (type_in (table_of old) c_type) (scalar_in (table_of old) value)) (λ way. give bound_next) Onward state alters.kept becomes.store becomes.base
+        (arrives-behind old new mid (new_local_of (around_run old) (type_in (table_of old) c_type) (scalar_in (table_of old) value)) (λ way. give bound_next) Normal state alters.kept becomes.store becomes.base
         (ap give (sym config-bound)) new-holds (comes state at))
 
 -- memory runs out as one gets its value

@@ -8,12 +8,12 @@ use Rattle.c_typed.specs.declared.typed.Value as memory_value
 use Rattle.c_typed.specs.Table.{Interned}
 use Rattle.c_typed.specs.Typed.{Stmt}
 use Rattle.c_typed.specs.StatementViews.{stmt_in, StmtStands}
-use Rattle.c_meaning.specs.Store.{State, give}
-use Rattle.c_meaning.specs.Values.{Scalar}
-use Rattle.c_meaning.specs.Meaning.{is_true}
-use Rattle.c_steps.specs.Parts.{StmtPart}
-use Rattle.c_steps.specs.Steps as steps
-use Rattle.c_steps.specs.Steps.{ScalarGiven}
+use Rattle.ref_semantics.specs.Store.{State, give}
+use Rattle.ref_semantics.specs.Values.{Scalar}
+use Rattle.ref_semantics.specs.Meaning.{is_true}
+use Rattle.ref_steps.specs.Parts.{StmtPart}
+use Rattle.ref_steps.specs.Steps as steps
+use Rattle.ref_steps.specs.Steps.{ScalarGiven}
 use Rattle.ref_store.specs.Holding.{At}
 use Rattle.ref_meaning.specs.declared.control.Control.{Control}
 use Rattle.ref_meaning.specs.declared.control.Node as memory_node

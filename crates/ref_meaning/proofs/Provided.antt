@@ -3,23 +3,23 @@ use Rattle.std.proofs.Common.{◌≡◌, ℕ, zero, suc, ◌≤◌, ◌<◌, Lis
 use Rattle.std.proofs.lemmas.List.{length-reverse}
 use Rattle.std.proofs.lemmas.Option.{none-some, same_Some}
 use Rattle.std.specs.Result.{IsErrAnd}
-use Rattle.run_theory.specs.declared.ends.Pos.{Pos}
+use Rattle.text_place.specs.declared.place.Pos.{Pos}
 use Rattle.run_theory.specs.Runs.{Output, output_of}
 use Rattle.run_theory.proofs.Traces.{output_of-append}
 use Rattle.pcc_outside.specs.Outside.{Adds}
 use Rattle.c_typed.specs.declared.typed.LibraryFunction.{LibraryFunction}
 use Rattle.c_typed.specs.declared.typed.LibraryFunction.TheVariants as L
 use Rattle.c_typed.specs.Table.{Interned}
-use Rattle.c_meaning.specs.Values.{Scalar, IntegerValue, NullValue}
-use Rattle.c_meaning.specs.Store.{Around, State, Then, Eval, give}
-use Rattle.c_meaning.specs.Library.{next_byte, written, library}
+use Rattle.ref_semantics.specs.Values.{Scalar, IntegerValue, NullValue}
+use Rattle.ref_semantics.specs.Store.{TypeEnvironment, State, Then, Eval, give}
+use Rattle.ref_semantics.specs.Library.{next_byte, written, library}
 use Rattle.ref_store.specs.declared.store.Store.{Store}
 use Rattle.ref_store.specs.declared.value.Scalar as memory_scalar
 use Rattle.ref_store.specs.declared.value.Scalar.TheVariants as M
 use Rattle.ref_store.specs.declared.value.Stop.{Stop}
 use Rattle.ref_store.specs.declared.value.Stop.TheVariants as T
 use Rattle.ref_store.specs.Views.{scalar_in}
-use Rattle.ref_store.specs.Holding.{At, Gives, left}
+use Rattle.ref_store.specs.Holding.{At, CallGives, left}
 use Rattle.ref_meaning.specs.declared.run.RefRun.{RefRun}
 use Rattle.ref_meaning.specs.declared.run.Halt.{Halt}
 use Rattle.ref_meaning.specs.Views.{table_of, around_run, newest}
@@ -63,7 +63,7 @@ null-evaluates old eval is_left told is =
 
 -- a call on the store
 pub gives-evaluates : {B : Type 0} (old : RefRun) (mid : Store) (view : B → Scalar) (eval : Eval Scalar) (is_left told : Option (List ℕ)) (done : B) (value : memory_scalar.Scalar) → view done ≡ scalar_in (table_of old) value
-    → Gives (around_run old) old.store mid old.base view eval (Ok done) → Evaluates old (record old { store = mid }) eval (Ok value) is_left told is_left told
+    → CallGives (around_run old) old.store mid old.base view eval (Ok done) → Evaluates old (record old { store = mid }) eval (Ok value) is_left told is_left told
 gives-evaluates old mid view eval is_left told done value is gives = λ base input state at so.
     let comes = gives state at in
     record {
@@ -74,16 +74,16 @@ gives-evaluates old mid view eval is_left told done value is gives = λ base inp
       told = told-still base input state comes.after is_left told so comes.quiet;
     }
 
-pub gives-remains : {B : Type 0} (old : RefRun) (mid : Store) (view : B → Scalar) (eval : Eval Scalar) (done : B) → Gives (around_run old) old.store mid old.base view eval (Ok done) → Remains old (record old { store = mid })
+pub gives-remains : {B : Type 0} (old : RefRun) (mid : Store) (view : B → Scalar) (eval : Eval Scalar) (done : B) → CallGives (around_run old) old.store mid old.base view eval (Ok done) → Remains old (record old { store = mid })
 gives-remains old mid view eval done gives = λ state at. ((gives state at).after, (gives state at).at)
 
 pub stops-evaluates : {B : Type 0} (old : RefRun) (mid : Store) (view : B → Scalar) (eval : Eval Scalar) (is_left told : Option (List ℕ)) (stop : Stop) (result : Result memory_scalar.Scalar Halt) → IsErrAnd result (λ e. e ≡ halt_of stop)
-    → Gives (around_run old) old.store mid old.base view eval (Err stop) → Evaluates old (record old { store = mid }) eval result is_left told is_left told
+    → CallGives (around_run old) old.store mid old.base view eval (Err stop) → Evaluates old (record old { store = mid }) eval result is_left told is_left told
 stops-evaluates old mid view eval is_left told stop (Ok value) same gives = absurd same
 stops-evaluates {B = B} old mid view eval is_left told stop (Err halt) same gives =
     subst (λ (h : Halt). Evaluates old (record old { store = mid }) eval (Err h) is_left told is_left told) (sym same) (by stop gives)
   where
-    by : (s : Stop) → Gives {B = B} (around_run old) old.store mid old.base view eval (Err s) → Evaluates old (record old { store = mid }) eval (Err (halt_of s)) is_left told is_left told
+    by : (s : Stop) → CallGives {B = B} (around_run old) old.store mid old.base view eval (Err s) → Evaluates old (record old { store = mid }) eval (Err (halt_of s)) is_left told is_left told
     by (T.Undefined kind place) gives = λ base input state at so.
         let is = gives state at in
         record { there = is.there; rest = input; is = λ units. is.is units input; told = told-still base input state is.there is_left told so is.quiet }
@@ -124,7 +124,7 @@ next-evaluates old read value is_left is_left' told is next = λ base input stat
 
 -- ---- without an only argument
 
-pub without-null : (around : Around) (function : LibraryFunction) (here : Pos) (given : List Scalar) → (function ≡ L.GetChar → ⊥) → only_of given ≡ None → library around function here given ≡ give NullValue
+pub without-null : (around : TypeEnvironment) (function : LibraryFunction) (here : Pos) (given : List Scalar) → (function ≡ L.GetChar → ⊥) → only_of given ≡ None → library around function here given ≡ give NullValue
 without-null around L.Malloc here [] other none = refl
 without-null around L.Malloc here (a ∷ []) other none = absurd (none-some a (sym none))
 without-null around L.Malloc here (a ∷ (b ∷ others)) other none = refl
@@ -139,10 +139,10 @@ without-null around L.Exit here (a ∷ []) other none = absurd (none-some a (sym
 without-null around L.Exit here (a ∷ (b ∷ others)) other none = refl
 without-null around L.GetChar here given other none = absurd (other refl)
 
-pub several-null : (around : Around) (here : Pos) (given : List Scalar) → 0 < length given → library around L.GetChar here given ≡ give NullValue
+pub several-null : (around : TypeEnvironment) (here : Pos) (given : List Scalar) → 0 < length given → library around L.GetChar here given ≡ give NullValue
 several-null around here [] some = absurd (omega (arith, some))
 several-null around here (a ∷ others) some = refl
 
-pub none-next : (around : Around) (here : Pos) (given : List Scalar) → length given ≡ 0 → library around L.GetChar here given ≡ next_byte
+pub none-next : (around : TypeEnvironment) (here : Pos) (given : List Scalar) → length given ≡ 0 → library around L.GetChar here given ≡ next_byte
 none-next around here [] none = refl
 none-next around here (a ∷ others) none = absurd (omega (arith, none))

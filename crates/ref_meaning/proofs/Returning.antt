@@ -1,18 +1,18 @@
 -- A function returns.
 use Rattle.std.proofs.Common.{◌≡◌, ℕ, zero, suc, ◌-◌, ◌≤◌, Bool, true, false, ◌&&◌, not, if◌then◌else◌, nat_lt, List, [], ◌∷◌, ◌++◌, length, take, drop, reverse, Option, Some, None, IfSome, option_map, Bor, bytes_eq, codes, pos, refl, sym, ap, subst, ◌∙◌, arith, take-take, le-ltb}
 use Rattle.std.proofs.lemmas.List.{take-append-drop, length-take-le, reverse-reverse, append-nil}
-use Rattle.run_theory.specs.declared.ends.Pos.{Pos}
+use Rattle.text_place.specs.declared.place.Pos.{Pos}
 use Rattle.run_theory.specs.declared.ends.UbKind.TheVariants as Ub
 use Rattle.run_theory.specs.Runs as Runs
 use Rattle.c_typed.specs.declared.definition.FunctionDef as memory_function
 use Rattle.c_typed.specs.Types.{CType, Void, is_void, same_type}
 use Rattle.c_typed.specs.Table.{Interned, type_in}
 use Rattle.c_typed.proofs.Grown.{void_stands}
-use Rattle.c_meaning.specs.Values.{Scalar, NullValue, IntegerValue}
-use Rattle.c_meaning.specs.Store.{Around, Eval, State, Then, ◌>>=◌, give, happened, undefined, unless, premise}
-use Rattle.c_meaning.specs.Meaning.{greatest_depth, killed, kept, used_value, main_value, given_back}
-use Rattle.c_steps.specs.Steps as steps
-use Rattle.c_steps.specs.Steps.{Config}
+use Rattle.ref_semantics.specs.Values.{Scalar, NullValue, IntegerValue}
+use Rattle.ref_semantics.specs.Store.{TypeEnvironment, Eval, State, Then, ◌>>=◌, give, emit, undefined, unless, premise}
+use Rattle.ref_semantics.specs.Meaning.{greatest_depth, killed, kept, used_value, main_value, given_back}
+use Rattle.ref_steps.specs.Steps as steps
+use Rattle.ref_steps.specs.Steps.{Config}
 use Rattle.ref_store.specs.declared.value.Scalar as memory_scalar
 use Rattle.ref_store.specs.declared.value.Scalar.TheVariants as M
 use Rattle.ref_store.specs.declared.store.Store.{Store}
@@ -142,7 +142,7 @@ abbrev pub back : RefRun → ℕ → State → State
 back run base state = record state { trace = state.trace ++ (Runs.Returned ∷ []); objects = killed 0 state.locals state.objects; locals = own_locals base run.base run.store.locals.items }
 
 module _ (old : RefRun) (mid : Store) (base : ℕ) (room : base ≤ old.base)
-    (leaves : (around : Around) (base : ℕ) (state : State) → base ≤ old.base → At around old.store base state
+    (leaves : (around : TypeEnvironment) (base : ℕ) (state : State) → base ≤ old.base → At around old.store base state
     → At around mid base (record state { objects = killed (old.base - base) state.locals state.objects; locals = kept (old.base - base) state.locals }))
     (locals : take old.base mid.locals.items ≡ take old.base old.store.locals.items) where
   left-at : (state : State) → At (around_run old) old.store old.base state → At (around_run old) mid old.base (record state { objects = killed 0 state.locals state.objects; locals = kept 0 state.locals })
@@ -187,7 +187,7 @@ module _ (old : RefRun) (node : memory_node.Node) (is_used : Bool) (here : Pos) 
   -- where the value is this
   abbrev by_value : Eval Scalar → Eval Config
   by_value value =
-      (λ (state : State). happened (Runs.Returned ∷ []) value (record state { objects = killed 0 state.locals state.objects; locals = own_locals base old.base old.store.locals.items }))
+      (λ (state : State). emit (Runs.Returned ∷ []) value (record state { objects = killed 0 state.locals state.objects; locals = own_locals base old.base old.store.locals.items }))
       >>= λ a. give (steps.came (around_run old) (functions_of old) (steps.ScalarGiven a) (record (popped (config_in old)) { depth = suc (config_in old).depth }))
 
   by-value : returning ≡ by_value (used_by (table_of old) is_used here node returned)
@@ -200,7 +200,7 @@ module _ (old : RefRun) (node : memory_node.Node) (is_used : Bool) (here : Pos) 
       (record { there = back old base state; is = λ units input. refl; quiet = unheard state.trace (Runs.Returned ∷ []) refl })
 
   module _ (new : RefRun) (mid : Store) (value : memory_scalar.Scalar) (used : IsUsed (table_of old) is_used here node returned value) (types : mid.types ≡ old.store.types)
-      (leaves : (around : Around) (base : ℕ) (state : State) → base ≤ old.base → At around old.store base state
+      (leaves : (around : TypeEnvironment) (base : ℕ) (state : State) → base ≤ old.base → At around old.store base state
       → At around mid base (record state { objects = killed (old.base - base) state.locals state.objects; locals = kept (old.base - base) state.locals }))
       (locals : take old.base mid.locals.items ≡ take old.base old.store.locals.items)
       (becomes : Becomes (record old { store = mid; base = base; depth = old.depth - 1 }) new (record { node = old.control.node; task = K.Give (G.Scalar value) }) waits.others) where

@@ -1,8 +1,8 @@
 -- How a run moves whose operands, base or depth change.
 use Rattle.std.proofs.Common.{◌≡◌, ℕ, ◌-◌, ◌≤◌, List, length, refl, sym, ap, subst, ◌∙◌}
-use Rattle.c_meaning.specs.Store.{State, give}
-use Rattle.c_meaning.specs.Meaning.{greatest_depth}
-use Rattle.c_steps.specs.Steps.{Config}
+use Rattle.ref_semantics.specs.Store.{State, give}
+use Rattle.ref_semantics.specs.Meaning.{greatest_depth}
+use Rattle.ref_steps.specs.Steps.{Config}
 use Rattle.ref_store.specs.declared.value.Scalar as memory_scalar
 use Rattle.ref_store.specs.Holding.{At}
 use Rattle.ref_meaning.specs.declared.control.Control.{Control}

@@ -6,8 +6,8 @@ use Rattle.c_typed.specs.Typed as T
 use Rattle.c_typed.specs.Typed.{Values}
 use Rattle.c_typed.specs.Table.{Interned}
 use Rattle.c_typed.specs.Views.{value_in}
-use Rattle.c_meaning.specs.Values.{Scalar}
-use Rattle.c_meaning.specs.Store.{State, Eval, Then, over}
+use Rattle.ref_semantics.specs.Values.{Scalar}
+use Rattle.ref_semantics.specs.Store.{State, Eval, Then, halt}
 use Rattle.run_theory.specs.Runs.{Final}
 use Rattle.ref_store.specs.declared.value.Scalar as memory_scalar
 use Rattle.ref_store.specs.Holding.{At, left}
@@ -71,7 +71,7 @@ pub record ComesTold (old new : RefRun) (eval : Eval Scalar) (base input : List 
 pub record IsOverLibrary (eval : Eval Scalar) (base input : List ℕ) (state : State) (final : Final) (is_left written : Option (List ℕ)) : Type 0 where
   pub there : State
   pub rest : List ℕ
-  pub is : (units : ℕ) → eval (left units input state) ≡ over final (left units rest there)
+  pub is : (units : ℕ) → eval (left units input state) ≡ halt final (left units rest there)
   pub told : IsTold base rest there is_left written
 
 pub record StaysLibrary (old new : RefRun) (is_left written left' written' : Option (List ℕ)) : Type 0 where

@@ -6,12 +6,12 @@ use Rattle.c_typed.specs.Typed as T
 use Rattle.c_typed.specs.Typed.{Stmt}
 use Rattle.c_typed.specs.Table.{Interned}
 use Rattle.c_typed.specs.Views.{ValueStands}
-use Rattle.c_meaning.specs.Store.{Around, Eval, give}
-use Rattle.c_steps.specs.Parts as parts
-use Rattle.c_steps.specs.Parts.{Part, ValuePart, Next, Comes, Enters, Role, entry_of}
-use Rattle.c_steps.specs.Steps as steps
-use Rattle.c_steps.specs.Steps.{Given, Frame, Config, Task, Loop}
-use Rattle.c_steps.specs.Units as units
+use Rattle.ref_semantics.specs.Store.{TypeEnvironment, Eval, give}
+use Rattle.ref_steps.specs.Parts as parts
+use Rattle.ref_steps.specs.Parts.{Part, ValuePart, Next, Comes, Enters, Role, entry_of}
+use Rattle.ref_steps.specs.Steps as steps
+use Rattle.ref_steps.specs.Steps.{Given, Frame, Config, Task, Loop}
+use Rattle.ref_steps.specs.Units as units
 use Rattle.ref_store.specs.Views.{scalar_in, ScalarStands}
 use Rattle.ref_meaning.specs.declared.control.Node as memory_node
 use Rattle.ref_meaning.specs.declared.control.Node.TheVariants as N
@@ -150,7 +150,7 @@ performing run s = steps.perform (around_run run) (functions_of run) s (config_i
 abbrev pub evaluating : RefRun → Part → Eval Config
 evaluating run part = steps.evaluate (around_run run) (functions_of run) part (config_in run) (entry_of part)
 
-abbrev pub enter_library : Around → List T.FunctionDef → Part → ℕ → Config → Config
+abbrev pub enter_library : TypeEnvironment → List T.FunctionDef → Part → ℕ → Config → Config
 enter_library around functions (ValuePart (T.LibraryCall function groups' place arguments)) groups config = steps.enter_name around functions function place arguments groups config
 enter_library around functions part groups config = config
 

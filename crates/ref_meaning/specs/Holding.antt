@@ -9,8 +9,8 @@ use Rattle.c_typed.specs.Table.{Interned}
 use Rattle.c_typed.specs.Views.{ValueStands, ObjectStands, DesignatorStands}
 use Rattle.c_typed.specs.StatementViews.{StmtStands}
 use Rattle.c_typed.specs.DefinitionViews.{FunctionStands, ProgramStands}
-use Rattle.c_meaning.specs.Meaning.{function_from, greatest_depth}
-use Rattle.c_meaning.specs.Store.{State}
+use Rattle.ref_semantics.specs.Meaning.{function_from, greatest_depth}
+use Rattle.ref_semantics.specs.Store.{State}
 use Rattle.ref_store.specs.declared.value.Scalar as memory_scalar
 use Rattle.ref_store.specs.Views.{ScalarStands, PlaceStands}
 use Rattle.ref_store.specs.Holding.{At}

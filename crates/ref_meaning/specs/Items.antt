@@ -12,10 +12,10 @@ use Rattle.c_typed.specs.Typed as T
 use Rattle.c_typed.specs.Typed.{Block, SwitchItems, LocalDef, ForStart, Stmt}
 use Rattle.c_typed.specs.Table.{Interned}
 use Rattle.c_typed.specs.StatementViews.{stmt_in, StmtStands, local_in, LocalStands}
-use Rattle.c_meaning.specs.Store.{Eval, give}
-use Rattle.c_steps.specs.Parts.{Part, StmtPart, BodyPart}
-use Rattle.c_steps.specs.Steps as steps
-use Rattle.c_steps.specs.Steps.{Frame, Config}
+use Rattle.ref_semantics.specs.Store.{Eval, give}
+use Rattle.ref_steps.specs.Parts.{Part, StmtPart, BodyPart}
+use Rattle.ref_steps.specs.Steps as steps
+use Rattle.ref_steps.specs.Steps.{Frame, Config}
 use Rattle.ref_meaning.specs.declared.control.Node as memory_node
 use Rattle.ref_meaning.specs.declared.control.Node.TheVariants as N
 use Rattle.ref_meaning.specs.declared.run.RefRun.{RefRun}

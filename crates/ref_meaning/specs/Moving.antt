@@ -1,9 +1,9 @@
 -- What a part of a step does to a run.
 use Rattle.std.specs.Prelude.{◌≡◌, ℕ, ◌%◌, List, [], ◌∷◌, Result, Ok, Err, ◌++◌, Option, Some, ℤ, pos, neg_ℤ}
 use Rattle.run_theory.specs.Runs.{Final, output_of}
-use Rattle.c_meaning.specs.Store.{State, Eval, Then, over}
-use Rattle.c_steps.specs.Steps.{Config}
-use Rattle.ref_store.specs.Holding.{At, left, Does}
+use Rattle.ref_semantics.specs.Store.{State, Eval, Then, halt}
+use Rattle.ref_steps.specs.Steps.{Config}
+use Rattle.ref_store.specs.Holding.{At, left, EvaluatesTo}
 use Rattle.ref_store.specs.declared.value.Stop.{Stop}
 use Rattle.ref_store.specs.declared.value.Stop.TheVariants as T
 use Rattle.ref_meaning.specs.declared.control.Control.{Control}
@@ -40,16 +40,16 @@ pub record Becomes (old new : RefRun) (next : Control) (frames : List memory_fra
 abbrev pub IsSame : RefRun → RefRun → Type 0
 IsSame old new = Becomes old new old.control (stack_of old)
 
--- From a state an evaluation is over, with nothing written.
+-- From a state an evaluation is halt, with nothing written.
 pub record IsOver {A : Type 0} (eval : Eval A) (state : State) (final : Final) : Type 0 where
   pub there : State
-  pub is : (units : ℕ) (input : List ℕ) → eval (left units input state) ≡ over final (left units input there)
+  pub is : (units : ℕ) (input : List ℕ) → eval (left units input state) ≡ halt final (left units input there)
   pub quiet : output_of there.trace ≡ output_of state.trace
 
 -- a run comes to where an evaluation comes to, with nothing read or written
 pub record Arrives (new : RefRun) (eval : Eval Config) (state : State) : Type 0 where
   pub after : State
-  pub does : Does eval state (config_in new) after
+  pub does : EvaluatesTo eval state (config_in new) after
   pub at : At (around_run new) new.store new.base after
   pub quiet : output_of after.trace ≡ output_of state.trace
   pub holds : Holds new
@@ -90,7 +90,7 @@ pub record ArrivesTold (new : RefRun) (eval : Eval Config) (base input : List �
 pub record IsOverTold (eval : Eval Config) (base input : List ℕ) (state : State) (final : Final) (is_left written : Option (List ℕ)) : Type 0 where
   pub there : State
   pub rest : List ℕ
-  pub is : (units : ℕ) → eval (left units input state) ≡ over final (left units rest there)
+  pub is : (units : ℕ) → eval (left units input state) ≡ halt final (left units rest there)
   pub told : IsTold base rest there is_left written
 
 pub record StaysTold (old new : RefRun) (is_left written left' written' : Option (List ℕ)) : Type 0 where

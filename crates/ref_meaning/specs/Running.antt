@@ -2,9 +2,9 @@
 use Rattle.std.specs.Prelude.{◌≡◌, ℕ, ◌+◌, ◌≤◌, ◌<◌, List, ◌++◌, Option, Some, None}
 use Rattle.run_theory.specs.Runs as Runs
 use Rattle.run_theory.specs.Runs.{Answer, Final, Going, Over, IsGoing, Trace, output_of}
-use Rattle.c_meaning.specs.Store.{State}
-use Rattle.c_meaning.specs.First.{status_of}
-use Rattle.c_steps.specs.Steps.{goes_on}
+use Rattle.ref_semantics.specs.Store.{State}
+use Rattle.ref_semantics.specs.First.{status_of}
+use Rattle.ref_steps.specs.Steps.{goes_on}
 use Rattle.ref_store.specs.Holding.{At, left}
 use Rattle.ref_meaning.specs.declared.run.RefRun.{RefRun}
 use Rattle.ref_meaning.specs.declared.run.RefEnd.{RefEnd}
@@ -66,14 +66,14 @@ pub record BreaksOff (old new : RefRun) (behaviour : Behaviour) (base input : Li
   pub goes_on : GoesOn new behaviour base input done is_left written
 
 -- What a run answers to so many units, where it stood for a behaviour.
-abbrev pub Answers : RefRun → RefRun → Behaviour → List ℕ → List ℕ → ℕ → RefEnd → Option (List ℕ) → Option (List ℕ) → Type 0
-Answers old new behaviour base input steps (E.Ended status) is_left written = Ends behaviour base input steps (Runs.Ended status) written
-Answers old new behaviour base input steps E.Depth is_left written = Ends behaviour base input steps Runs.DepthReached written
-Answers old new behaviour base input steps (E.Undefined kind place) is_left written = Ends behaviour base input steps (Runs.Undefined kind place) written
-Answers old new behaviour base input steps E.StepsSpent is_left written = IsSpent new behaviour base input steps is_left written × (new.spent ≡ old.spent + steps)
-Answers old new behaviour base input steps E.ReadFault is_left written = BreaksOff old new behaviour base input steps is_left written
-Answers old new behaviour base input steps E.WriteFault is_left written = BreaksOff old new behaviour base input steps is_left written
-Answers old new behaviour base input steps E.OutOfMemory is_left written = BreaksOff old new behaviour base input steps is_left written
+abbrev pub RunAnswers : RefRun → RefRun → Behaviour → List ℕ → List ℕ → ℕ → RefEnd → Option (List ℕ) → Option (List ℕ) → Type 0
+RunAnswers old new behaviour base input steps (E.Ended status) is_left written = Ends behaviour base input steps (Runs.Ended status) written
+RunAnswers old new behaviour base input steps E.Depth is_left written = Ends behaviour base input steps Runs.DepthReached written
+RunAnswers old new behaviour base input steps (E.Undefined kind place) is_left written = Ends behaviour base input steps (Runs.Undefined kind place) written
+RunAnswers old new behaviour base input steps E.StepsSpent is_left written = IsSpent new behaviour base input steps is_left written × (new.spent ≡ old.spent + steps)
+RunAnswers old new behaviour base input steps E.ReadFault is_left written = BreaksOff old new behaviour base input steps is_left written
+RunAnswers old new behaviour base input steps E.WriteFault is_left written = BreaksOff old new behaviour base input steps is_left written
+RunAnswers old new behaviour base input steps E.OutOfMemory is_left written = BreaksOff old new behaviour base input steps is_left written
 
 -- It is over, and has spent the units that it needed for that and no more: with fewer it was going.
 pub record SpendsNeeded (old new : RefRun) (behaviour : Behaviour) (input : List ℕ) (steps : ℕ) (final : Final) : Type 0 where

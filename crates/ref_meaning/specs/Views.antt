@@ -9,13 +9,13 @@ use Rattle.c_typed.specs.Table.{Interned}
 use Rattle.c_typed.specs.Views.{value_in, object_in, designator_in}
 use Rattle.c_typed.specs.StatementViews.{stmt_in}
 use Rattle.c_typed.specs.DefinitionViews.{function_in, program_of}
-use Rattle.c_meaning.specs.Values.{Scalar, NullValue}
-use Rattle.c_meaning.specs.Store.{Around}
-use Rattle.c_meaning.specs.Meaning.{Way, Onward, Broken, Continued, Returned, greatest_depth}
-use Rattle.c_meaning.specs.First.{around_of}
-use Rattle.c_steps.specs.Parts.{Part, ValuePart, ObjectPart, AddressPart, FunctionPart, StmtPart, BodyPart, Entry, Gives, FindsLocal, Finds, Becomes, Awaits, CallsLibrary}
-use Rattle.c_steps.specs.Steps as steps
-use Rattle.c_steps.specs.Steps.{Given, ScalarGiven, WayGiven, Loop, WhileLoop, DoLoop, ForLoop, Callee, Own, FromLibrary, Task, Frame, Config}
+use Rattle.ref_semantics.specs.Values.{Scalar, NullValue}
+use Rattle.ref_semantics.specs.Store.{TypeEnvironment}
+use Rattle.ref_semantics.specs.Meaning.{Completion, Normal, Break, Continue, Return, greatest_depth}
+use Rattle.ref_semantics.specs.First.{around_of}
+use Rattle.ref_steps.specs.Parts.{Part, ValuePart, ObjectPart, AddressPart, FunctionPart, StmtPart, BodyPart, Entry, Gives, FindsLocal, Finds, Becomes, Awaits, CallsLibrary}
+use Rattle.ref_steps.specs.Steps as steps
+use Rattle.ref_steps.specs.Steps.{Given, ScalarGiven, WayGiven, Loop, WhileLoop, DoLoop, ForLoop, Callee, Own, FromLibrary, Task, Frame, Config}
 use Rattle.ref_store.specs.Views.{name_of, scalar_in, place_in}
 use Rattle.ref_store.specs.declared.value.Scalar as memory_scalar
 use Rattle.ref_meaning.specs.declared.control.Node as memory_node
@@ -58,11 +58,11 @@ entry_in table (E.Enter part true) = Awaits (part_in table part)
 entry_in table (E.Enter part false) = Becomes (part_in table part)
 entry_in table (E.Library groups) = CallsLibrary groups
 
-abbrev pub way_in : Interned → memory_way.Way → Way
-way_in table W.Onward = Onward
-way_in table W.Broken = Broken
-way_in table W.Continued = Continued
-way_in table (W.Returned value) = Returned (option_map (scalar_in table) value)
+abbrev pub way_in : Interned → memory_way.Way → Completion
+way_in table W.Onward = Normal
+way_in table W.Broken = Break
+way_in table W.Continued = Continue
+way_in table (W.Returned value) = Return (option_map (scalar_in table) value)
 
 abbrev pub given_in : Interned → memory_given.Given → Given
 given_in table (G.Scalar a) = ScalarGiven (scalar_in table a)
@@ -234,7 +234,7 @@ operands_of run = reverse run.operands.items
 abbrev pub stack_of : RefRun → List memory_frame.Frame
 stack_of run = reverse run.frames.items
 
-abbrev pub around_run : RefRun → Around
+abbrev pub around_run : RefRun → TypeEnvironment
 around_run run = around_of (program_of run.program.now)
 
 abbrev pub functions_of : RefRun → List FunctionDef

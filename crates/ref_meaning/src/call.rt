@@ -6,12 +6,12 @@ ghost use Rattle.c_typed.specs.Types.{same_type};
 ghost use Rattle.c_typed.specs.Table.{Interned, Stands, type_in};
 ghost use Rattle.c_typed.specs.Views.{value_in, ValueStands, values_in, ValuesStand};
 ghost use Rattle.c_typed.specs.DefinitionViews.{function_in, FunctionStands};
-ghost use Rattle.c_meaning.specs.First.{main_type};
-ghost use Rattle.c_meaning.specs.Library as rules;
-ghost use Rattle.c_meaning.specs.Library.{library};
-ghost use Rattle.c_meaning.specs.Values as values;
-ghost use Rattle.c_steps.specs.Steps as steps;
-ghost use Rattle.c_steps.specs.Steps.{ScalarGiven, WayGiven};
+ghost use Rattle.ref_semantics.specs.First.{main_type};
+ghost use Rattle.ref_semantics.specs.Library as rules;
+ghost use Rattle.ref_semantics.specs.Library.{library};
+ghost use Rattle.ref_semantics.specs.Values as values;
+ghost use Rattle.ref_steps.specs.Steps as steps;
+ghost use Rattle.ref_steps.specs.Steps.{ScalarGiven, WayGiven};
 ghost use Rattle.ref_store.specs.Views.{scalar_in, ScalarStands};
 ghost use Rattle.ref_meaning.specs.declared.control.Frame as memory_frame;
 ghost use Rattle.ref_meaning.specs.declared.control.Stage.TheVariants as S;
@@ -30,7 +30,8 @@ use c_num::IntType;
 use c_typed::{CType, FunctionDef, LibraryFunction, Shape, Value};
 use pcc_outside::{Sink, Source};
 use ref_store::Scalar;
-use run_theory::{Pos, UbKind};
+use run_theory::UbKind;
+use text_place::Pos;
 
 /// Whether it is a call of a function of the program.
 pub(crate) fn is_call(value: &Value) -> bool

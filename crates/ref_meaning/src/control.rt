@@ -2,15 +2,16 @@
 
 ghost use Rattle.std.specs.Prelude.{◌≡◌, option_map, IfSome};
 ghost use Rattle.c_typed.specs.Table.{Interned};
-ghost use Rattle.c_meaning.specs.Meaning as meaning;
-ghost use Rattle.c_steps.specs.Steps as steps;
+ghost use Rattle.ref_semantics.specs.Meaning as meaning;
+ghost use Rattle.ref_steps.specs.Steps as steps;
 ghost use Rattle.ref_store.specs.Views.{scalar_in, ScalarStands};
 ghost use Rattle.ref_meaning.specs.Views.{way_in, given_in};
 ghost use Rattle.ref_meaning.specs.Holding.{WayStands, GivenStands};
 
 use c_typed::{Designator, FunctionDef, Object, Stmt, Value};
 use ref_store::{Place, Scalar};
-use run_theory::{Pos, UbKind};
+use run_theory::UbKind;
+use text_place::Pos;
 
 /// A part of the program that is entered: an expression for its value, for its object, for the address of that or for its
 /// function, a statement, or a function's body.
@@ -114,7 +115,7 @@ pub(crate) enum Task<'a> {
 }
 
 /// How the program ends.
-#[derive(Clone, Copy, Debug, PartialEq, Eq)]
+#[derive(Clone, Copy)]
 pub(crate) enum Final {
     Ended(u8),
     Depth,

@@ -3,7 +3,7 @@
 ghost use Rattle.std.specs.Prelude.{◌≡◌, true, false};
 ghost use Rattle.c_typed.specs.Table.{Interned};
 ghost use Rattle.c_typed.specs.Views.{value_in, object_in, designator_in, ValueStands, ObjectStands, DesignatorStands};
-ghost use Rattle.c_steps.specs.Parts as parts;
+ghost use Rattle.ref_steps.specs.Parts as parts;
 ghost use Rattle.ref_meaning.specs.declared.control.Node as memory_node;
 ghost use Rattle.ref_meaning.specs.declared.control.Node.TheVariants as N;
 ghost use Rattle.ref_meaning.specs.declared.entry.Entry.TheVariants as E;
@@ -150,7 +150,7 @@ fn object_entry(object: &Object) -> Entry<'_>
             };
             Entry::Give(Scalar::Pointer(Place::first(Name::Text(*place), row)))
         }
-        Object::Grouped(inner) => into(Node::Object(&**inner)),
+        Object::Grouped { inner, .. } => into(Node::Object(&**inner)),
         Object::Pointed { pointer, .. } => waits(Node::Value(&**pointer)),
         Object::Element { pointer, .. } => waits(Node::Value(&**pointer)),
         Object::ElementOf { number, .. } => waits(Node::Value(&**number)),
@@ -165,7 +165,7 @@ fn address_entry(object: &Object) -> Entry<'_>
 {
     match object {
         Object::Pointed { pointer, .. } => into(Node::Value(&**pointer)),
-        Object::Grouped(inner) => into(Node::Address(&**inner)),
+        Object::Grouped { inner, .. } => into(Node::Address(&**inner)),
         _ => object_entry(object),
     }
 }

@@ -3,11 +3,11 @@
 ghost use Rattle.std.specs.Prelude.{◌≡◌, ℕ, if◌then◌else◌, IfOk, pos, neg_ℤ};
 ghost use Rattle.c_typed.specs.Table.{Interned};
 ghost use Rattle.c_typed.specs.Views.{value_in, object_in, ValueStands, ObjectStands};
-ghost use Rattle.c_meaning.specs.Store.{Around};
-ghost use Rattle.c_meaning.specs.Meaning as meaning;
-ghost use Rattle.c_steps.specs.Parts as parts;
+ghost use Rattle.ref_semantics.specs.Store.{TypeEnvironment};
+ghost use Rattle.ref_semantics.specs.Meaning as meaning;
+ghost use Rattle.ref_steps.specs.Parts as parts;
 ghost use Rattle.ref_store.specs.Views.{place_in, scalar_in, ScalarStands, PlaceStands};
-ghost use Rattle.ref_store.specs.Holding.{IsStore, Gives};
+ghost use Rattle.ref_store.specs.Holding.{IsStore, CallGives};
 ghost use Rattle.ref_meaning.specs.Views.{part_in};
 ghost use Rattle.ref_meaning.specs.Holding.{NodeStands};
 ghost use Rattle.ref_meaning.specs.Nexts.{scalar_next, place_next};
@@ -18,7 +18,7 @@ use crate::operand::{arithmetic, converted, stepped};
 use c_num::{BinOp, IntType, common, convert};
 use c_typed::{Object, Stepping, Value};
 use ref_store::{Place, Scalar, Stop, Store};
-use run_theory::Pos;
+use text_place::Pos;
 
 /// What an expression does once its first operand is known: it comes to a value, or another is entered.
 #[derive(Clone, Copy)]
@@ -28,7 +28,7 @@ pub(crate) enum Next<'a> {
 }
 
 /// What an expression is to one that enters it.
-#[derive(Clone, Copy, Debug, PartialEq, Eq)]
+#[derive(Clone, Copy)]
 pub(crate) enum Role {
     /// The second operand.
     Second,
@@ -47,7 +47,7 @@ pub(crate) fn after_first<'a>(
     requires store { IsStore store.old }
     requires node { NodeStands store.old.types.now node }
     requires first { ScalarStands store.old.types.now first }
-    ensures gives { (around : Around) (base : ℕ) → Gives around store.old store.new base (next_in store.old.types.now) (parts.next_of around (part_in store.old.types.now node.entry) (scalar_in store.old.types.now first.entry)) result }
+    ensures gives { (around : TypeEnvironment) (base : ℕ) → CallGives around store.old store.new base (next_in store.old.types.now) (parts.next_of around (part_in store.old.types.now node.entry) (scalar_in store.old.types.now first.entry)) result }
     ensures stands { IfOk result (NextStands store.old.types.now) }
     ensures types { store.new.types ≡ store.old.types }
     ensures locals { store.new.locals ≡ store.old.locals }
@@ -69,7 +69,7 @@ fn after_value<'a>(
     requires store { IsStore store.old }
     requires value { ValueStands store.old.types.now value.now }
     requires first { ScalarStands store.old.types.now first }
-    ensures gives { (around : Around) (base : ℕ) → Gives around store.old store.new base (next_in store.old.types.now) (parts.value_next around (value_in store.old.types.now value.now) (scalar_in store.old.types.now first.entry)) result }
+    ensures gives { (around : TypeEnvironment) (base : ℕ) → CallGives around store.old store.new base (next_in store.old.types.now) (parts.value_next around (value_in store.old.types.now value.now) (scalar_in store.old.types.now first.entry)) result }
     ensures stands { IfOk result (NextStands store.old.types.now) }
     ensures types { store.new.types ≡ store.old.types }
     ensures locals { store.new.locals ≡ store.old.locals }
@@ -180,7 +180,7 @@ fn after_object<'a>(
     requires store { IsStore store.old }
     requires object { ObjectStands store.old.types.now object.now }
     requires first { ScalarStands store.old.types.now first }
-    ensures gives { (around : Around) (base : ℕ) → Gives around store.old store.new base (next_in store.old.types.now) (parts.object_next around (object_in store.old.types.now object.now) (scalar_in store.old.types.now first.entry)) result }
+    ensures gives { (around : TypeEnvironment) (base : ℕ) → CallGives around store.old store.new base (next_in store.old.types.now) (parts.object_next around (object_in store.old.types.now object.now) (scalar_in store.old.types.now first.entry)) result }
     ensures stands { IfOk result (NextStands store.old.types.now) }
     ensures types { store.new.types ≡ store.old.types }
     ensures locals { store.new.locals ≡ store.old.locals }
@@ -228,7 +228,7 @@ fn step_integer<'a>(
 ) -> Result<Scalar<'a>, Stop>
     requires store { IsStore store.old }
     requires place { PlaceStands store.old.types.now place }
-    ensures gives { (around : Around) (base : ℕ) → Gives around store.old store.new base (scalar_in store.old.types.now) (parts.step_integer around stepping here int_type (place_in store.old.types.now place.entry)) result }
+    ensures gives { (around : TypeEnvironment) (base : ℕ) → CallGives around store.old store.new base (scalar_in store.old.types.now) (parts.step_integer around stepping here int_type (place_in store.old.types.now place.entry)) result }
     ensures stands { IfOk result (ScalarStands store.old.types.now) }
     ensures types { store.new.types ≡ store.old.types }
     ensures locals { store.new.locals ≡ store.old.locals }
@@ -252,7 +252,7 @@ fn step_pointer<'a>(
 ) -> Result<Scalar<'a>, Stop>
     requires store { IsStore store.old }
     requires place { PlaceStands store.old.types.now place }
-    ensures gives { (around : Around) (base : ℕ) → Gives around store.old store.new base (scalar_in store.old.types.now) (parts.step_pointer around stepping here (place_in store.old.types.now place.entry)) result }
+    ensures gives { (around : TypeEnvironment) (base : ℕ) → CallGives around store.old store.new base (scalar_in store.old.types.now) (parts.step_pointer around stepping here (place_in store.old.types.now place.entry)) result }
     ensures stands { IfOk result (ScalarStands store.old.types.now) }
     ensures types { store.new.types ≡ store.old.types }
     ensures locals { store.new.locals ≡ store.old.locals }

@@ -3,12 +3,12 @@
 ghost use Rattle.std.specs.Prelude.{◌≡◌, ℕ, IfOk};
 ghost use Rattle.c_typed.specs.Table.{Interned};
 ghost use Rattle.c_typed.specs.Views.{value_in, object_in};
-ghost use Rattle.c_meaning.specs.Store.{Around};
-ghost use Rattle.c_meaning.specs.Meaning as meaning;
-ghost use Rattle.c_steps.specs.Parts as parts;
+ghost use Rattle.ref_semantics.specs.Store.{TypeEnvironment};
+ghost use Rattle.ref_semantics.specs.Meaning as meaning;
+ghost use Rattle.ref_steps.specs.Parts as parts;
 ghost use Rattle.ref_store.specs.declared.store.Store.{Store};
 ghost use Rattle.ref_store.specs.Views.{scalar_in, ScalarStands};
-ghost use Rattle.ref_store.specs.Holding.{IsStore, Gives};
+ghost use Rattle.ref_store.specs.Holding.{IsStore, CallGives};
 ghost use Rattle.ref_meaning.specs.Views.{part_in};
 ghost use Rattle.ref_meaning.specs.Holding.{NodeStands};
 ghost use Rattle.ref_meaning.specs.Doing.{IsAssignment};
@@ -17,7 +17,8 @@ use crate::control::Node;
 use c_num::{ArithUb, BinOp, IntType, binary, compare, convert};
 use c_typed::{Object, Stepping, Value};
 use ref_store::{Place, Scalar, Stop, Store};
-use run_theory::{Pos, UbKind};
+use run_theory::UbKind;
+use text_place::Pos;
 
 /// An integer, converted (C17 6.3.1.3).
 pub(crate) fn converted<'a>(int_type: IntType, value: Scalar<'a>) -> Scalar<'a>
@@ -35,7 +36,7 @@ pub(crate) fn arithmetic<'a>(
     left: Scalar<'a>,
     right: Scalar<'a>,
 ) -> Result<Scalar<'a>, Stop>
-    ensures gives { (around : Around) (store : Store) (base : ℕ) → Gives around store store base (scalar_in store.types.now) (meaning.arithmetic op int_type here (scalar_in store.types.now left.entry) (scalar_in store.types.now right.entry)) result }
+    ensures gives { (around : TypeEnvironment) (store : Store) (base : ℕ) → CallGives around store store base (scalar_in store.types.now) (meaning.arithmetic op int_type here (scalar_in store.types.now left.entry) (scalar_in store.types.now right.entry)) result }
     ensures stands { (table : Interned) → IfOk result (ScalarStands table) }
 {
     let right = match op {
@@ -80,7 +81,7 @@ pub(crate) fn after_second<'a>(
     requires node { NodeStands store.old.types.now node }
     requires first { ScalarStands store.old.types.now first }
     requires second { ScalarStands store.old.types.now second }
-    ensures gives { (around : Around) (base : ℕ) → Gives around store.old store.new base (scalar_in store.old.types.now) (parts.both_of around (part_in store.old.types.now node.entry) (scalar_in store.old.types.now first.entry) (scalar_in store.old.types.now second.entry)) result }
+    ensures gives { (around : TypeEnvironment) (base : ℕ) → CallGives around store.old store.new base (scalar_in store.old.types.now) (parts.both_of around (part_in store.old.types.now node.entry) (scalar_in store.old.types.now first.entry) (scalar_in store.old.types.now second.entry)) result }
     ensures stands { IfOk result (ScalarStands store.old.types.now) }
     ensures types { store.new.types ≡ store.old.types }
     ensures locals { store.new.locals ≡ store.old.locals }
@@ -102,7 +103,7 @@ fn after_value<'a>(
     requires store { IsStore store.old }
     requires first { ScalarStands store.old.types.now first }
     requires second { ScalarStands store.old.types.now second }
-    ensures gives { (around : Around) (base : ℕ) → Gives around store.old store.new base (scalar_in store.old.types.now) (parts.value_of_both around (value_in store.old.types.now value.now) (scalar_in store.old.types.now first.entry) (scalar_in store.old.types.now second.entry)) result }
+    ensures gives { (around : TypeEnvironment) (base : ℕ) → CallGives around store.old store.new base (scalar_in store.old.types.now) (parts.value_of_both around (value_in store.old.types.now value.now) (scalar_in store.old.types.now first.entry) (scalar_in store.old.types.now second.entry)) result }
     ensures stands { IfOk result (ScalarStands store.old.types.now) }
     ensures types { store.new.types ≡ store.old.types }
     ensures locals { store.new.locals ≡ store.old.locals }
@@ -144,7 +145,7 @@ fn after_assigned<'a>(
     requires store { IsStore store.old }
     requires first { ScalarStands store.old.types.now first }
     requires second { ScalarStands store.old.types.now second }
-    ensures gives { (around : Around) (base : ℕ) → IsAssignment (value_in store.old.types.now value.now) → Gives around store.old store.new base (scalar_in store.old.types.now) (parts.value_of_both around (value_in store.old.types.now value.now) (scalar_in store.old.types.now first.entry) (scalar_in store.old.types.now second.entry)) result }
+    ensures gives { (around : TypeEnvironment) (base : ℕ) → IsAssignment (value_in store.old.types.now value.now) → CallGives around store.old store.new base (scalar_in store.old.types.now) (parts.value_of_both around (value_in store.old.types.now value.now) (scalar_in store.old.types.now first.entry) (scalar_in store.old.types.now second.entry)) result }
     ensures stands { IfOk result (ScalarStands store.old.types.now) }
     ensures types { store.new.types ≡ store.old.types }
     ensures locals { store.new.locals ≡ store.old.locals }
@@ -191,7 +192,7 @@ fn after_object<'a>(
 ) -> Result<Scalar<'a>, Stop>
     requires first { ScalarStands store.now.types.now first }
     requires second { ScalarStands store.now.types.now second }
-    ensures gives { (around : Around) (base : ℕ) → Gives around store.now store.now base (scalar_in store.now.types.now) (parts.object_of_both (object_in store.now.types.now object.now) (scalar_in store.now.types.now first.entry) (scalar_in store.now.types.now second.entry)) result }
+    ensures gives { (around : TypeEnvironment) (base : ℕ) → CallGives around store.now store.now base (scalar_in store.now.types.now) (parts.object_of_both (object_in store.now.types.now object.now) (scalar_in store.now.types.now first.entry) (scalar_in store.now.types.now second.entry)) result }
     ensures stands { IfOk result (ScalarStands store.now.types.now) }
 {
     let found: Place<'a> = match object {
@@ -210,7 +211,7 @@ fn after_address<'a>(
 ) -> Result<Scalar<'a>, Stop>
     requires first { ScalarStands store.now.types.now first }
     requires second { ScalarStands store.now.types.now second }
-    ensures gives { (around : Around) (base : ℕ) → Gives around store.now store.now base (scalar_in store.now.types.now) (parts.address_of_both (object_in store.now.types.now object.now) (scalar_in store.now.types.now first.entry) (scalar_in store.now.types.now second.entry)) result }
+    ensures gives { (around : TypeEnvironment) (base : ℕ) → CallGives around store.now store.now base (scalar_in store.now.types.now) (parts.address_of_both (object_in store.now.types.now object.now) (scalar_in store.now.types.now first.entry) (scalar_in store.now.types.now second.entry)) result }
     ensures stands { IfOk result (ScalarStands store.now.types.now) }
 {
     match object {

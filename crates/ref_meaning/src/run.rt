@@ -5,9 +5,9 @@ ghost use Rattle.pcc_outside.specs.Outside.{Rose};
 ghost use Rattle.c_typed.specs.Table.{Interned};
 ghost use Rattle.c_typed.specs.Typed.{SwitchItems};
 ghost use Rattle.c_typed.specs.DefinitionViews.{program_of, ProgramStands};
-ghost use Rattle.c_meaning.specs.First.{reference};
-ghost use Rattle.c_steps.specs.Steps.{ScalarGiven, Search, First};
-ghost use Rattle.c_steps.specs.Units.{takes_unit};
+ghost use Rattle.ref_semantics.specs.First.{reference};
+ghost use Rattle.ref_steps.specs.Steps.{ScalarGiven, Search, First};
+ghost use Rattle.ref_steps.specs.Units.{takes_unit};
 ghost use Rattle.ref_store.specs.Views.{scalar_in, ScalarStands};
 ghost use Rattle.ref_meaning.specs.declared.control.Frame as memory_frame;
 ghost use Rattle.ref_meaning.specs.declared.control.Given.TheVariants as G;
@@ -19,7 +19,7 @@ ghost use Rattle.ref_meaning.specs.Holding.{Holds, NodeStands, GivenStands, Stag
 ghost use Rattle.ref_meaning.specs.Doing.{TakesNone, IsInnermost, IsExpression, innermost, takes, taking, acting, evaluating};
 ghost use Rattle.ref_meaning.specs.Moving.{Becomes, IsSame, IsKept, Moves, Acts};
 ghost use Rattle.ref_meaning.specs.Numbers.{HasNumbers};
-ghost use Rattle.ref_meaning.specs.Running.{Behaviour, StandsFor, Answers, SpendsNeeded, HoldsUnlessOver, end_in, answer_of, halted, spent_at, IsHalted};
+ghost use Rattle.ref_meaning.specs.Running.{Behaviour, StandsFor, RunAnswers, SpendsNeeded, HoldsUnlessOver, end_in, answer_of, halted, spent_at, IsHalted};
 
 use crate::call::is_call;
 use crate::control::{Control, Final, Frame, Given, Node, Stage, Task, Way};
@@ -31,8 +31,9 @@ use c_typed::{FunctionDef, Program, SwitchItem};
 use indexmap::IndexMap;
 use pcc_outside::{Sink, Source};
 use ref_store::{Scalar, Stop, Store};
-use run_theory::{Pos, UbKind};
+use run_theory::UbKind;
 use std::alloc::{AllocError, Global};
+use text_place::Pos;
 
 /// How deep calls may nest (this project's rule).
 pub(crate) const GREATEST_DEPTH: u32 = 10000;
@@ -64,7 +65,7 @@ impl From<AllocError> for RefEnd {
 }
 
 /// Why the next thing isn't done: it is undefined, or it can't be done now.
-#[derive(Clone, Copy, Debug, PartialEq, Eq)]
+#[derive(Clone, Copy)]
 pub(crate) enum Halt {
     Final(Final),
     ReadFault,
@@ -145,7 +146,7 @@ impl<'a> RefRun<'a> {
     pub fn run<I: Source, O: Sink>(&mut self, input: &mut I, out: &mut O, steps: u64) -> RefEnd
         requires holds { HoldsUnlessOver self.old }
         requires counted { self.old.spent + steps < 2 ^ 64 }
-        ensures answers { (written : List ℕ) (behaviour : Behaviour) (base left : List ℕ) → StandsFor self.old written behaviour → I.left input.old ≡ Some left → O.written out.old ≡ Some (base ++ written) → Answers self.old self.new behaviour base left steps result (I.left input.new) (O.written out.new) }
+        ensures answers { (written : List ℕ) (behaviour : Behaviour) (base left : List ℕ) → StandsFor self.old written behaviour → I.left input.old ≡ Some left → O.written out.old ≡ Some (base ++ written) → RunAnswers self.old self.new behaviour base left steps result (I.left input.new) (O.written out.new) }
         ensures holds { HoldsUnlessOver self.new }
         ensures read_cause { result ≡ RefEnd.ReadFault → Rose (I.faults input.old) (I.faults input.new) }
         ensures write_cause { result ≡ RefEnd.WriteFault → Rose (O.faults out.old) (O.faults out.new) }
@@ -167,7 +168,7 @@ impl<'a> RefRun<'a> {
     fn go_on<I: Source, O: Sink>(&mut self, input: &mut I, out: &mut O, steps: u64) -> RefEnd
         requires holds { HoldsUnlessOver self.old }
         requires counted { self.old.spent + steps < 2 ^ 64 }
-        ensures answers { (written : List ℕ) (behaviour : Behaviour) (base left : List ℕ) → StandsFor self.old written behaviour → I.left input.old ≡ Some left → O.written out.old ≡ Some (base ++ written) → Answers self.old self.new behaviour base left steps result (I.left input.new) (O.written out.new) }
+        ensures answers { (written : List ℕ) (behaviour : Behaviour) (base left : List ℕ) → StandsFor self.old written behaviour → I.left input.old ≡ Some left → O.written out.old ≡ Some (base ++ written) → RunAnswers self.old self.new behaviour base left steps result (I.left input.new) (O.written out.new) }
         ensures holds { HoldsUnlessOver self.new }
         ensures read_cause { result ≡ RefEnd.ReadFault → Rose (I.faults input.old) (I.faults input.new) }
         ensures write_cause { result ≡ RefEnd.WriteFault → Rose (O.faults out.old) (O.faults out.new) }

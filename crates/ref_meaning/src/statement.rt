@@ -5,10 +5,10 @@ ghost use Rattle.std.specs.Vec.{vec_len, vec_capacity};
 ghost use Rattle.c_typed.specs.Table.{Interned};
 ghost use Rattle.c_typed.specs.Views.{value_in, ValueStands};
 ghost use Rattle.c_typed.specs.StatementViews.{stmt_in, StmtStands, local_in, LocalStands};
-ghost use Rattle.c_meaning.specs.Meaning as rules;
-ghost use Rattle.c_meaning.specs.Meaning.{Onward};
-ghost use Rattle.c_steps.specs.Parts.{StmtPart};
-ghost use Rattle.c_steps.specs.Steps.{ScalarGiven, WayGiven};
+ghost use Rattle.ref_semantics.specs.Meaning as rules;
+ghost use Rattle.ref_semantics.specs.Meaning.{Normal};
+ghost use Rattle.ref_steps.specs.Parts.{StmtPart};
+ghost use Rattle.ref_steps.specs.Steps.{ScalarGiven, WayGiven};
 ghost use Rattle.ref_store.specs.Views.{scalar_in, ScalarStands};
 ghost use Rattle.ref_meaning.specs.declared.control.Frame as memory_frame;
 ghost use Rattle.ref_meaning.specs.declared.control.Node.TheVariants as N;
@@ -26,7 +26,7 @@ use crate::label::case_item;
 use crate::run::{Halt, RefRun};
 use c_typed::{BlockItem, ForStart, LocalDef, Stmt, SwitchItem, Value};
 use ref_store::{Place, Scalar};
-use run_theory::Pos;
+use text_place::Pos;
 
 /// An item of a block, by its number.
 fn block_item(block: Node<'_>, number: usize) -> Option<&BlockItem>
@@ -290,7 +290,7 @@ impl<'a> RefRun<'a> {
         requires stands { StmtStands (table_of self.old) stmt.now }
         requires items { IsSwitch (N.Stmt stmt) }
         requires innermost { IsInnermost self.old top (StmtPart (stmt_in (table_of self.old) stmt.now)) (S.Item number) }
-        ensures moves { Moves self.old self.new (taking self.old (at_item (StmtPart (stmt_in (table_of self.old) stmt.now)) number) (WayGiven Onward)) result }
+        ensures moves { Moves self.old self.new (taking self.old (at_item (StmtPart (stmt_in (table_of self.old) stmt.now)) number) (WayGiven Normal)) result }
         ensures kept { IsKept self.old self.new }
     {
         match case_item(stmt, number) {

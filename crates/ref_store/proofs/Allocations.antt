@@ -2,15 +2,14 @@
 use Rattle.std.proofs.Common.{◌≡◌, ℕ, ◌/◌, ◌%◌, Bool, true, false, not, ◌==◌, if◌then◌else◌, is_some, unwrap_or, List, [], ◌∷◌, Option, Some, None, Result, Ok, Err, refl, sym, ap, subst, ◌∙◌}
 use Rattle.std.proofs.lemmas.Bool.{false≢true}
 use Rattle.indexmap.specs.IndexMap.{IndexMap, get, get_by}
-use Rattle.run_theory.specs.declared.ends.Pos.{Pos}
+use Rattle.text_place.specs.declared.place.Pos.{Pos}
 use Rattle.run_theory.specs.declared.ends.UbKind.TheVariants as Ub
-use Rattle.c_typed.specs.Types.{CType, same_type}
+use Rattle.c_typed.specs.Types.{CType, same_type, is_like_void}
 use Rattle.c_typed.specs.Table.{Interned, Stands, type_in}
 use Rattle.c_typed.proofs.Same.{same_type-true}
-use Rattle.c_rules.specs.Constants.{is_like_void}
-use Rattle.c_meaning.specs.Values.{Heap, Scalar, PointerValue, Place, Content, Dead, Raw, Elements, whole_row, first_of_row}
-use Rattle.c_meaning.specs.Store.{Around, State, Eval, give, with_objects, with_content, store_content, premise, unless, is_dead_pointer, size_of}
-use Rattle.c_meaning.specs.Pointers.{of_allocation, retyped, repointed}
+use Rattle.ref_semantics.specs.Values.{Heap, Scalar, PointerValue, Place, Content, Dead, Raw, Elements, whole_row, first_of_row}
+use Rattle.ref_semantics.specs.Store.{TypeEnvironment, State, Eval, give, with_objects, with_content, store_content, premise, unless, is_dead_pointer, size_of}
+use Rattle.ref_semantics.specs.Pointers.{of_allocation, retyped, repointed}
 use Rattle.ref_store.specs.declared.value.Name as memory_name
 use Rattle.ref_store.specs.declared.object.Content as memory_content
 use Rattle.ref_store.specs.declared.object.Content.TheVariants as C
@@ -19,7 +18,7 @@ use Rattle.ref_store.specs.Views.{same_memory}
 use Rattle.ref_store.specs.declared.store.Store.{Store}
 use Rattle.ref_store.specs.declared.value.Stop.{Stop}
 use Rattle.ref_store.specs.declared.value.Stop.TheVariants as T
-use Rattle.ref_store.specs.Holding.{At, Gives, left, Does, IsUndefined, AllHeld, ContentIs, dead, raw, elements}
+use Rattle.ref_store.specs.Holding.{At, CallGives, left, EvaluatesTo, IsUndefined, AllHeld, ContentIs, dead, raw, elements}
 use Rattle.ref_store.specs.contracts.value.NamePartialEq.TheImpl.{eq-value}
 use Rattle.ref_store.proofs.Giving.{undefined-here}
 use Rattle.ref_store.proofs.Names.{get_name}
@@ -60,10 +59,10 @@ fresh table c_type count made is_static is_type is_count stands none =
 
 -- ---- an allocation gets a type
 
-abbrev pub typed : Around → Pos → CType → ℕ → Eval Scalar
+abbrev pub typed : TypeEnvironment → Pos → CType → ℕ → Eval Scalar
 typed around here target number = with_objects (λ objects. of_allocation around here target number (objects (Heap number)))
 
-module _ (around : Around) (here : Pos) (target : CType) (number : ℕ) (s : State) where
+module _ (around : TypeEnvironment) (here : Pos) (target : CType) (number : ℕ) (s : State) where
   pub typed-dead : s.objects (Heap number) ≡ Dead → IsUndefined (typed around here target number) s Ub.U06 here
   typed-dead e = undefined-here (typed around here target number) s Ub.U06 here (λ units input i. of_allocation around here target number (e i) (left units input s))
 
@@ -73,7 +72,7 @@ module _ (around : Around) (here : Pos) (target : CType) (number : ℕ) (s : Sta
         (λ units input. (λ i. of_allocation around here target number (e i) (left units input s))
         ∙ (λ i. unless here (premise (not (other i)) Ub.U12 ∷ []) (give (PointerValue (first_of_row (Heap number) (whole_row c_type count)))) (left units input s)))
 
-    pub typed-same : same_type c_type target ≡ true → Does (typed around here target number) s (PointerValue (first_of_row (Heap number) (whole_row target count))) s
+    pub typed-same : same_type c_type target ≡ true → EvaluatesTo (typed around here target number) s (PointerValue (first_of_row (Heap number) (whole_row target count))) s
     typed-same same = λ units input.
         (λ i. of_allocation around here target number (e i) (left units input s))
         ∙ (λ i. unless here (premise (not (same i)) Ub.U12 ∷ []) (give (PointerValue (first_of_row (Heap number) (whole_row (same_type-true c_type target same i) count)))) (left units input s))
@@ -91,22 +90,22 @@ module _ (around : Around) (here : Pos) (target : CType) (number : ℕ) (s : Sta
     typed-odd odd = undefined-here (typed around here target number) s Ub.U13 here
         (λ units input. raw-typed units input ∙ (λ i. typed_by (not (odd i)) (size / own) (left units input s)))
 
-    pub typed-fresh : (size % own == 0) ≡ true → Does (typed around here target number) s (PointerValue (first_of_row (Heap number) (whole_row target (size / own))))
+    pub typed-fresh : (size % own == 0) ≡ true → EvaluatesTo (typed around here target number) s (PointerValue (first_of_row (Heap number) (whole_row target (size / own))))
         (record s { objects = with_content (Heap number) (Elements false target (size / own) (λ offset. None)) s.objects })
     typed-fresh even = λ units input. raw-typed units input ∙ (λ i. typed_by (not (even i)) (size / own) (left units input s))
 
 -- ---- conversions
 
-abbrev repointed_by : Around → Pos → CType → Scalar → Bool → Bool → Eval Scalar
+abbrev repointed_by : TypeEnvironment → Pos → CType → Scalar → Bool → Bool → Eval Scalar
 repointed_by around here target value gone void = unless here (premise gone Ub.U06 ∷ []) (if void then give value else retyped around here target value)
 
-module _ (around : Around) (here : Pos) (target : CType) (value : Scalar) (s : State) where
+module _ (around : TypeEnvironment) (here : Pos) (target : CType) (value : Scalar) (s : State) where
   pub repointed-dead : is_dead_pointer s.objects value ≡ true → IsUndefined (repointed around here target value) s Ub.U06 here
   repointed-dead gone = undefined-here (repointed around here target value) s Ub.U06 here
       (λ units input i. repointed_by around here target value (gone i) (is_like_void around.completed target) (left units input s))
 
   module _ (gone : is_dead_pointer s.objects value ≡ false) where
-    pub repointed-void : is_like_void around.completed target ≡ true → Does (repointed around here target value) s value s
+    pub repointed-void : is_like_void around.completed target ≡ true → EvaluatesTo (repointed around here target value) s value s
     repointed-void void = λ units input i. repointed_by around here target value (gone i) (void i) (left units input s)
 
     -- it does what the type makes of it
@@ -121,13 +120,13 @@ module _ (around : Around) (here : Pos) (target : CType) (value : Scalar) (s : S
     repointed-other other = undefined-here (repointed around here target value) s Ub.U12 here
         (λ units input. through units input ∙ (λ i. unless here (premise (not (other i)) Ub.U12 ∷ []) (give (PointerValue place)) (left units input s)))
 
-    pub repointed-same : same_type place.row.c_type target ≡ true → Does (repointed around here target value) s value s
+    pub repointed-same : same_type place.row.c_type target ≡ true → EvaluatesTo (repointed around here target value) s value s
     repointed-same same = λ units input.
         through units input ∙ (λ i. unless here (premise (not (same i)) Ub.U12 ∷ []) (give (PointerValue place)) (left units input s)) ∙ (λ i. give (sym is i) (left units input s))
 
 -- a call gives what an evaluation comes to that does the same
-pub gives-as : {A B : Type 0} (around : Around) (old new : Store) (base : ℕ) (view : B → A) (first second : Eval A) (result : Result B Stop)
-    → ((state : State) → At around old base state → (units : ℕ) (input : List ℕ) → first (left units input state) ≡ second (left units input state)) → Gives around old new base view second result → Gives around old new base view first result
+pub gives-as : {A B : Type 0} (around : TypeEnvironment) (old new : Store) (base : ℕ) (view : B → A) (first second : Eval A) (result : Result B Stop)
+    → ((state : State) → At around old base state → (units : ℕ) (input : List ℕ) → first (left units input state) ≡ second (left units input state)) → CallGives around old new base view second result → CallGives around old new base view first result
 gives-as around old new base view first second (Ok value) same gives = λ state at.
     let one = gives state at in
     record { after = one.after; does = λ units input. same state at units input ∙ one.does units input; at = one.at; quiet = one.quiet }

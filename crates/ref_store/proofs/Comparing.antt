@@ -7,15 +7,17 @@ use mir.Val.{SFits}
 use Rattle.std.proofs.lemmas.Int.{ints, to_z-of_z}
 use Rattle.std.proofs.lemmas.Bool.{false≢true}
 use denote.Enum.Bare.{sameb}
-use Rattle.run_theory.specs.declared.ends.Pos.{Pos}
+use Rattle.text_place.specs.declared.place.Pos.{Pos}
 use Rattle.run_theory.specs.declared.ends.UbKind.TheVariants as Ub
 use Rattle.c_num.specs.declared.Relation.{Relation}
 use Rattle.c_num.specs.declared.Relation.TheVariants as R
 use Rattle.c_num.specs.contracts.Relation.{the_type}
+use Rattle.c_num.specs.declared.IntType.TheVariants as I
+use Rattle.c_num.specs.Types.{is_value}
 use Rattle.c_num.specs.Arith.{compare_of}
-use Rattle.c_meaning.specs.Values.{Scalar, IntegerValue}
-use Rattle.c_meaning.specs.Store.{Around, State, Premise, Eval, premise, give, is_dead_pointer}
-use Rattle.c_meaning.specs.Pointers.{truth, is_end_beside, is_equality, truth_of_equality, is_one_row, index_of, are_equal, compared_pointers, difference}
+use Rattle.ref_semantics.specs.Values.{Scalar, IntegerValue}
+use Rattle.ref_semantics.specs.Store.{TypeEnvironment, State, Premise, Eval, premise, give, is_dead_pointer}
+use Rattle.ref_semantics.specs.Pointers.{truth, is_end_beside, is_equality, truth_of_equality, are_in_one_row, index_of, are_equal, compared_pointers, difference}
 use Rattle.ref_store.specs.declared.store.Store.{Store}
 use Rattle.ref_store.specs.Holding.{At, left, IsUndefined, Comes}
 use Rattle.ref_store.proofs.Giving.{unless-fails, unless-holds, undefined-here, comes-same}
@@ -43,88 +45,103 @@ is_either_dead state a b = is_dead_pointer state.objects a || is_dead_pointer st
 abbrev between : Scalar → Scalar → Eval Scalar
 between a b = give (IntegerValue (index_of a -ℤ index_of b))
 
-abbrev apart : Scalar → Scalar → List Premise
-apart a b = premise (not (is_one_row a b)) Ub.U10 ∷ []
+abbrev pub is_long_between : Scalar → Scalar → Bool
+is_long_between a b = is_value I.Long (index_of a -ℤ index_of b)
+
+abbrev far : Scalar → Scalar → List Premise
+far a b = premise (not (is_long_between a b)) Ub.U10 ∷ []
+
+abbrev apart : State → Scalar → Scalar → List Premise
+apart state a b = premise (not (are_in_one_row state.objects a b)) Ub.U10 ∷ far a b
 
 pub difference-dead : (here : Pos) (a b : Scalar) (state : State) → is_either_dead state a b ≡ true → IsUndefined (difference here a b) state Ub.U06 here
 difference-dead here a b state dead =
-    undefined-here (difference here a b) state Ub.U06 here (λ units input. unless-fails here (is_either_dead state a b) Ub.U06 (apart a b) (between a b) (left units input state) dead)
+    undefined-here (difference here a b) state Ub.U06 here (λ units input. unless-fails here (is_either_dead state a b) Ub.U06 (apart state a b) (between a b) (left units input state) dead)
 
-pub difference-apart : (here : Pos) (a b : Scalar) (state : State) → is_either_dead state a b ≡ false → false ≡ is_one_row a b → IsUndefined (difference here a b) state Ub.U10 here
+pub difference-apart : (here : Pos) (a b : Scalar) (state : State) → is_either_dead state a b ≡ false → false ≡ are_in_one_row state.objects a b → IsUndefined (difference here a b) state Ub.U10 here
 difference-apart here a b state live one =
     undefined-here (difference here a b) state Ub.U10 here (λ units input.
-    unless-holds here (is_either_dead state a b) Ub.U06 (apart a b) (between a b) (left units input state) live
-    ∙ unless-fails here (not (is_one_row a b)) Ub.U10 [] (between a b) (left units input state) (sym (ap not one)))
+    unless-holds here (is_either_dead state a b) Ub.U06 (apart state a b) (between a b) (left units input state) live
+    ∙ unless-fails here (not (are_in_one_row state.objects a b)) Ub.U10 (far a b) (between a b) (left units input state) (sym (ap not one)))
 
-pub difference-comes : (around : Around) (store : Store) (base : ℕ) (here : Pos) (a b : Scalar) (state : State) (value : Scalar)
-    → is_either_dead state a b ≡ false → true ≡ is_one_row a b → At around store base state → IntegerValue (index_of a -ℤ index_of b) ≡ value
+pub difference-far : (here : Pos) (a b : Scalar) (state : State) → is_either_dead state a b ≡ false → true ≡ are_in_one_row state.objects a b → is_long_between a b ≡ false
+    → IsUndefined (difference here a b) state Ub.U10 here
+difference-far here a b state live one long =
+    undefined-here (difference here a b) state Ub.U10 here (λ units input.
+    unless-holds here (is_either_dead state a b) Ub.U06 (apart state a b) (between a b) (left units input state) live
+    ∙ unless-holds here (not (are_in_one_row state.objects a b)) Ub.U10 (far a b) (between a b) (left units input state) (sym (ap not one))
+    ∙ unless-fails here (not (is_long_between a b)) Ub.U10 [] (between a b) (left units input state) (ap not long))
+
+pub difference-comes : (around : TypeEnvironment) (store : Store) (base : ℕ) (here : Pos) (a b : Scalar) (state : State) (value : Scalar)
+    → is_either_dead state a b ≡ false → true ≡ are_in_one_row state.objects a b → is_long_between a b ≡ true → At around store base state → IntegerValue (index_of a -ℤ index_of b) ≡ value
     → Comes around store base (difference here a b) state value
-difference-comes around store base here a b state value live one at is =
+difference-comes around store base here a b state value live one long at is =
     comes-same around store base (difference here a b) state value (λ units input.
-    unless-holds here (is_either_dead state a b) Ub.U06 (apart a b) (between a b) (left units input state) live
-    ∙ unless-holds here (not (is_one_row a b)) Ub.U10 [] (between a b) (left units input state) (sym (ap not one))
+    unless-holds here (is_either_dead state a b) Ub.U06 (apart state a b) (between a b) (left units input state) live
+    ∙ unless-holds here (not (are_in_one_row state.objects a b)) Ub.U10 (far a b) (between a b) (left units input state) (sym (ap not one))
+    ∙ unless-holds here (not (is_long_between a b)) Ub.U10 [] (between a b) (left units input state) (ap not long)
     ∙ ap (λ v. give v (left units input state)) is) at
 
 -- ---- comparisons
 
-abbrev outcome : Around → Relation → Scalar → Scalar → Scalar
+abbrev outcome : TypeEnvironment → Relation → Scalar → Scalar → Scalar
 outcome around relation a b = if is_equality relation then truth_of_equality relation (are_equal around a b) else truth (compare_of relation (index_of a) (index_of b))
 
-abbrev is_beside : Relation → Scalar → Scalar → Bool
-is_beside relation a b = if is_equality relation then is_end_beside a b else not (is_one_row a b)
+abbrev is_beside : State → Relation → Scalar → Scalar → Bool
+is_beside state relation a b = if is_equality relation then is_end_beside a b else not (are_in_one_row state.objects a b)
 
-pub compared-dead : (around : Around) (relation : Relation) (here : Pos) (a b : Scalar) (state : State) → is_either_dead state a b ≡ true
+pub compared-dead : (around : TypeEnvironment) (relation : Relation) (here : Pos) (a b : Scalar) (state : State) → is_either_dead state a b ≡ true
     → IsUndefined (compared_pointers around relation here a b) state Ub.U06 here
 compared-dead around relation here a b state dead =
     undefined-here (compared_pointers around relation here a b) state Ub.U06 here (λ units input.
-    unless-fails here (is_either_dead state a b) Ub.U06 (premise (is_beside relation a b) Ub.U09 ∷ []) (give (outcome around relation a b)) (left units input state) dead)
+    unless-fails here (is_either_dead state a b) Ub.U06 (premise (is_beside state relation a b) Ub.U09 ∷ []) (give (outcome around relation a b)) (left units input state) dead)
 
-compared-beside : (around : Around) (relation : Relation) (here : Pos) (a b : Scalar) (state : State) → is_either_dead state a b ≡ false → is_beside relation a b ≡ true
+compared-beside : (around : TypeEnvironment) (relation : Relation) (here : Pos) (a b : Scalar) (state : State) → is_either_dead state a b ≡ false → is_beside state relation a b ≡ true
     → IsUndefined (compared_pointers around relation here a b) state Ub.U09 here
 compared-beside around relation here a b state live beside =
     undefined-here (compared_pointers around relation here a b) state Ub.U09 here (λ units input.
-    unless-holds here (is_either_dead state a b) Ub.U06 (premise (is_beside relation a b) Ub.U09 ∷ []) (give (outcome around relation a b)) (left units input state) live
-    ∙ unless-fails here (is_beside relation a b) Ub.U09 [] (give (outcome around relation a b)) (left units input state) beside)
+    unless-holds here (is_either_dead state a b) Ub.U06 (premise (is_beside state relation a b) Ub.U09 ∷ []) (give (outcome around relation a b)) (left units input state) live
+    ∙ unless-fails here (is_beside state relation a b) Ub.U09 [] (give (outcome around relation a b)) (left units input state) beside)
 
-compared-comes : (around : Around) (store : Store) (base : ℕ) (relation : Relation) (here : Pos) (a b : Scalar) (state : State) (value : Scalar)
-    → is_either_dead state a b ≡ false → is_beside relation a b ≡ false → At around store base state → outcome around relation a b ≡ value
+compared-comes : (around : TypeEnvironment) (store : Store) (base : ℕ) (relation : Relation) (here : Pos) (a b : Scalar) (state : State) (value : Scalar)
+    → is_either_dead state a b ≡ false → is_beside state relation a b ≡ false → At around store base state → outcome around relation a b ≡ value
     → Comes around store base (compared_pointers around relation here a b) state value
 compared-comes around store base relation here a b state value live beside at is =
     comes-same around store base (compared_pointers around relation here a b) state value (λ units input.
-    unless-holds here (is_either_dead state a b) Ub.U06 (premise (is_beside relation a b) Ub.U09 ∷ []) (give (outcome around relation a b)) (left units input state) live
-    ∙ unless-holds here (is_beside relation a b) Ub.U09 [] (give (outcome around relation a b)) (left units input state) beside
+    unless-holds here (is_either_dead state a b) Ub.U06 (premise (is_beside state relation a b) Ub.U09 ∷ []) (give (outcome around relation a b)) (left units input state) live
+    ∙ unless-holds here (is_beside state relation a b) Ub.U09 [] (give (outcome around relation a b)) (left units input state) beside
     ∙ ap (λ v. give v (left units input state)) is) at
 
-pub equality-beside : (around : Around) (relation : Relation) (here : Pos) (a b : Scalar) (state : State)
+pub equality-beside : (around : TypeEnvironment) (relation : Relation) (here : Pos) (a b : Scalar) (state : State)
     → is_either_dead state a b ≡ false → true ≡ is_equality relation → true ≡ is_end_beside a b
     → IsUndefined (compared_pointers around relation here a b) state Ub.U09 here
 equality-beside around relation here a b state live equality beside =
     compared-beside around relation here a b state live
-    (ap (λ t. if t then is_end_beside a b else not (is_one_row a b)) (sym equality) ∙ sym beside)
+    (ap (λ t. if t then is_end_beside a b else not (are_in_one_row state.objects a b)) (sym equality) ∙ sym beside)
 
-pub order-beside : (around : Around) (relation : Relation) (here : Pos) (a b : Scalar) (state : State)
-    → is_either_dead state a b ≡ false → false ≡ is_equality relation → false ≡ is_one_row a b
+pub order-beside : (around : TypeEnvironment) (relation : Relation) (here : Pos) (a b : Scalar) (state : State)
+    → is_either_dead state a b ≡ false → false ≡ is_equality relation → false ≡ are_in_one_row state.objects a b
     → IsUndefined (compared_pointers around relation here a b) state Ub.U09 here
 order-beside around relation here a b state live equality one =
     compared-beside around relation here a b state live
-    (ap (λ t. if t then is_end_beside a b else not (is_one_row a b)) (sym equality) ∙ sym (ap not one))
+    (ap (λ t. if t then is_end_beside a b else not (are_in_one_row state.objects a b)) (sym equality) ∙ sym (ap not one))
 
-pub equality-comes : (around : Around) (store : Store) (base : ℕ) (relation : Relation) (here : Pos) (a b : Scalar) (state : State) (value : Scalar)
+pub equality-comes : (around : TypeEnvironment) (store : Store) (base : ℕ) (relation : Relation) (here : Pos) (a b : Scalar) (state : State) (value : Scalar)
     → is_either_dead state a b ≡ false → true ≡ is_equality relation → false ≡ is_end_beside a b → At around store base state
     → truth_of_equality relation (are_equal around a b) ≡ value
     → Comes around store base (compared_pointers around relation here a b) state value
 equality-comes around store base relation here a b state value live equality beside at is =
     compared-comes around store base relation here a b state value live
-    (ap (λ t. if t then is_end_beside a b else not (is_one_row a b)) (sym equality) ∙ sym beside) at
+    (ap (λ t. if t then is_end_beside a b else not (are_in_one_row state.objects a b)) (sym equality) ∙ sym beside) at
     (ap (λ t. if t then truth_of_equality relation (are_equal around a b) else truth (compare_of relation (index_of a) (index_of b))) (sym equality) ∙ is)
 
-pub order-comes : (around : Around) (store : Store) (base : ℕ) (relation : Relation) (here : Pos) (a b : Scalar) (state : State) (value : Scalar)
-    → is_either_dead state a b ≡ false → false ≡ is_equality relation → true ≡ is_one_row a b → At around store base state
+pub order-comes : (around : TypeEnvironment) (store : Store) (base : ℕ) (relation : Relation) (here : Pos) (a b : Scalar) (state : State) (value : Scalar)
+    → is_either_dead state a b ≡ false → false ≡ is_equality relation → true ≡ are_in_one_row state.objects a b → At around store base state
     → truth (compare_of relation (index_of a) (index_of b)) ≡ value
     → Comes around store base (compared_pointers around relation here a b) state value
 order-comes around store base relation here a b state value live equality one at is =
     compared-comes around store base relation here a b state value live
-    (ap (λ t. if t then is_end_beside a b else not (is_one_row a b)) (sym equality) ∙ sym (ap not one)) at
+    (ap (λ t. if t then is_end_beside a b else not (are_in_one_row state.objects a b)) (sym equality) ∙ sym (ap not one)) at
     (ap (λ t. if t then truth_of_equality relation (are_equal around a b) else truth (compare_of relation (index_of a) (index_of b))) (sym equality) ∙ is)
 
 -- ---- what `==` and `!=` of a relation say

@@ -1,17 +1,17 @@
 -- What the functions that fill the store before a program runs keep.
 use Rattle.std.proofs.Common.{◌≡◌, ℕ, zero, suc, ◌+◌, ◌<◌, Bool, true, false, if◌then◌else◌, List, [], ◌∷◌, ◌++◌, length, get_or, take, drop, map, Option, Some, None, bytes_eq, refl, sym, ap, subst, ◌∙◌, arith, true≢false}
 use Rattle.std.proofs.lemmas.List.{take_more, drop_more, map-append}
-use Rattle.run_theory.specs.declared.ends.Pos.{Pos}
+use Rattle.text_place.specs.declared.place.Pos.{Pos}
 use Rattle.c_typed.specs.declared.definition.GlobalDef as memory_global
 use Rattle.c_typed.specs.Types.{CType}
 use Rattle.c_typed.specs.Typed.{GlobalDef, LiteralDef, Program}
 use Rattle.c_typed.specs.Table.{Interned, Stands, type_in}
 use Rattle.c_typed.specs.DefinitionViews.{global_in, all_first, GlobalsStand}
-use Rattle.c_rules.specs.Known.{is_same_place}
-use Rattle.c_meaning.specs.Values.{Name, Heap, Outer, Text, Own, Scalar, Content, Dead, Raw, Elements, same_name, whole_row}
-use Rattle.c_meaning.specs.Store.{Objects, is_dead, with_content}
-use Rattle.c_meaning.specs.First.{type_of_global, literal_at, literal_content, or_void, option_type, first_held, global_content, first_objects}
-use Rattle.c_meaning.specs.Meaning.{literal_type}
+use Rattle.c_typed.specs.Places.{is_same_place}
+use Rattle.ref_semantics.specs.Values.{Name, Heap, GlobalObject, LiteralObject, LocalObject, Scalar, Content, Dead, Raw, Elements, same_name, whole_row}
+use Rattle.ref_semantics.specs.Store.{Objects, is_dead, with_content}
+use Rattle.ref_semantics.specs.First.{type_of_global, literal_at, literal_content, or_void, option_type, first_held, global_content, first_objects}
+use Rattle.ref_semantics.specs.Meaning.{literal_type}
 use Rattle.ref_store.specs.declared.object.Content.TheVariants as C
 use Rattle.ref_store.specs.declared.object.Elements as memory_elements
 use Rattle.ref_store.specs.Holding.{AllHeld, ContentIs, elements}
@@ -83,24 +83,24 @@ literal_added (first ∷ others) literal place = by (literal_added others litera
     by more false = more
 
 pub unfilled_global : (globals : List GlobalDef) (global : GlobalDef) (name : Name)
-    → with_new (Outer global.name) (unfilled (Some global.c_type)) (unfilled_of globals []) name ≡ unfilled_of (globals ++ global ∷ []) [] name
+    → with_new (GlobalObject global.name) (unfilled (Some global.c_type)) (unfilled_of globals []) name ≡ unfilled_of (globals ++ global ∷ []) [] name
 unfilled_global globals global (Heap number) = refl
-unfilled_global globals global (Outer name) = global_added globals global name
-unfilled_global globals global (Text place) = refl
-unfilled_global globals global (Own number) = refl
+unfilled_global globals global (GlobalObject name) = global_added globals global name
+unfilled_global globals global (LiteralObject place) = refl
+unfilled_global globals global (LocalObject number) = refl
 
 pub unfilled_literal : (globals : List GlobalDef) (literals : List LiteralDef) (literal : LiteralDef) (name : Name)
-    → with_new (Text literal.place) (literal_content (Some literal)) (unfilled_of globals literals) name ≡ unfilled_of globals (literals ++ literal ∷ []) name
+    → with_new (LiteralObject literal.place) (literal_content (Some literal)) (unfilled_of globals literals) name ≡ unfilled_of globals (literals ++ literal ∷ []) name
 unfilled_literal globals literals literal (Heap number) = refl
-unfilled_literal globals literals literal (Outer name) = sym (or_dead (unfilled (type_of_global globals name)))
-unfilled_literal globals literals literal (Text place) = literal_added literals literal place
-unfilled_literal globals literals literal (Own number) = refl
+unfilled_literal globals literals literal (GlobalObject name) = sym (or_dead (unfilled (type_of_global globals name)))
+unfilled_literal globals literals literal (LiteralObject place) = literal_added literals literal place
+unfilled_literal globals literals literal (LocalObject number) = refl
 
 pub unfilled_none : (name : Name) → Dead ≡ unfilled_of [] [] name
 unfilled_none (Heap number) = refl
-unfilled_none (Outer name) = refl
-unfilled_none (Text place) = refl
-unfilled_none (Own number) = refl
+unfilled_none (GlobalObject name) = refl
+unfilled_none (LiteralObject place) = refl
+unfilled_none (LocalObject number) = refl
 
 -- ---- the rows of objects
 
@@ -156,13 +156,13 @@ global_stands table (g ∷ globals) (suc n) global all lt at = global_stands tab
 -- ---- the variables with their first values
 
 module _ (program : Program) where
-  filled_outer : (globals : List GlobalDef) (objects : Objects) (name : List ℕ) → (type_of_global globals name ≡ None → objects (Outer name) ≡ Dead) → filled program globals objects (Outer name) ≡ global_content program globals name
+  filled_outer : (globals : List GlobalDef) (objects : Objects) (name : List ℕ) → (type_of_global globals name ≡ None → objects (GlobalObject name) ≡ Dead) → filled program globals objects (GlobalObject name) ≡ global_content program globals name
   filled_outer [] objects name h = h refl
   filled_outer (first ∷ others) objects name h = by (filled_outer others objects name) (bytes_eq first.name name) h
     where
-      by : ((type_of_global others name ≡ None → objects (Outer name) ≡ Dead) → filled program others objects (Outer name) ≡ global_content program others name)
-          → (b : Bool) → ((if b then Some first.c_type else type_of_global others name) ≡ None → objects (Outer name) ≡ Dead)
-          → (if b then Elements true first.c_type 1 (first_held program first.c_type first.first) else filled program others objects (Outer name))
+      by : ((type_of_global others name ≡ None → objects (GlobalObject name) ≡ Dead) → filled program others objects (GlobalObject name) ≡ global_content program others name)
+          → (b : Bool) → ((if b then Some first.c_type else type_of_global others name) ≡ None → objects (GlobalObject name) ≡ Dead)
+          → (if b then Elements true first.c_type 1 (first_held program first.c_type first.first) else filled program others objects (GlobalObject name))
           ≡ (if b then Elements true first.c_type 1 (first_held program first.c_type first.first) else global_content program others name)
       by more true none = refl
       by more false none = more none
@@ -171,23 +171,23 @@ module _ (program : Program) where
   filled_heap [] objects number = refl
   filled_heap (first ∷ others) objects number = filled_heap others objects number
 
-  filled_text : (globals : List GlobalDef) (objects : Objects) (place : Pos) → filled program globals objects (Text place) ≡ objects (Text place)
+  filled_text : (globals : List GlobalDef) (objects : Objects) (place : Pos) → filled program globals objects (LiteralObject place) ≡ objects (LiteralObject place)
   filled_text [] objects place = refl
   filled_text (first ∷ others) objects place = filled_text others objects place
 
-  filled_own : (globals : List GlobalDef) (objects : Objects) (number : ℕ) → filled program globals objects (Own number) ≡ objects (Own number)
+  filled_own : (globals : List GlobalDef) (objects : Objects) (number : ℕ) → filled program globals objects (LocalObject number) ≡ objects (LocalObject number)
   filled_own [] objects number = refl
   filled_own (first ∷ others) objects number = filled_own others objects number
 
   pub filled_all : (name : Name) → filled program program.globals (unfilled_objects program) name ≡ first_objects program name
   filled_all (Heap number) = filled_heap program.globals (unfilled_objects program) number
-  filled_all (Outer name) = filled_outer program.globals (unfilled_objects program) name (λ none. ap unfilled none)
-  filled_all (Text place) = filled_text program.globals (unfilled_objects program) place
-  filled_all (Own number) = filled_own program.globals (unfilled_objects program) number
+  filled_all (GlobalObject name) = filled_outer program.globals (unfilled_objects program) name (λ none. ap unfilled none)
+  filled_all (LiteralObject place) = filled_text program.globals (unfilled_objects program) place
+  filled_all (LocalObject number) = filled_own program.globals (unfilled_objects program) number
 
   -- one more of them
   pub filled_step : (table : Interned) (globals : List memory_global.GlobalDef) (n : ℕ) (global : memory_global.GlobalDef) (objects : Objects) → n < length globals → global ≡ get_or globals n global
-      → with_content (Outer global.name) (Elements true (type_in table global.c_type) 1 (first_held program (type_in table global.c_type) (all_first global.first.items))) (filled program (map (global_in table) (drop (n + 1) globals)) objects)
+      → with_content (GlobalObject global.name) (Elements true (type_in table global.c_type) 1 (first_held program (type_in table global.c_type) (all_first global.first.items))) (filled program (map (global_in table) (drop (n + 1) globals)) objects)
       ≡ filled program (map (global_in table) (drop n globals)) objects
   filled_step table globals n global objects lt at =
       ap (λ (g : memory_global.GlobalDef). filled program (map (global_in table) (g ∷ drop (n + 1) globals)) objects) at

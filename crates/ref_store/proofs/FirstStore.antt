@@ -5,8 +5,8 @@ use Rattle.indexmap.specs.IndexMap.{IndexMap, get, get_by}
 use Rattle.c_typed.specs.Types.{Void}
 use Rattle.c_typed.specs.Table.{Interned}
 use Rattle.c_typed.proofs.Grown.{void_stands}
-use Rattle.c_meaning.specs.Values.{Name, Content, whole_row}
-use Rattle.c_meaning.specs.Store.{Around, State, Objects, is_dead, row_of, with_content}
+use Rattle.ref_semantics.specs.Values.{Name, Content, whole_row}
+use Rattle.ref_semantics.specs.Store.{TypeEnvironment, State, Objects, is_dead, row_of, with_content}
 use Rattle.ref_store.specs.declared.value.Name as memory_name
 use Rattle.ref_store.specs.declared.object.Content as memory_content
 use Rattle.ref_store.specs.declared.store.Store.{Store}
@@ -19,7 +19,7 @@ use Rattle.ref_store.proofs.Updating.{Changes, at_changed}
 use Rattle.ref_store.proofs.FirstObjects.{new_added, new_left}
 
 -- objects that hold the same
-pub at_same : (around : Around) (store : Store) (base : ℕ) (state : State) (objects : Objects) → ((name : Name) → state.objects name ≡ objects name) → At around store base state → At around store base (record state { objects = objects })
+pub at_same : (around : TypeEnvironment) (store : Store) (base : ℕ) (state : State) (objects : Objects) → ((name : Name) → state.objects name ≡ objects name) → At around store base state → At around store base (record state { objects = objects })
 at_same around store base state objects same at = record {
   structs = at.structs;
   completed = at.completed;
@@ -53,7 +53,7 @@ pub looked_dead : {S : Type 0} (table : Interned) (map : IndexMap memory_name.Na
 looked_dead table map name found content e is =
     not_not (is_some found) (is_dead content) (copied found ∙ living table (option_copied found) content (looked table map name (option_copied found) content e is))
 
-module _ (around : Around) (store : Store) (base : ℕ) (state : State) (name : memory_name.Name) (content : Content) where
+module _ (around : TypeEnvironment) (store : Store) (base : ℕ) (state : State) (name : memory_name.Name) (content : Content) where
   -- an object is added
   pub at_new : (new : Store) (memory : Option memory_content.Content) → Changes name memory store.objects new.objects → ContentIs store.types.now memory content → is_dead (state.objects (name_of name)) ≡ true → At around store base state
       → At around (record store { objects = new.objects }) base (record state { objects = with_new (name_of name) content state.objects })

@@ -4,7 +4,7 @@ use Rattle.std.specs.List.{list_any}
 use Rattle.std.proofs.lemmas.Bool.{false≢true, false_from_ne_true}
 use Rattle.std.proofs.lemmas.Slice.Eq.{bytes_eq-Decides}
 use Rattle.indexmap.specs.IndexSet.{insert_key}
-use Rattle.c_rules.specs.Names.{contains}
+use Rattle.c_typed.specs.Names.{contains}
 
 same_bytes : (a b : List ℕ) → bytes_eq a b ≡ bytes_eq b a
 same_bytes a b = by (bytes_eq a b) refl

@@ -12,9 +12,9 @@ use Rattle.c_typed.specs.Values as values
 use Rattle.c_typed.specs.Typed.{Program}
 use Rattle.c_typed.specs.Table.{Interned}
 use Rattle.c_typed.specs.DefinitionViews.{characters_held, first_of, all_first}
-use Rattle.c_meaning.specs.Values.{Heap, Place, Scalar, IntegerValue, object_place, at_index}
-use Rattle.c_meaning.specs.Store.{Around, offset_of}
-use Rattle.c_meaning.specs.First.{around_of, stepped, walked, first_scalar, first_held, characters}
+use Rattle.ref_semantics.specs.Values.{Heap, Place, Scalar, IntegerValue, object_place, at_index}
+use Rattle.ref_semantics.specs.Store.{TypeEnvironment, offset_of}
+use Rattle.ref_semantics.specs.First.{around_of, stepped, walked, first_scalar, first_held, characters}
 use Rattle.ref_store.specs.declared.value.Scalar as memory_scalar
 use Rattle.ref_store.specs.Views.{scalar_in, ScalarStands}
 use Rattle.ref_store.specs.Holding.{HeldIs}
@@ -52,7 +52,7 @@ characters_step bytes n k lt =
 
 -- ---- bytes as the elements of a row
 
-module _ (around : Around) (place : Place) (int_type : IntType) where
+module _ (around : TypeEnvironment) (place : Place) (int_type : IntType) where
   abbrev one : ℕ → ℕ → ℕ → Option Scalar
   one index byte offset = if offset_of around (at_index place index) == offset then Some (IntegerValue (convert_to int_type (pos byte))) else None
 
@@ -81,7 +81,7 @@ module _ (around : Around) (place : Place) (int_type : IntType) where
 
 -- ---- what initializers give
 
-walked_at : (around : Around) (place : Place) (steps : List Part) (index : ℕ) → walked around place steps index ≡ at_index (walked around place steps 0) index
+walked_at : (around : TypeEnvironment) (place : Place) (steps : List Part) (index : ℕ) → walked around place steps index ≡ at_index (walked around place steps 0) index
 walked_at around place [] index = refl
 walked_at around place (step ∷ steps) index = walked_at around (stepped around place step) steps index
 

@@ -6,9 +6,9 @@ use Rattle.std.proofs.lemmas.List.{reverse-append, length-append}
 use Rattle.std.proofs.lemmas.Option.{slice_get_past}
 use Rattle.indexmap.specs.IndexMap.{IndexMap, get, get_by}
 use Rattle.c_typed.specs.Table.{Interned}
-use Rattle.c_meaning.specs.Values.{Name, Own, Place, Content, first_of_row}
-use Rattle.c_meaning.specs.Store.{Around, State, Then, is_dead, row_of}
-use Rattle.c_meaning.specs.Meaning.{named, local_name, local_place}
+use Rattle.ref_semantics.specs.Values.{Name, LocalObject, Place, Content, first_of_row}
+use Rattle.ref_semantics.specs.Store.{TypeEnvironment, State, Then, is_dead, row_of}
+use Rattle.ref_semantics.specs.Meaning.{named, local_name, local_place}
 use Rattle.ref_store.specs.declared.value.Name as memory_name
 use Rattle.ref_store.specs.declared.value.Place as memory_place
 use Rattle.ref_store.specs.declared.value.Row as memory_row
@@ -50,7 +50,7 @@ pub no_row_found : (table : Interned) (content : Content) → ContentIs table No
 no_row_found table content dead = nothing_means table
 
 -- an object alone, with the row that its content has
-pub comes-named : (around : Around) (store : Store) (base : ℕ) (state : State) (name : memory_name.Name) (place : memory_place.Place) (row : memory_row.Row) → place ≡ record { name = name; row = row; index = 0 }
+pub comes-named : (around : TypeEnvironment) (store : Store) (base : ℕ) (state : State) (name : memory_name.Name) (place : memory_place.Place) (row : memory_row.Row) → place ≡ record { name = name; row = row; index = 0 }
     → row_in store.types.now row ≡ row_of (state.objects (name_of name)) → At around store base state → Comes around store base (named (name_of name)) state (place_in store.types.now place)
 comes-named around store base state name place row is means at =
     let whole : place_in store.types.now place ≡ first_of_row (name_of name) (row_of (state.objects (name_of name))) = ap (place_in store.types.now) is ∙ ap (first_of_row (name_of name)) means in
@@ -59,13 +59,13 @@ comes-named around store base state name place row is means at =
 -- ---- locals
 
 -- the newest stands in front of a call's locals, and last among the store's
-local-newest : (newest : ℕ) (others : List ℕ) (number : ℕ) → number ≡ length others → local_name (newest ∷ others) number ≡ Some (Own newest)
-local-newest newest others number e = cond-true (eqb (length others) number) (Some (Own newest)) (local_name others number) (eq-eqb (length others) number (sym e))
+local-newest : (newest : ℕ) (others : List ℕ) (number : ℕ) → number ≡ length others → local_name (newest ∷ others) number ≡ Some (LocalObject newest)
+local-newest newest others number e = cond-true (eqb (length others) number) (Some (LocalObject newest)) (local_name others number) (eq-eqb (length others) number (sym e))
 
 local-older : (newest : ℕ) (others : List ℕ) (number : ℕ) → (number ≡ length others → ⊥) → local_name (newest ∷ others) number ≡ local_name others number
-local-older newest others number ne = cond-false (eqb (length others) number) (Some (Own newest)) (local_name others number) (ne_eqb (length others) number (λ e. ne (sym e)))
+local-older newest others number ne = cond-false (eqb (length others) number) (Some (LocalObject newest)) (local_name others number) (ne_eqb (length others) number (λ e. ne (sym e)))
 
-local-first : (ys : List ℕ) (x : ℕ) → local_name (ys ++ x ∷ []) 0 ≡ Some (Own x)
+local-first : (ys : List ℕ) (x : ℕ) → local_name (ys ++ x ∷ []) 0 ≡ Some (LocalObject x)
 local-first [] x = local-newest x [] 0 refl
 local-first (y ∷ ys) x =
     let long = length-append ys (x ∷ []) in
@@ -82,7 +82,7 @@ local-behind (y ∷ ys) x number = by (cases_eq number (length ys)) (local-behin
     by (inl same) rest = local-newest y (ys ++ x ∷ []) (suc number) (omega (arith, long)) ∙ sym (local-newest y ys number same)
     by (inr other) rest = local-older y (ys ++ x ∷ []) (suc number) (λ (e : suc number ≡ length (ys ++ x ∷ [])). other (omega (arith, long))) ∙ rest ∙ sym (local-older y ys number other)
 
-pub local-reverse : (items : List ℕ) (number : ℕ) → local_name (reverse items) number ≡ option_map Own (slice_get items number)
+pub local-reverse : (items : List ℕ) (number : ℕ) → local_name (reverse items) number ≡ option_map LocalObject (slice_get items number)
 local-reverse [] number = refl
 local-reverse (x ∷ items) zero = ap (λ l. local_name l 0) (reverse-append (x ∷ []) items) ∙ local-first (reverse items) x
 local-reverse (x ∷ items) (suc number) = ap (λ l. local_name l (suc number)) (reverse-append (x ∷ []) items) ∙ local-behind (reverse items) x number ∙ local-reverse items number
@@ -96,22 +96,22 @@ slice_get-drop items zero number = ap (slice_get items) (omega arith)
 slice_get-drop [] (suc base) number = refl
 slice_get-drop (x ∷ items) (suc base) number = slice_get-drop items base number ∙ ap (slice_get (x ∷ items)) (add-suc base number)
 
-module _ (around : Around) (store : Store) (base : ℕ) (state : State) (at : At around store base state) (number : ℕ) where
-  local-found : local_name state.locals number ≡ option_map Own (slice_get store.locals.items (base + number))
-  local-found = ap (λ l. local_name l number) at.locals ∙ local-reverse (drop base store.locals.items) number ∙ ap (option_map Own) (slice_get-drop store.locals.items base number)
+module _ (around : TypeEnvironment) (store : Store) (base : ℕ) (state : State) (at : At around store base state) (number : ℕ) where
+  local-found : local_name state.locals number ≡ option_map LocalObject (slice_get store.locals.items (base + number))
+  local-found = ap (λ l. local_name l number) at.locals ∙ local-reverse (drop base store.locals.items) number ∙ ap (option_map LocalObject) (slice_get-drop store.locals.items base number)
 
-  local-there : (own : ℕ) → slice_get store.locals.items (base + number) ≡ Some own → local_name state.locals number ≡ Some (Own own)
-  local-there own e = local-found ∙ ap (option_map Own) e
+  local-there : (own : ℕ) → slice_get store.locals.items (base + number) ≡ Some own → local_name state.locals number ≡ Some (LocalObject own)
+  local-there own e = local-found ∙ ap (option_map LocalObject) e
 
   local-nowhere : length store.locals.items ≤ base + number → local_name state.locals number ≡ None
-  local-nowhere past = local-found ∙ ap (option_map Own) (slice_get_past store.locals.items (base + number) past)
+  local-nowhere past = local-found ∙ ap (option_map LocalObject) (slice_get_past store.locals.items (base + number) past)
 
   -- what the call of `named` comes to is what the local's place is
   comes-local : (value : Place) (name : Name) → ((units : ℕ) (input : List ℕ) → local_place number (left units input state) ≡ named name (left units input state)) → Comes around store base (named name) state value → Comes around store base (local_place number) state value
   comes-local value name same comes = record { after = comes.after; does = λ units input. same units input ∙ comes.does units input; at = comes.at; quiet = comes.quiet }
 
-  pub comes-there : (value : Place) (own : ℕ) → slice_get store.locals.items (base + number) ≡ Some own → Comes around store base (named (Own own)) state value → Comes around store base (local_place number) state value
-  comes-there value own e = comes-local value (Own own) (λ units input. rw (local-there own e) refl)
+  pub comes-there : (value : Place) (own : ℕ) → slice_get store.locals.items (base + number) ≡ Some own → Comes around store base (named (LocalObject own)) state value → Comes around store base (local_place number) state value
+  comes-there value own e = comes-local value (LocalObject own) (λ units input. rw (local-there own e) refl)
 
-  pub comes-nowhere : (value : Place) → length store.locals.items ≤ base + number → Comes around store base (named (Own 0)) state value → Comes around store base (local_place number) state value
-  comes-nowhere value past = comes-local value (Own 0) (λ units input. rw (local-nowhere past) refl)
+  pub comes-nowhere : (value : Place) → length store.locals.items ≤ base + number → Comes around store base (named (LocalObject 0)) state value → Comes around store base (local_place number) state value
+  comes-nowhere value past = comes-local value (LocalObject 0) (λ units input. rw (local-nowhere past) refl)

@@ -2,9 +2,9 @@
 use Rattle.std.proofs.Common.{◌≡◌, ℕ, ◌+◌, ◌-◌, ◌≤◌, ◌<◌, if◌then◌else◌, List, [], ◌∷◌, ◌++◌, length, take, drop, reverse, None, refl, sym, ap, subst, ◌∙◌, arith, lt-ltb, le-ltb, length-append, length-drop}
 use Rattle.std.proofs.lemmas.List.{length-reverse, take-append-le}
 use Rattle.indexmap.specs.IndexMap.{get_by}
-use Rattle.c_meaning.specs.Values.{Own, Dead}
-use Rattle.c_meaning.specs.Store.{Around, State, Objects, with_content}
-use Rattle.c_meaning.specs.Meaning.{killed, kept}
+use Rattle.ref_semantics.specs.Values.{LocalObject, Dead}
+use Rattle.ref_semantics.specs.Store.{TypeEnvironment, State, Objects, with_content}
+use Rattle.ref_semantics.specs.Meaning.{killed, kept}
 use Rattle.ref_store.specs.declared.value.Name.TheVariants as N
 use Rattle.ref_store.specs.declared.store.Store.{Store}
 use Rattle.ref_store.specs.Views.{name_of, same_memory}
@@ -13,7 +13,7 @@ use Rattle.ref_store.proofs.Updating.{Changes, all_changed}
 use Rattle.ref_store.proofs.Locals.{grown}
 
 -- a store that stands for a state some of whose newest locals died, so that as many are left to die
-pub record Still (around : Around) (store : Store) (base height : ℕ) (state : State) : Type 0 where
+pub record Still (around : TypeEnvironment) (store : Store) (base height : ℕ) (state : State) : Type 0 where
   pub objects : Objects
   pub locals : List ℕ
   pub at : At around store base (record state { objects = objects; locals = locals })
@@ -23,30 +23,30 @@ pub record Still (around : Around) (store : Store) (base height : ℕ) (state : 
 pub record IsLeaving (height : ℕ) (old new : Store) : Type 0 where
   pub types : new.types ≡ old.types
   pub front : take height new.locals.items ≡ take height old.locals.items
-  pub still : (around : Around) (base : ℕ) (state : State) → base ≤ height → At around old base state → Still around new base height state
+  pub still : (around : TypeEnvironment) (base : ℕ) (state : State) → base ≤ height → At around old base state → Still around new base height state
 
 pub none_left : (height : ℕ) (store : Store) → IsLeaving height store store
 none_left height store = record { types = refl; front = refl; still = λ around base state within at. record { objects = state.objects; locals = state.locals; at = at; dies = refl; stays = refl } }
 
-killed-more : (count number : ℕ) (others : List ℕ) (objects : Objects) → count ≤ length others → killed count (number ∷ others) objects ≡ killed count others (with_content (Own number) Dead objects)
-killed-more count number others objects more = ap (λ is_few. if is_few then objects else killed count others (with_content (Own number) Dead objects)) (le-ltb (length others) count more)
+killed-more : (count number : ℕ) (others : List ℕ) (objects : Objects) → count ≤ length others → killed count (number ∷ others) objects ≡ killed count others (with_content (LocalObject number) Dead objects)
+killed-more count number others objects more = ap (λ is_few. if is_few then objects else killed count others (with_content (LocalObject number) Dead objects)) (le-ltb (length others) count more)
 
 kept-more : (count number : ℕ) (others : List ℕ) → count ≤ length others → kept count (number ∷ others) ≡ kept count others
 kept-more count number others more = ap (λ is_few. if is_few then number ∷ others else kept count others) (le-ltb (length others) count more)
 
 killed-few : (count : ℕ) (locals : List ℕ) (objects : Objects) → length locals ≤ count → killed count locals objects ≡ objects
 killed-few count [] objects few = refl
-killed-few count (number ∷ others) objects few = ap (λ is_few. if is_few then objects else killed count others (with_content (Own number) Dead objects)) (lt-ltb (length others) count few)
+killed-few count (number ∷ others) objects few = ap (λ is_few. if is_few then objects else killed count others (with_content (LocalObject number) Dead objects)) (lt-ltb (length others) count few)
 
 kept-few : (count : ℕ) (locals : List ℕ) → length locals ≤ count → kept count locals ≡ locals
 kept-few count [] few = refl
 kept-few count (number ∷ others) few = ap (λ is_few. if is_few then number ∷ others else kept count others) (lt-ltb (length others) count few)
 
 -- one more dies
-died : (around : Around) (store new : Store) (base height : ℕ) (state : State) (number : ℕ) → base ≤ height → height < length store.locals.items → store.locals.items ≡ new.locals.items ++ (number ∷ [])
+died : (around : TypeEnvironment) (store new : Store) (base height : ℕ) (state : State) (number : ℕ) → base ≤ height → height < length store.locals.items → store.locals.items ≡ new.locals.items ++ (number ∷ [])
     → Changes (N.Own number) None store.objects new.objects → Still around store base height state → Still around (record store { objects = new.objects; locals = new.locals }) base height state
 died around store new base height state number within many items changes had = record {
-  objects = with_content (Own number) Dead had.objects;
+  objects = with_content (LocalObject number) Dead had.objects;
   locals = others;
   at = record {
     structs = had.at.structs;
@@ -81,7 +81,7 @@ one_left height old store new number many items changes had =
     record { types = had.types; front = sym (take-append-le height new.locals.items (number ∷ []) (omega (arith, ap length items ∙ length-append new.locals.items (number ∷ []), many))) ∙ (ap (take height) (sym items) ∙ had.front); still = λ around base state within at. died around store new base height state number within many items changes (had.still around base state within at) }
 
 -- no more die
-pub all_left : (around : Around) (store : Store) (base height : ℕ) (state : State) → base ≤ height → length store.locals.items ≤ height → Still around store base height state
+pub all_left : (around : TypeEnvironment) (store : Store) (base height : ℕ) (state : State) → base ≤ height → length store.locals.items ≤ height → Still around store base height state
     → At around store base (record state { objects = killed (height - base) state.locals state.objects; locals = kept (height - base) state.locals })
 all_left around store base height state within few had = record {
   structs = had.at.structs;

@@ -5,8 +5,8 @@ use Rattle.run_theory.specs.Runs.{Trace}
 use Rattle.c_typed.specs.Types.{CType}
 use Rattle.c_typed.specs.Table.{Stands, type_in}
 use Rattle.c_typed.specs.declared.c_type.CType as memory_type
-use Rattle.c_meaning.specs.Values.{Own, Scalar, Elements}
-use Rattle.c_meaning.specs.Store.{Around, State, with_content}
+use Rattle.ref_semantics.specs.Values.{LocalObject, Scalar, Elements}
+use Rattle.ref_semantics.specs.Store.{TypeEnvironment, State, with_content}
 use Rattle.ref_store.specs.declared.value.Name.TheVariants as N
 use Rattle.ref_store.specs.declared.object.Content.TheVariants as C
 use Rattle.ref_store.specs.declared.object.Elements as memory_elements
@@ -25,9 +25,9 @@ pushed result had before after number done is ok same = is ∙ λ i. if is_ok (o
 -- with one more local
 abbrev pub living : State → ℕ → CType → (ℕ → Option Scalar) → Trace → State
 living state number c_type held trace =
-    record state { objects = with_content (Own number) (Elements false c_type 1 held) state.objects; locals = number ∷ state.locals; next_local = suc number; trace = trace }
+    record state { objects = with_content (LocalObject number) (Elements false c_type 1 held) state.objects; locals = number ∷ state.locals; next_local = suc number; trace = trace }
 
-pub at_living : (around : Around) (store new : Store) (base : ℕ) (state : State) (row : memory_elements.Elements) (c_type : memory_type.CType) (held : ℕ → Option Scalar) (trace : Trace) → base ≤ length store.locals.items
+pub at_living : (around : TypeEnvironment) (store new : Store) (base : ℕ) (state : State) (row : memory_elements.Elements) (c_type : memory_type.CType) (held : ℕ → Option Scalar) (trace : Trace) → base ≤ length store.locals.items
     → row.is_static ≡ false → row.c_type ≡ c_type → row.count ≡ 1 → Stands store.types.now c_type → AllHeld store.types.now row.held held
     → new.next_local ≡ suc store.next_local → new.locals.items ≡ store.locals.items ++ (store.next_local ∷ []) → Changes (N.Own store.next_local) (Some (C.Elements row)) store.objects new.objects
     → At around store base state → At around (record store { objects = new.objects; locals = new.locals; next_local = new.next_local }) base (living state store.next_local (type_in store.types.now c_type) held trace)

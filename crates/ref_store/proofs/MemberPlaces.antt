@@ -6,8 +6,8 @@ use Rattle.c_typed.specs.Types.{CType, Struct}
 use Rattle.c_typed.specs.Layouts.{StructDef, MemberDef, layouts, known_members, members_by_tag, offset_before}
 use Rattle.c_typed.specs.Table as t
 use Rattle.c_typed.specs.Table.{Interned, Stands, KnownStands, type_in, structs_in, known_in, the_type}
-use Rattle.c_meaning.specs.Values.{Row, first_of_row}
-use Rattle.c_meaning.specs.Store.{Around, members_of, known_type, member_row, offset_of, member_at}
+use Rattle.ref_semantics.specs.Values.{Row, first_of_row}
+use Rattle.ref_semantics.specs.Store.{TypeEnvironment, members_of, known_type, member_row, offset_of, member_at}
 use Rattle.ref_store.specs.declared.value.Place as memory_place
 use Rattle.ref_store.specs.Views.{name_of, row_in, place_in}
 use Rattle.ref_store.proofs.Scalars.{void, void_means, void_stands, nothing, nothing_means}
@@ -32,11 +32,11 @@ module _ (table : Interned) (known : Option number.CType) (t : number.CType) whe
 
 -- ---- its row
 
-members-same : (around : Around) (structs : List StructDef) (c_type : CType) → around.structs ≡ structs → members_of around c_type ≡ t.members_of structs c_type
+members-same : (around : TypeEnvironment) (structs : List StructDef) (c_type : CType) → around.structs ≡ structs → members_of around c_type ≡ t.members_of structs c_type
 members-same around structs (Struct tag) e = λ i. known_members (members_by_tag (e i) tag)
 members-same around structs _ e = refl
 
-row-there : (around : Around) (structs : List StructDef) (members : List MemberDef) (index offset within : ℕ) (c_type : CType) (known : Option CType) (found : Option MemberDef) → around.structs ≡ structs
+row-there : (around : TypeEnvironment) (structs : List StructDef) (members : List MemberDef) (index offset within : ℕ) (c_type : CType) (known : Option CType) (found : Option MemberDef) → around.structs ≡ structs
     → within ≡ offset_before (layouts structs) members index found → Some known ≡ option_map (λ (member : MemberDef). member.c_type) found → c_type ≡ known_type known
     → record { start = offset + within; c_type = c_type; count = 1 } ≡ member_row around offset members index found
 row-there around structs members index offset within c_type known None same lies is typed = absurd (none-some known (sym is))
@@ -45,7 +45,7 @@ row-there around structs members index offset within c_type known (Some member) 
     let own : c_type ≡ known_type member.c_type = typed ∙ ap known_type (same_Some known member.c_type is) in
     λ i. record { start = offset + start i; c_type = own i; count = 1 }
 
-module _ (around : Around) (table : Interned) (place : memory_place.Place) (index : ℕ) (same : around.structs ≡ structs_in table) where
+module _ (around : TypeEnvironment) (table : Interned) (place : memory_place.Place) (index : ℕ) (same : around.structs ≡ structs_in table) where
   abbrev members : List MemberDef
   members = t.members_of (structs_in table) (type_in table place.row.c_type)
 

@@ -3,7 +3,7 @@ use Rattle.std.proofs.Common.{◌≡◌, Bool, true, false, eqb, Option, if◌th
 use Rattle.std.proofs.lemmas.Bool.{false≢true, false_from_ne_true, eqb-true, eq-eqb, and_parts, and_from}
 use Rattle.std.proofs.lemmas.Slice.Eq.{bytes_eq-Decides}
 use Rattle.indexmap.specs.IndexMap.{IndexMap, get, get_by, Updates}
-use Rattle.c_meaning.specs.Values as V
+use Rattle.ref_semantics.specs.Values as V
 use Rattle.ref_store.specs.declared.value.Name.{Name}
 use Rattle.ref_store.specs.declared.value.Name.TheVariants as N
 use Rattle.ref_store.specs.Views.{name_of, same_memory}
@@ -20,19 +20,19 @@ name_eq _ _ = refl
 
 pub same_name-refl : (a : V.Name) → V.same_name a a ≡ true
 same_name-refl (V.Heap number) = eq-eqb number number refl
-same_name-refl (V.Outer name) = (bytes_eq-Decides name name).1 refl
-same_name-refl (V.Text place) = and_from (eqb place.line place.line) (eqb place.column place.column) (eq-eqb place.line place.line refl) (eq-eqb place.column place.column refl)
-same_name-refl (V.Own number) = eq-eqb number number refl
+same_name-refl (V.GlobalObject name) = (bytes_eq-Decides name name).1 refl
+same_name-refl (V.LiteralObject place) = and_from (eqb place.line place.line) (eqb place.column place.column) (eq-eqb place.line place.line refl) (eq-eqb place.column place.column refl)
+same_name-refl (V.LocalObject number) = eq-eqb number number refl
 
 pub same_name-true : (a b : V.Name) → V.same_name a b ≡ true → a ≡ b
 same_name-true (V.Heap a) (V.Heap b) h = ap V.Heap (eqb-true a b h)
-same_name-true (V.Outer a) (V.Outer b) h = ap V.Outer ((bytes_eq-Decides a b).0 h)
-same_name-true (V.Text a) (V.Text b) h =
+same_name-true (V.GlobalObject a) (V.GlobalObject b) h = ap V.GlobalObject ((bytes_eq-Decides a b).0 h)
+same_name-true (V.LiteralObject a) (V.LiteralObject b) h =
     let parts = and_parts (eqb a.line b.line) (eqb a.column b.column) h in
     let line = eqb-true a.line b.line parts.0 in
     let column = eqb-true a.column b.column parts.1 in
-    λ i. V.Text (record { line = line i; column = column i })
-same_name-true (V.Own a) (V.Own b) h = ap V.Own (eqb-true a b h)
+    λ i. V.LiteralObject (record { line = line i; column = column i })
+same_name-true (V.LocalObject a) (V.LocalObject b) h = ap V.LocalObject (eqb-true a b h)
 same_name-true _ _ h = absurd (false≢true h)
 
 pub same_name-symm : (a b : V.Name) → V.same_name a b ≡ V.same_name b a

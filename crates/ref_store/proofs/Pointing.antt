@@ -3,12 +3,12 @@ use Rattle.std.proofs.Common.{◌≡◌, ℕ, ◌<◌, ◌^◌, Bool, true, fals
 use Rattle.std.specs.Int.{w128}
 use Rattle.std.specs.Int.Signed.{non_neg}
 use Rattle.std.proofs.lemmas.Int.{ints}
-use Rattle.run_theory.specs.declared.ends.Pos.{Pos}
+use Rattle.text_place.specs.declared.place.Pos.{Pos}
 use Rattle.run_theory.specs.declared.ends.UbKind.TheVariants as Ub
-use Rattle.c_meaning.specs.Values.{Place, Scalar, PointerValue, place_of, at_index, is_end}
-use Rattle.c_meaning.specs.Store.{State, Eval, Then, give, premise, unless, is_dead_pointer, is_null_pointer}
-use Rattle.c_meaning.specs.Pointers.{truth, index_moved, is_negative, is_above, is_at_least, or_zero, added, element, accessed, tested}
-use Rattle.ref_store.specs.Holding.{left, Does, IsUndefined, IsMoved}
+use Rattle.ref_semantics.specs.Values.{Place, Scalar, PointerValue, place_of, at_index, is_end}
+use Rattle.ref_semantics.specs.Store.{State, Eval, Then, give, premise, unless, is_dead_pointer, is_null_pointer}
+use Rattle.ref_semantics.specs.Pointers.{truth, index_moved, is_negative, is_above, is_at_least, or_zero, added, element, accessed, tested}
+use Rattle.ref_store.specs.Holding.{left, EvaluatesTo, IsUndefined, IsMoved}
 use Rattle.ref_store.proofs.Giving.{undefined-here}
 
 -- ---- indices
@@ -114,64 +114,47 @@ module _ (m : ℤ) (count : ℕ) (fits : FitsSigned w128 m) (least : pos 0 ≤�
       by (pos n) h k = (tt, record { fits = omega (arith, ints) })
       by (negsuc n) h k = absurd (omega (arith, ints))
 
-pub not-true : (b : Bool) → not b ≡ true → b ≡ false
-not-true true e = sym e
-not-true false e = refl
-
-pub not-false : (b : Bool) → not b ≡ false → b ≡ true
-not-false true e = refl
-not-false false e = sym e
-
 -- ---- adding
 
-abbrev pub is_outside : Place → ℤ → Bool → Bool
-is_outside place z is_null = is_negative (index_moved place.index z) || is_above place.row.count (index_moved place.index z) && not is_null
+abbrev pub is_outside : Place → ℤ → Bool
+is_outside place z = is_negative (index_moved place.index z) || is_above place.row.count (index_moved place.index z)
 
-and_false : (b : Bool) → (b && false) ≡ false
-and_false true = refl
-and_false false = refl
+module _ (place : Place) (z m : ℤ) (moved : IsMoved place.index z m) where
+  pub outside-negative : m <ℤ pos 0 → is_outside place z ≡ true
+  outside-negative h = λ i. negative place.index place.row.count z m moved h i || is_above place.row.count (index_moved place.index z)
 
-module _ (place : Place) (z m : ℤ) (null : Bool) (moved : IsMoved place.index z m) where
-  pub outside-negative : m <ℤ pos 0 → is_outside place z null ≡ true
-  outside-negative h = λ i. negative place.index place.row.count z m moved h i || is_above place.row.count (index_moved place.index z) && not null
+  pub outside-above : pos place.row.count <ℤ m → is_outside place z ≡ true
+  outside-above h = λ i. not_negative place.index place.row.count z m moved (omega (arith, ints)) i || index-above place.index place.row.count z m moved h i
 
-  pub outside-above : pos place.row.count <ℤ m → null ≡ false → is_outside place z null ≡ true
-  outside-above h n = λ i. not_negative place.index place.row.count z m moved (omega (arith, ints)) i || index-above place.index place.row.count z m moved h i && not (n i)
-
-  pub outside-not_above : place.row.count < 2 ^ 64 → pos 0 ≤ℤ m → m ≤ℤ pos place.row.count → is_outside place z null ≡ false
-  outside-not_above small h k = λ i. not_negative place.index place.row.count z m moved h i || index-not_above place.index place.row.count z m moved small h k i && not null
-
-  pub outside-null : pos 0 ≤ℤ m → null ≡ true → is_outside place z null ≡ false
-  outside-null h n =
-      (λ i. not_negative place.index place.row.count z m moved h i || is_above place.row.count (index_moved place.index z) && not (n i))
-      ∙ and_false (is_above place.row.count (index_moved place.index z))
+  pub outside-not_above : place.row.count < 2 ^ 64 → pos 0 ≤ℤ m → m ≤ℤ pos place.row.count → is_outside place z ≡ false
+  outside-not_above small h k = λ i. not_negative place.index place.row.count z m moved h i || index-not_above place.index place.row.count z m moved small h k i
 
 abbrev added_by : Pos → Scalar → Bool → Bool → Bool → Eval Scalar
-added_by here result dead outside null = unless here (premise dead Ub.U06 ∷ premise outside Ub.U08 ∷ premise null Ub.U17 ∷ []) (give result)
+added_by here result dead null outside = unless here (premise dead Ub.U06 ∷ premise (not null && outside) Ub.U08 ∷ premise null Ub.U17 ∷ []) (give result)
 
 abbrev pub moved_place : Place → ℤ → Place
 moved_place place z = at_index place (or_zero (index_moved place.index z))
 
 module _ (here : Pos) (p : Scalar) (z : ℤ) (s : State) (place : Place) (is : place ≡ place_of p) where
-  found : {r : Bool} → is_outside place z (is_null_pointer p) ≡ r → is_outside (place_of p) z (is_null_pointer p) ≡ r
-  found e = ap (λ q. is_outside q z (is_null_pointer p)) (sym is) ∙ e
+  found : {r : Bool} → is_outside place z ≡ r → is_outside (place_of p) z ≡ r
+  found e = ap (λ q. is_outside q z) (sym is) ∙ e
 
-  pub added-outside : is_dead_pointer s.objects p ≡ false → is_outside place z (is_null_pointer p) ≡ true → IsUndefined (added here p z) s Ub.U08 here
-  added-outside dead outside = undefined-here (added here p z) s Ub.U08 here
-      (λ units input i. added_by here (PointerValue (moved_place (place_of p) z)) (dead i) (found outside i) (is_null_pointer p) (left units input s))
+  pub added-null : is_dead_pointer s.objects p ≡ false → is_null_pointer p ≡ true → IsUndefined (added here p z) s Ub.U17 here
+  added-null dead null = undefined-here (added here p z) s Ub.U17 here
+      (λ units input i. added_by here (PointerValue (moved_place (place_of p) z)) (dead i) (null i) (is_outside (place_of p) z) (left units input s))
 
-  pub added-null : is_dead_pointer s.objects p ≡ false → is_outside place z (is_null_pointer p) ≡ false → is_null_pointer p ≡ true → IsUndefined (added here p z) s Ub.U17 here
-  added-null dead outside null = undefined-here (added here p z) s Ub.U17 here
-      (λ units input i. added_by here (PointerValue (moved_place (place_of p) z)) (dead i) (found outside i) (null i) (left units input s))
+  pub added-outside : is_dead_pointer s.objects p ≡ false → is_null_pointer p ≡ false → is_outside place z ≡ true → IsUndefined (added here p z) s Ub.U08 here
+  added-outside dead null outside = undefined-here (added here p z) s Ub.U08 here
+      (λ units input i. added_by here (PointerValue (moved_place (place_of p) z)) (dead i) (null i) (found outside i) (left units input s))
 
-  pub added-there : is_dead_pointer s.objects p ≡ false → is_outside place z (is_null_pointer p) ≡ false → is_null_pointer p ≡ false → Does (added here p z) s (PointerValue (moved_place place z)) s
-  added-there dead outside null = λ units input.
-      (λ i. added_by here (PointerValue (moved_place (place_of p) z)) (dead i) (found outside i) (null i) (left units input s))
+  pub added-there : is_dead_pointer s.objects p ≡ false → is_null_pointer p ≡ false → is_outside place z ≡ false → EvaluatesTo (added here p z) s (PointerValue (moved_place place z)) s
+  added-there dead null outside = λ units input.
+      (λ i. added_by here (PointerValue (moved_place (place_of p) z)) (dead i) (null i) (found outside i) (left units input s))
       ∙ ap (λ q. Then (PointerValue (moved_place q z)) (left units input s)) (sym is)
 
 pub added-dead : (here : Pos) (p : Scalar) (z : ℤ) (s : State) → is_dead_pointer s.objects p ≡ true → IsUndefined (added here p z) s Ub.U06 here
 added-dead here p z s dead = undefined-here (added here p z) s Ub.U06 here
-    (λ units input i. added_by here (PointerValue (moved_place (place_of p) z)) (dead i) (is_outside (place_of p) z (is_null_pointer p)) (is_null_pointer p) (left units input s))
+    (λ units input i. added_by here (PointerValue (moved_place (place_of p) z)) (dead i) (is_null_pointer p) (is_outside (place_of p) z) (left units input s))
 
 -- ---- elements
 
@@ -208,7 +191,7 @@ module _ (here : Pos) (p : Scalar) (z : ℤ) (s : State) (place : Place) (is : p
   element-before over before = undefined-here (element here p z) s Ub.U08 here
       (λ units input i. element_by here (moved_place (place_of p) z) (dead i) (null i) (over-found over i) (before-found before i) (left units input s))
 
-  pub element-there : is_over place z ≡ false → is_before place z ≡ false → Does (element here p z) s (moved_place place z) s
+  pub element-there : is_over place z ≡ false → is_before place z ≡ false → EvaluatesTo (element here p z) s (moved_place place z) s
   element-there over before = λ units input.
       (λ i. element_by here (moved_place (place_of p) z) (dead i) (null i) (over-found over i) (before-found before i) (left units input s))
       ∙ ap (λ q. Then (moved_place q z) (left units input s)) (sym is)
@@ -231,7 +214,7 @@ module _ (here : Pos) (p : Scalar) (s : State) where
   accessed-end dead null end = undefined-here (accessed here p) s Ub.U07 here
       (λ units input i. accessed_by here (place_of p) (dead i) (null i) (end i) (left units input s))
 
-  pub accessed-there : is_dead_pointer s.objects p ≡ false → is_null_pointer p ≡ false → is_end (place_of p) ≡ false → Does (accessed here p) s (place_of p) s
+  pub accessed-there : is_dead_pointer s.objects p ≡ false → is_null_pointer p ≡ false → is_end (place_of p) ≡ false → EvaluatesTo (accessed here p) s (place_of p) s
   accessed-there dead null end = λ units input i. accessed_by here (place_of p) (dead i) (null i) (end i) (left units input s)
 
 -- ---- tests
@@ -240,5 +223,5 @@ pub tested-dead : (here : Pos) (p : Scalar) (s : State) → is_dead_pointer s.ob
 tested-dead here p s dead = undefined-here (tested here p) s Ub.U06 here
     (λ units input i. unless here (premise (dead i) Ub.U06 ∷ []) (give (truth (not (is_null_pointer p)))) (left units input s))
 
-pub tested-there : (here : Pos) (p : Scalar) (s : State) → is_dead_pointer s.objects p ≡ false → Does (tested here p) s (truth (not (is_null_pointer p))) s
+pub tested-there : (here : Pos) (p : Scalar) (s : State) → is_dead_pointer s.objects p ≡ false → EvaluatesTo (tested here p) s (truth (not (is_null_pointer p))) s
 tested-there here p s dead = λ units input i. unless here (premise (dead i) Ub.U06 ∷ []) (give (truth (not (is_null_pointer p)))) (left units input s)

@@ -1,13 +1,13 @@
 -- What a reading comes to.
 use Rattle.std.proofs.Common.{◌≡◌, ℕ, List, [], ◌∷◌, ◌++◌, None, Some, append-nil, refl, sym, ap, ◌∙◌}
-use Rattle.run_theory.specs.declared.ends.Pos.{Pos}
+use Rattle.text_place.specs.declared.place.Pos.{Pos}
 use Rattle.run_theory.specs.declared.ends.UbKind.TheVariants as Ub
 use Rattle.run_theory.specs.Runs.{Event, Loaded, Trace, output_of}
 use Rattle.run_theory.proofs.Traces.{output_of-append}
 use Rattle.c_typed.specs.Table.{Interned}
-use Rattle.c_meaning.specs.Values.{Name, Heap, Outer, Text, Own, Place, Scalar}
-use Rattle.c_meaning.specs.Store.{Around, State, is_dead, scalar_at}
-use Rattle.c_meaning.specs.Pointers.{access, loaded, read}
+use Rattle.ref_semantics.specs.Values.{Name, Heap, GlobalObject, LiteralObject, LocalObject, Place, Scalar}
+use Rattle.ref_semantics.specs.Store.{TypeEnvironment, State, is_dead, scalar_at}
+use Rattle.ref_semantics.specs.Pointers.{access, loaded, read}
 use Rattle.ref_store.specs.declared.store.Store.{Store}
 use Rattle.ref_store.specs.declared.object.Content as memory_content
 use Rattle.ref_store.specs.Holding.{ContentIs, At, Comes, IsUndefined, left}
@@ -22,13 +22,13 @@ quiet-behind s t e = output_of-append s t ∙ ap (λ l. output_of s ++ l) e ∙ 
 -- an access to an object
 pub quiet-access : (event : ℕ → Event) → ((number : ℕ) → output_of (event number ∷ []) ≡ []) → (name : Name) → output_of (access event name) ≡ []
 quiet-access event quiet (Heap number) = quiet number
-quiet-access event quiet (Outer name) = refl
-quiet-access event quiet (Text place) = refl
-quiet-access event quiet (Own number) = refl
+quiet-access event quiet (GlobalObject name) = refl
+quiet-access event quiet (LiteralObject place) = refl
+quiet-access event quiet (LocalObject number) = refl
 
 -- ---- a reading
 
-module _ (around : Around) (here : Pos) (place : Place) (state : State) where
+module _ (around : TypeEnvironment) (here : Pos) (place : Place) (state : State) where
   -- dead
   pub read-dead : (table : Interned) → ContentIs table None (state.objects place.name) → IsUndefined (read around here place) state Ub.U06 here
   read-dead table holds =

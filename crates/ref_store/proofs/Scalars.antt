@@ -5,8 +5,8 @@ use Rattle.c_typed.specs.declared.c_type.Derived.{Derived}
 use Rattle.c_typed.specs.declared.c_type.CType as number
 use Rattle.c_typed.specs.Table.{Interned, AType, IsAType, meaning_in, meaning_of, Stands, the_type}
 use Rattle.c_typed.specs.Types.{Void}
-use Rattle.c_meaning.specs.Values.{Content, no_row, place_of, first_of_row, Heap}
-use Rattle.c_meaning.specs.Store.{row_of}
+use Rattle.ref_semantics.specs.Values.{Content, no_row, place_of, first_of_row, Heap}
+use Rattle.ref_semantics.specs.Store.{row_of}
 use Rattle.ref_store.specs.declared.object.Content.TheVariants as C
 use Rattle.ref_store.specs.declared.value.Row as memory_row
 use Rattle.ref_store.specs.declared.value.Place as memory_place

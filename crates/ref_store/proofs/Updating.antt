@@ -4,9 +4,9 @@ use Rattle.indexmap.specs.IndexMap.{IndexMap, get, get_by}
 use Rattle.run_theory.specs.Runs.{Trace, output_of}
 use Rattle.run_theory.proofs.Traces.{output_of-append}
 use Rattle.c_typed.specs.Table.{Interned}
-use Rattle.c_meaning.specs.Values as V
-use Rattle.c_meaning.specs.Values.{Content, same_name}
-use Rattle.c_meaning.specs.Store.{Around, State, Objects, with_content}
+use Rattle.ref_semantics.specs.Values as V
+use Rattle.ref_semantics.specs.Values.{Content, same_name}
+use Rattle.ref_semantics.specs.Store.{TypeEnvironment, State, Objects, with_content}
 use Rattle.ref_store.specs.declared.value.Name.{Name}
 use Rattle.ref_store.specs.declared.value.Scalar.{Scalar}
 use Rattle.ref_store.specs.declared.object.Content as memory_content
@@ -36,7 +36,7 @@ all_changed table old new objects name memory content changes is all = λ q.
     by false had other here = here
 
 -- the store with these objects, where something may have happened
-pub at_changed : (around : Around) (store : Store) (base : ℕ) (state : State) (new : Store) (name : Name) (memory : Option memory_content.Content) (content : Content) (trace : Trace)
+pub at_changed : (around : TypeEnvironment) (store : Store) (base : ℕ) (state : State) (new : Store) (name : Name) (memory : Option memory_content.Content) (content : Content) (trace : Trace)
     → Changes name memory store.objects new.objects → ContentIs store.types.now memory content → At around store base state
     → At around (record store { objects = new.objects }) base (record state { objects = with_content (name_of name) content state.objects; trace = trace })
 at_changed around store base state new name memory content trace changes is at = record {
@@ -56,7 +56,7 @@ unchanged name objects = λ i other. by other (same_name name other) refl i
     by other false apart = refl
 
 -- the object holds what it held
-pub at_kept : (around : Around) (store : Store) (base : ℕ) (state : State) (new : Store) (name : Name) (memory : Option memory_content.Content)
+pub at_kept : (around : TypeEnvironment) (store : Store) (base : ℕ) (state : State) (new : Store) (name : Name) (memory : Option memory_content.Content)
     → Changes name memory store.objects new.objects → ContentIs store.types.now memory (state.objects (name_of name)) → At around store base state → At around (record store { objects = new.objects }) base state
 at_kept around store base state new name memory changes is at =
     subst (λ (objects : Objects). At around (record store { objects = new.objects }) base (record state { objects = objects })) (unchanged (name_of name) state.objects)

@@ -1,9 +1,9 @@
 -- Where memory runs out.
 use Rattle.std.proofs.Common.{◌≡◌, ℕ, Option, Some, None, Result, Ok, Err, IfErr, IsErrAnd, refl, sym, subst, arith}
 use Rattle.c_typed.specs.Types.{CType, Void, Integer, Pointer, Array, Struct, Function}
-use Rattle.c_meaning.specs.Values.{Heap, Place, Scalar, RawPointer, whole_row}
-use Rattle.c_meaning.specs.Store.{Around, Objects, offset_of, inner_row, decayed}
-use Rattle.c_meaning.specs.First.{or_void}
+use Rattle.ref_semantics.specs.Values.{Heap, Place, Scalar, RawPointer, whole_row}
+use Rattle.ref_semantics.specs.Store.{TypeEnvironment, Objects, offset_of, inner_row, decayed}
+use Rattle.ref_semantics.specs.First.{or_void}
 use Rattle.ref_store.specs.declared.value.Stop.{Stop}
 use Rattle.ref_store.specs.declared.value.Stop.TheVariants as T
 use Rattle.ref_store.specs.Beginning.{unfilled}
@@ -39,10 +39,10 @@ inner_start offset (Array element length) = refl
 inner_start offset (Struct tag) = refl
 inner_start offset (Function result parameters) = refl
 
-pub decayed_overflows : (around : Around) (place : Place) → Overflows around place → Overflows around (decayed around place)
+pub decayed_overflows : (around : TypeEnvironment) (place : Place) → Overflows around place → Overflows around (decayed around place)
 decayed_overflows around place over = omega (arith, over, inner_start (offset_of around place) place.row.c_type)
 
-pub points_untyped : (around : Around) (target : CType) (objects : Objects) (value : Scalar) (number : ℕ) → value ≡ RawPointer number → GetsType around target (objects (Heap number)) → PointsUntyped around target objects value
+pub points_untyped : (around : TypeEnvironment) (target : CType) (objects : Objects) (value : Scalar) (number : ℕ) → value ≡ RawPointer number → GetsType around target (objects (Heap number)) → PointsUntyped around target objects value
 points_untyped around target objects value number is gets = subst (PointsUntyped around target objects) (sym is) gets
 
 -- a variable without first values is one object

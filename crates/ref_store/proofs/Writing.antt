@@ -3,10 +3,10 @@ use Rattle.std.proofs.Common.{◌≡◌, ℕ, Bool, true, false, ◌==◌, if◌
 use Rattle.indexmap.specs.IndexMap.{IndexMap, get}
 use Rattle.run_theory.specs.Runs.{Event, output_of}
 use Rattle.c_typed.specs.Table.{Interned, Stands, type_in}
-use Rattle.c_meaning.specs.Values.{Name, Heap, Outer, Text, Own}
-use Rattle.c_meaning.specs.Values as V
-use Rattle.c_meaning.specs.Store.{holding, with_scalar}
-use Rattle.c_meaning.specs.Pointers.{access}
+use Rattle.ref_semantics.specs.Values.{Name, Heap, GlobalObject, LiteralObject, LocalObject}
+use Rattle.ref_semantics.specs.Values as V
+use Rattle.ref_semantics.specs.Store.{holding, with_scalar}
+use Rattle.ref_semantics.specs.Pointers.{access}
 use Rattle.ref_store.specs.declared.value.Scalar.{Scalar}
 use Rattle.ref_store.specs.declared.object.Content as memory_content
 use Rattle.ref_store.specs.declared.object.Content.TheVariants as C
@@ -17,9 +17,9 @@ use Rattle.ref_store.specs.Holding.{HeldIs, AllHeld, IsUndisturbed, ContentIs, r
 -- an access to an object writes nothing
 pub quiet_access : (event : ℕ → Event) → ((number : ℕ) → output_of (event number ∷ []) ≡ []) → (name : Name) → output_of (access event name) ≡ []
 quiet_access event quiet (Heap number) = quiet number
-quiet_access event quiet (Outer name) = refl
-quiet_access event quiet (Text place) = refl
-quiet_access event quiet (Own number) = refl
+quiet_access event quiet (GlobalObject name) = refl
+quiet_access event quiet (LiteralObject place) = refl
+quiet_access event quiet (LocalObject number) = refl
 
 pub all_held : {S : Type 0} (table : Interned) (old new : IndexMap ℕ Scalar S) (offset : ℕ) (value : Scalar) (held : ℕ → Option V.Scalar) → ScalarStands table value
     → ((other : ℕ) → get nat_eq new other ≡ (if offset == other then Some value else get nat_eq old other)) → AllHeld table old held → AllHeld table new (with_scalar offset (scalar_in table value) held)

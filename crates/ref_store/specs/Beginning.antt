@@ -2,9 +2,9 @@
 use Rattle.std.specs.Prelude.{true, [], Option, Some, None}
 use Rattle.c_typed.specs.Types.{CType}
 use Rattle.c_typed.specs.Typed.{Program}
-use Rattle.c_meaning.specs.Values.{Outer, Text, Content, Dead, Elements}
-use Rattle.c_meaning.specs.Store.{Objects}
-use Rattle.c_meaning.specs.First.{around_of, type_of_global, literal_at, literal_content, first_state}
+use Rattle.ref_semantics.specs.Values.{GlobalObject, LiteralObject, Content, Dead, Elements}
+use Rattle.ref_semantics.specs.Store.{Objects}
+use Rattle.ref_semantics.specs.First.{around_of, type_of_global, literal_at, literal_content, first_state}
 use Rattle.ref_store.specs.declared.store.Store.{Store}
 use Rattle.ref_store.specs.Holding.{At}
 
@@ -14,8 +14,8 @@ unfilled None = Dead
 
 -- the variables outside functions, all of them zero or null, and the literals
 abbrev pub unfilled_objects : Program → Objects
-unfilled_objects program (Outer name) = unfilled (type_of_global program.globals name)
-unfilled_objects program (Text place) = literal_content (literal_at program.literals place)
+unfilled_objects program (GlobalObject name) = unfilled (type_of_global program.globals name)
+unfilled_objects program (LiteralObject place) = literal_content (literal_at program.literals place)
 unfilled_objects program _ = Dead
 
 abbrev pub IsUnfilled : Program → Store → Type 0

@@ -9,9 +9,9 @@ use Rattle.c_typed.specs.Values as values
 use Rattle.c_typed.specs.Typed.{GlobalDef, LiteralDef, Program}
 use Rattle.c_typed.specs.Table.{Interned, Stands, type_in}
 use Rattle.c_typed.specs.DefinitionViews.{all_first}
-use Rattle.c_meaning.specs.Values.{Name, Outer, Text, Row, Place, Scalar, IntegerValue, Content, Dead, Elements, same_name, whole_row, at_index}
-use Rattle.c_meaning.specs.Store.{Around, Objects, offset_of, row_of, with_content}
-use Rattle.c_meaning.specs.First.{around_of, type_of_global, literal_at, literal_content, characters, first_held, first_state}
+use Rattle.ref_semantics.specs.Values.{Name, GlobalObject, LiteralObject, Row, Place, Scalar, IntegerValue, Content, Dead, Elements, same_name, whole_row, at_index}
+use Rattle.ref_semantics.specs.Store.{TypeEnvironment, Objects, offset_of, row_of, with_content}
+use Rattle.ref_semantics.specs.First.{around_of, type_of_global, literal_at, literal_content, characters, first_held, first_state}
 use Rattle.ref_store.specs.declared.object.Elements as memory_elements
 use Rattle.ref_store.specs.declared.store.Store.{Store}
 use Rattle.ref_store.specs.Holding.{At, AllHeld}
@@ -21,8 +21,8 @@ use Rattle.ref_store.specs.Beginning.{unfilled}
 
 -- those of some variables and literals
 abbrev pub unfilled_of : List GlobalDef → List LiteralDef → Objects
-unfilled_of globals literals (Outer name) = unfilled (type_of_global globals name)
-unfilled_of globals literals (Text place) = literal_content (literal_at literals place)
+unfilled_of globals literals (GlobalObject name) = unfilled (type_of_global globals name)
+unfilled_of globals literals (LiteralObject place) = literal_content (literal_at literals place)
 unfilled_of globals literals _ = Dead
 
 abbrev pub or_content : Content → Content → Content
@@ -57,17 +57,17 @@ or_else (Some value) other = Some value
 or_else None other = other
 
 -- scalars, and one more where there is none
-abbrev pub with_first : Around → Place → Scalar → (ℕ → Option Scalar) → ℕ → Option Scalar
+abbrev pub with_first : TypeEnvironment → Place → Scalar → (ℕ → Option Scalar) → ℕ → Option Scalar
 with_first around place value held offset = or_else (held offset) (if offset_of around place == offset then Some value else None)
 
 -- bytes as the elements of a row, from an index on, converted to their type
-abbrev pub text_held : Around → Place → IntType → ℕ → List ℕ → ℕ → Option Scalar
+abbrev pub text_held : TypeEnvironment → Place → IntType → ℕ → List ℕ → ℕ → Option Scalar
 text_held around place int_type index [] offset = None
 text_held around place int_type index (byte ∷ bytes) offset =
     if offset_of around (at_index place index) == offset then Some (IntegerValue (convert_to int_type (pos byte))) else text_held around place int_type (suc index) bytes offset
 
 -- scalars, and those of a text where there is none
-abbrev pub with_text : Around → Place → IntType → ℕ → List ℕ → (ℕ → Option Scalar) → ℕ → Option Scalar
+abbrev pub with_text : TypeEnvironment → Place → IntType → ℕ → List ℕ → (ℕ → Option Scalar) → ℕ → Option Scalar
 with_text around place int_type index bytes held offset = or_else (held offset) (text_held around place int_type index bytes offset)
 
 -- scalars, and those that are given where there is none
@@ -90,7 +90,7 @@ AreFirsts program table (global ∷ globals) (first ∷ others) = IsFirst progra
 -- objects, with these variables with their first values
 abbrev pub filled : Program → List GlobalDef → Objects → Objects
 filled program [] objects = objects
-filled program (first ∷ others) objects = with_content (Outer first.name) (Elements true first.c_type 1 (first_held program first.c_type first.first)) (filled program others objects)
+filled program (first ∷ others) objects = with_content (GlobalObject first.name) (Elements true first.c_type 1 (first_held program first.c_type first.first)) (filled program others objects)
 
 -- the bytes of a literal as a row of characters
 pub record AreCharacters (table : Interned) (bytes : List ℕ) (elements : memory_elements.Elements) : Type 0 where

@@ -3,13 +3,13 @@ use Rattle.std.specs.Prelude.{◌≡◌, ℕ, List, Option, Some, None, Result, 
 use Rattle.std.specs.List.{list_any}
 use Rattle.indexmap.specs.IndexMap.{IndexMap, get, get_by}
 use Rattle.run_theory.specs.declared.ends.UbKind.{UbKind}
-use Rattle.run_theory.specs.declared.ends.Pos.{Pos}
+use Rattle.text_place.specs.declared.place.Pos.{Pos}
 use Rattle.run_theory.specs.Runs.{output_of}
 use Rattle.c_typed.specs.Table.{Interned, Stands, type_in, structs_in}
-use Rattle.c_rules.specs.Names.{contains}
-use Rattle.c_meaning.specs.Values.{Content, Dead, Raw, Elements, Scalar}
-use Rattle.c_meaning.specs.Store.{Around, State, Then, Eval, ◌>>=◌, undefined}
-use Rattle.c_meaning.specs.Meaning.{Way, new_local, stored_first}
+use Rattle.c_typed.specs.Names.{contains}
+use Rattle.ref_semantics.specs.Values.{Content, Dead, Raw, Elements, Scalar}
+use Rattle.ref_semantics.specs.Store.{TypeEnvironment, State, Then, Eval, ◌>>=◌, undefined}
+use Rattle.ref_semantics.specs.Meaning.{Completion, new_local, stored_first}
 use Rattle.c_typed.specs.Types.{CType}
 use Rattle.ref_store.specs.declared.value.Name as memory_name
 use Rattle.ref_store.specs.declared.value.Scalar as memory_scalar
@@ -47,7 +47,7 @@ pub data ContentIs (table : Interned) : Option memory_content.Content → Conten
 -- ---- stores
 
 -- A store in memory stands for a state, while a function runs in front of whose locals so many others stand.
-pub record At (around : Around) (store : Store) (base : ℕ) (state : State) : Type 0 where
+pub record At (around : TypeEnvironment) (store : Store) (base : ℕ) (state : State) : Type 0 where
   pub structs : around.structs ≡ structs_in store.types.now
   pub completed : (tag : List ℕ) → contains around.completed tag ≡ list_any (λ key. bytes_eq tag key.now) store.completed.keys
   pub objects : (name : memory_name.Name) → ContentIs store.types.now (get_by (same_memory name) store.objects) (state.objects (name_of name))
@@ -57,7 +57,7 @@ pub record At (around : Around) (store : Store) (base : ℕ) (state : State) : T
 
 -- a store that stands for some state
 pub record IsStore (store : Store) : Type 0 where
-  pub around : Around
+  pub around : TypeEnvironment
   pub base : ℕ
   pub state : State
   pub at : At around store base state
@@ -67,8 +67,8 @@ abbrev pub left : ℕ → List ℕ → State → State
 left units input state = record state { units = units; input = input }
 
 -- From a state an evaluation comes to a value and to a state, whatever units and input are left.
-abbrev pub Does : {A : Type 0} → Eval A → State → A → State → Type 0
-Does eval state value after = (units : ℕ) (input : List ℕ) → eval (left units input state) ≡ Then value (left units input after)
+abbrev pub EvaluatesTo : {A : Type 0} → Eval A → State → A → State → Type 0
+EvaluatesTo eval state value after = (units : ℕ) (input : List ℕ) → eval (left units input state) ≡ Then value (left units input after)
 
 -- it is undefined, with nothing written
 pub record IsUndefined {A : Type 0} (eval : Eval A) (state : State) (kind : UbKind) (place : Pos) : Type 0 where
@@ -77,23 +77,23 @@ pub record IsUndefined {A : Type 0} (eval : Eval A) (state : State) (kind : UbKi
   pub quiet : output_of there.trace ≡ output_of state.trace
 
 -- what an evaluation comes to, with nothing written
-pub record Comes {A : Type 0} (around : Around) (new : Store) (base : ℕ) (eval : Eval A) (state : State) (value : A) : Type 0 where
+pub record Comes {A : Type 0} (around : TypeEnvironment) (new : Store) (base : ℕ) (eval : Eval A) (state : State) (value : A) : Type 0 where
   pub after : State
-  pub does : Does eval state value after
+  pub does : EvaluatesTo eval state value after
   pub at : At around new base after
   pub quiet : output_of after.trace ≡ output_of state.trace
 
 -- A call on a store does what the evaluation does: it gives what that comes to, or says that it is undefined. Where memory runs
 -- out, the store stands for what it stood for.
-abbrev pub Gives : {A B : Type 0} → Around → Store → Store → ℕ → (B → A) → Eval A → Result B Stop → Type 0
-Gives around old new base view eval (Ok value) = (state : State) → At around old base state → Comes around new base eval state (view value)
-Gives around old new base view eval (Err (T.Undefined kind place)) = (state : State) → At around old base state → IsUndefined eval state kind place
-Gives around old new base view eval (Err T.OutOfMemory) = (state : State) → At around old base state → At around new base state
+abbrev pub CallGives : {A B : Type 0} → TypeEnvironment → Store → Store → ℕ → (B → A) → Eval A → Result B Stop → Type 0
+CallGives around old new base view eval (Ok value) = (state : State) → At around old base state → Comes around new base eval state (view value)
+CallGives around old new base view eval (Err (T.Undefined kind place)) = (state : State) → At around old base state → IsUndefined eval state kind place
+CallGives around old new base view eval (Err T.OutOfMemory) = (state : State) → At around old base state → At around new base state
 
 -- An index z elements further, or past every row where it is greater than any number of 128 bits.
 abbrev pub IsMoved : ℕ → ℤ → ℤ → Type 0
 IsMoved index z moved = (moved ≡ (pos index +ℤ z)) ⊎ ((moved ≡ pos (2 ^ 127 - 1)) × (moved ≤ℤ (pos index +ℤ z)))
 
 -- a local begins to live, with a value
-abbrev pub new_local_of : Around → CType → Scalar → Eval Way
+abbrev pub new_local_of : TypeEnvironment → CType → Scalar → Eval Completion
 new_local_of around c_type value = new_local c_type >>= λ place. stored_first around place (Some value)

@@ -1,7 +1,7 @@
 -- The values, places and contents that those in memory stand for, in a table of types.
 use Rattle.std.specs.Prelude.{Bool}
 use Rattle.c_typed.specs.Table.{Interned, Stands, type_in}
-use Rattle.c_meaning.specs.Values as V
+use Rattle.ref_semantics.specs.Values as V
 use Rattle.ref_store.specs.declared.value.Name as memory_name
 use Rattle.ref_store.specs.declared.value.Name.TheVariants as N
 use Rattle.ref_store.specs.declared.value.Row as memory_row
@@ -11,9 +11,9 @@ use Rattle.ref_store.specs.declared.value.Scalar.TheVariants as M
 
 abbrev pub name_of : memory_name.Name → V.Name
 name_of (N.Heap number) = V.Heap number
-name_of (N.Outer name) = V.Outer name.now
-name_of (N.Text place) = V.Text place
-name_of (N.Own number) = V.Own number
+name_of (N.Outer name) = V.GlobalObject name.now
+name_of (N.Text place) = V.LiteralObject place
+name_of (N.Own number) = V.LocalObject number
 
 abbrev pub row_in : Interned → memory_row.Row → V.Row
 row_in table row = record { start = row.start; c_type = type_in table row.c_type; count = row.count }

@@ -6,12 +6,12 @@ ghost use Rattle.c_typed.specs.Values as typed_values;
 ghost use Rattle.c_typed.specs.Table.{Interned, Stands, type_in, structs_in};
 ghost use Rattle.c_typed.specs.DefinitionViews.{program_of, first_of, literal_of, scalar_of, ProgramStands, GlobalsStand};
 ghost use Rattle.c_typed.specs.DefinitionViews as views;
-ghost use Rattle.c_meaning.specs.Values as meaning;
-ghost use Rattle.c_meaning.specs.Values.{object_place, first_of_row};
-ghost use Rattle.c_meaning.specs.Store.{Around, State, with_content};
-ghost use Rattle.c_meaning.specs.Meaning.{literal_type};
-ghost use Rattle.c_meaning.specs.First as rules;
-ghost use Rattle.c_meaning.specs.First.{around_of, first_state};
+ghost use Rattle.ref_semantics.specs.Values as meaning;
+ghost use Rattle.ref_semantics.specs.Values.{object_place, first_of_row};
+ghost use Rattle.ref_semantics.specs.Store.{TypeEnvironment, State, with_content};
+ghost use Rattle.ref_semantics.specs.Meaning.{literal_type};
+ghost use Rattle.ref_semantics.specs.First as rules;
+ghost use Rattle.ref_semantics.specs.First.{around_of, first_state};
 ghost use Rattle.ref_store.specs.declared.object.Content.TheVariants as C;
 ghost use Rattle.ref_store.specs.Views.{name_of, row_in, place_in, scalar_in, PlaceStands, ScalarStands};
 ghost use Rattle.ref_store.specs.Holding.{At, AllHeld, ContentIs, IsUndisturbed};
@@ -26,17 +26,17 @@ use c_num::{IntType, convert};
 use c_typed as typed;
 use c_typed::{CType, First, Part, Program, Static};
 use indexmap::{IndexMap, IndexSet};
-use run_theory::Pos;
 use std::alloc::{AllocError, Global};
+use text_place::Pos;
 
 /// What the size of a type is at most.
 const GREATEST_SIZE: u64 = 1 << 62;
 
 /// The row to which a step leads from a literal that is kept as a row of characters.
 fn within_literal(row: Row, part: Part) -> Result<Row, Stop>
-    ensures means { (table : Interned) (around : Around) (name : meaning.Name) (bytes : List ℕ) → row_in table row ≡ characters_row bytes → IfOk result (λ found. first_of_row name (row_in table found) ≡ rules.stepped around (object_place name (literal_type bytes)) part) }
+    ensures means { (table : Interned) (around : TypeEnvironment) (name : meaning.Name) (bytes : List ℕ) → row_in table row ≡ characters_row bytes → IfOk result (λ found. first_of_row name (row_in table found) ≡ rules.stepped around (object_place name (literal_type bytes)) part) }
     ensures stands { (table : Interned) → Stands table row.c_type → IfOk result (λ found. Stands table found.c_type) }
-    ensures want { (table : Interned) (around : Around) (name : meaning.Name) (bytes : List ℕ) → row_in table row ≡ characters_row bytes → IfErr result (OutOnly (Overflows around (rules.stepped around (object_place name (literal_type bytes)) part))) }
+    ensures want { (table : Interned) (around : TypeEnvironment) (name : meaning.Name) (bytes : List ℕ) → row_in table row ≡ characters_row bytes → IfErr result (OutOnly (Overflows around (rules.stepped around (object_place name (literal_type bytes)) part))) }
 {
     match part {
         Part::Elements { index } => {
@@ -105,7 +105,7 @@ impl<'a> Store<'a> {
     /// A variable without first values, where there is none of its name.
     fn add_global(&mut self, global: &'a typed::GlobalDef) -> Result<(), AllocError>
         requires { Stands self.old.types.now global.now.c_type }
-        ensures added { (around : Around) (base : ℕ) (state : State) → At around self.old base state → OnOk result (At around self.new base (record state { objects = with_new (meaning.Outer global.now.name) (unfilled (Some (type_in self.old.types.now global.now.c_type))) state.objects })) }
+        ensures added { (around : TypeEnvironment) (base : ℕ) (state : State) → At around self.old base state → OnOk result (At around self.new base (record state { objects = with_new (meaning.GlobalObject global.now.name) (unfilled (Some (type_in self.old.types.now global.now.c_type))) state.objects })) }
         ensures types { self.new.types ≡ self.old.types }
     {
         let name = Name::Outer(global.name.as_slice());
@@ -131,7 +131,7 @@ impl<'a> Store<'a> {
 
     /// A literal, where there is none at its place.
     fn add_literal(&mut self, literal: &'a typed::LiteralDef) -> Result<(), AllocError>
-        ensures added { (around : Around) (base : ℕ) (state : State) → At around self.old base state → OnOk result (At around self.new base (record state { objects = with_new (meaning.Text literal.now.place) (rules.literal_content (Some (literal_of literal.now))) state.objects })) }
+        ensures added { (around : TypeEnvironment) (base : ℕ) (state : State) → At around self.old base state → OnOk result (At around self.new base (record state { objects = with_new (meaning.LiteralObject literal.now.place) (rules.literal_content (Some (literal_of literal.now))) state.objects })) }
         ensures types { self.new.types ≡ self.old.types }
     {
         let name = Name::Text(literal.place);
@@ -203,7 +203,7 @@ impl<'a> Store<'a> {
         global: &'a typed::GlobalDef,
         elements: Elements<'a>,
     ) -> Result<(), AllocError>
-        ensures held { (around : Around) (base : ℕ) (state : State) (content : meaning.Content) → ContentIs self.old.types.now (Some (C.Elements elements.entry)) content → At around self.old base state → OnOk result (At around self.new base (record state { objects = with_content (meaning.Outer global.now.name) content state.objects })) }
+        ensures held { (around : TypeEnvironment) (base : ℕ) (state : State) (content : meaning.Content) → ContentIs self.old.types.now (Some (C.Elements elements.entry)) content → At around self.old base state → OnOk result (At around self.new base (record state { objects = with_content (meaning.GlobalObject global.now.name) content state.objects })) }
         ensures types { self.new.types ≡ self.old.types }
     {
         let name = Name::Outer(global.name.as_slice());
@@ -270,7 +270,7 @@ impl<'a> Store<'a> {
     ) -> Result<(), Stop>
         requires { PlaceStands self.now.types.now place }
         ensures same { IsUndisturbed elements.old elements.new }
-        ensures held { (around : Around) (held : ℕ → Option meaning.Scalar) → around.structs ≡ structs_in self.now.types.now → AllHeld self.now.types.now elements.old.held held → OnOk result (AllHeld self.now.types.now elements.new.held (with_text around (place_in self.now.types.now place.entry) int_type 0 bytes.now held)) }
+        ensures held { (around : TypeEnvironment) (held : ℕ → Option meaning.Scalar) → around.structs ≡ structs_in self.now.types.now → AllHeld self.now.types.now elements.old.held held → OnOk result (AllHeld self.now.types.now elements.new.held (with_text around (place_in self.now.types.now place.entry) int_type 0 bytes.now held)) }
     {
         let mut index = 0;
         for byte in bytes {
@@ -292,7 +292,7 @@ impl<'a> Store<'a> {
         requires place { PlaceStands self.now.types.now place }
         requires value { ScalarStands self.now.types.now value }
         ensures same { IsUndisturbed elements.old elements.new }
-        ensures held { (around : Around) (held : ℕ → Option meaning.Scalar) → around.structs ≡ structs_in self.now.types.now → AllHeld self.now.types.now elements.old.held held → OnOk result (AllHeld self.now.types.now elements.new.held (with_first around (place_in self.now.types.now place.entry) (scalar_in self.now.types.now value.entry) held)) }
+        ensures held { (around : TypeEnvironment) (held : ℕ → Option meaning.Scalar) → around.structs ≡ structs_in self.now.types.now → AllHeld self.now.types.now elements.old.held held → OnOk result (AllHeld self.now.types.now elements.new.held (with_first around (place_in self.now.types.now place.entry) (scalar_in self.now.types.now value.entry) held)) }
     {
         let offset = self.offset(place)?;
         if elements.held(offset).is_none() {
@@ -373,7 +373,7 @@ impl<'a> Store<'a> {
         index: u64,
     ) -> Result<Place<'a>, Stop>
         requires { IsUnfilled (program_of program.now) self.now }
-        ensures means { IfOk result (λ found. place_in self.now.types.now found ≡ rules.walked (around_of (program_of program.now)) (object_place (meaning.Text place) (rules.static_type (program_of program.now) (meaning.Text place))) parts.now index) }
+        ensures means { IfOk result (λ found. place_in self.now.types.now found ≡ rules.walked (around_of (program_of program.now)) (object_place (meaning.LiteralObject place) (rules.static_type (program_of program.now) (meaning.LiteralObject place))) parts.now index) }
         ensures stands { IfOk result (PlaceStands self.now.types.now) }
         ensures want { IfErr result (OutOnly (IsUnfound (program_of program.now) (record { name = typed_values.Text place; steps = parts.now; index = index }))) }
     {
@@ -412,9 +412,9 @@ impl<'a> Store<'a> {
     /// The element with an index of the row to which steps lead.
     fn walked(&self, place: Place<'a>, parts: &[Part], index: u64) -> Result<Place<'a>, Stop>
         requires { PlaceStands self.now.types.now place }
-        ensures found { (around : Around) → around.structs ≡ structs_in self.now.types.now → IfOk result (λ found. place_in self.now.types.now found ≡ rules.walked around (place_in self.now.types.now place.entry) parts.now index) }
+        ensures found { (around : TypeEnvironment) → around.structs ≡ structs_in self.now.types.now → IfOk result (λ found. place_in self.now.types.now found ≡ rules.walked around (place_in self.now.types.now place.entry) parts.now index) }
         ensures stands { IfOk result (PlaceStands self.now.types.now) }
-        ensures want { (around : Around) → around.structs ≡ structs_in self.now.types.now → IfErr result (OutOnly (WalkOverflows around (place_in self.now.types.now place.entry) parts.now)) }
+        ensures want { (around : TypeEnvironment) → around.structs ≡ structs_in self.now.types.now → IfErr result (OutOnly (WalkOverflows around (place_in self.now.types.now place.entry) parts.now)) }
     {
         let mut reached = place;
         for part in parts {
@@ -426,9 +426,9 @@ impl<'a> Store<'a> {
     /// The first element of the row to which a step leads.
     fn stepped(&self, place: Place<'a>, part: Part) -> Result<Place<'a>, Stop>
         requires { PlaceStands self.now.types.now place }
-        ensures found { (around : Around) → around.structs ≡ structs_in self.now.types.now → IfOk result (λ found. place_in self.now.types.now found ≡ rules.stepped around (place_in self.now.types.now place.entry) part) }
+        ensures found { (around : TypeEnvironment) → around.structs ≡ structs_in self.now.types.now → IfOk result (λ found. place_in self.now.types.now found ≡ rules.stepped around (place_in self.now.types.now place.entry) part) }
         ensures stands { IfOk result (PlaceStands self.now.types.now) }
-        ensures want { (around : Around) → around.structs ≡ structs_in self.now.types.now → IfErr result (OutOnly (Overflows around (rules.stepped around (place_in self.now.types.now place.entry) part))) }
+        ensures want { (around : TypeEnvironment) → around.structs ≡ structs_in self.now.types.now → IfErr result (OutOnly (Overflows around (rules.stepped around (place_in self.now.types.now place.entry) part))) }
     {
         match part {
             Part::Member { index, number } => self.member_at(Place { index, ..place }, number),

@@ -3,12 +3,13 @@
 ghost use Rattle.std.specs.Prelude.{◌≡◌, ℕ, Some, None, IfOk, OnOk, OnErr, nat_eq, if◌then◌else◌, ◌==◌};
 ghost use Rattle.indexmap.specs.IndexMap.{get};
 ghost use Rattle.c_typed.specs.Table.{Interned, Stands};
-ghost use Rattle.c_meaning.specs.Values as meaning;
-ghost use Rattle.c_meaning.specs.Store as meaning_store;
+ghost use Rattle.ref_semantics.specs.Values as meaning;
+ghost use Rattle.ref_semantics.specs.Store as meaning_store;
+ghost use Rattle.ref_semantics.specs.Pointers as pointers;
 ghost use Rattle.ref_store.specs.Views.{row_in, scalar_in, ScalarStands};
 ghost use Rattle.ref_store.specs.Holding.{ContentIs, IsUndisturbed};
 
-use crate::value::{Row, Scalar};
+use crate::value::{Name, Place, Row, Scalar};
 use c_typed::CType;
 use indexmap::IndexMap;
 use std::alloc::{AllocFailed, Global};
@@ -90,6 +91,19 @@ impl<'a> Content<'a> {
         match self {
             Content::Raw(_) => Row::NOTHING,
             Content::Elements(elements) => elements.row(),
+        }
+    }
+
+    /// A pointer to an allocation with this content, to its first element once it has a type.
+    pub(crate) fn to_first(&self, number: u64) -> Scalar<'a>
+        ensures means { (table : Interned) (content : meaning.Content) → ContentIs table (Some self.now) content → scalar_in table result ≡ pointers.to_first number content }
+        ensures stands { (table : Interned) (content : meaning.Content) → ContentIs table (Some self.now) content → ScalarStands table result }
+    {
+        match self {
+            Content::Raw(_) => Scalar::Raw(number),
+            Content::Elements(elements) => {
+                Scalar::Pointer(Place::first(Name::Heap(number), elements.row()))
+            }
         }
     }
 

@@ -1,22 +1,25 @@
 // What operators do with pointers (C17 6.3.2.3, 6.5.2, 6.5.3, 6.5.6, 6.5.8, 6.5.9).
 
 ghost use Rattle.std.specs.Prelude.{◌≡◌, ℕ, ◌/◌, ◌%◌, true, false, ◌==◌, if◌then◌else◌, neg_ℤ, Some, None, IfOk, IfErr};
+ghost use Rattle.c_num.specs.declared.IntType.TheVariants as int_types;
+ghost use Rattle.c_num.specs.Types.{is_value};
 ghost use Rattle.c_typed.specs.Table.{Interned, Stands, type_in, structs_in};
-ghost use Rattle.c_rules.specs.Constants.{is_like_void};
-ghost use Rattle.c_meaning.specs.Values as values;
-ghost use Rattle.c_meaning.specs.Values.{Heap};
-ghost use Rattle.c_meaning.specs.Pointers as meaning;
-ghost use Rattle.c_meaning.specs.Store.{Around, State, is_dead_pointer, with_objects};
+ghost use Rattle.c_typed.specs.Types.{is_like_void};
+ghost use Rattle.ref_semantics.specs.Values as values;
+ghost use Rattle.ref_semantics.specs.Values.{Heap};
+ghost use Rattle.ref_semantics.specs.Pointers as meaning;
+ghost use Rattle.ref_semantics.specs.Store.{TypeEnvironment, State, is_dead_pointer, with_objects};
 ghost use Rattle.ref_store.specs.Views.{row_in, place_in, scalar_in, PlaceStands, ScalarStands};
-ghost use Rattle.ref_store.specs.Holding.{At, IsStore, Gives, IsMoved};
+ghost use Rattle.ref_store.specs.Holding.{At, IsStore, CallGives, IsMoved};
 ghost use Rattle.ref_store.specs.Wanting.{EitherOverflows, GetsType, PointsUntyped, OutOnly};
 
 use crate::object::{Content, Elements};
 use crate::store::Store;
 use crate::value::{Name, Place, Row, Scalar, Stop};
-use c_num::{Relation, compare};
+use c_num::{IntType, Relation, compare};
 use c_typed::{CType, Shape};
-use run_theory::{Pos, UbKind};
+use run_theory::UbKind;
+use text_place::Pos;
 
 /// The index of an element so many elements further or back. What does not fit is past every row.
 fn moved(index: u64, number: i128, is_minus: bool) -> i128
@@ -76,6 +79,13 @@ fn is_equality(relation: Relation) -> bool
     }
 }
 
+/// Whether an integer is a value of `long`.
+fn is_long(value: i128) -> bool
+    ensures { result ≡ is_value int_types.Long value }
+{
+    IntType::Long.contains(value)
+}
+
 /// How many parts of a size so many bytes are, where nothing is left. There are no parts of size 0: all bytes are left.
 fn parts(bytes: u64, own: u64) -> Option<u64>
     ensures { result ≡ (if bytes % own == 0 then Some (bytes / own) else None) }
@@ -93,7 +103,7 @@ fn parts(bytes: u64, own: u64) -> Option<u64>
 impl<'a> Store<'a> {
     /// Whether a pointer points to a dead object.
     fn is_dead_pointer(&self, value: Scalar<'a>) -> bool
-        ensures { (around : Around) (base : ℕ) (state : State) → At around self.now base state → result ≡ is_dead_pointer state.objects (scalar_in self.now.types.now value.entry) }
+        ensures { (around : TypeEnvironment) (base : ℕ) (state : State) → At around self.now base state → result ≡ is_dead_pointer state.objects (scalar_in self.now.types.now value.entry) }
     {
         match value {
             Scalar::Pointer(place) => self.is_dead(place.name),
@@ -104,7 +114,7 @@ impl<'a> Store<'a> {
 
     /// The element that a pointer points to, for an access (C17 6.5.3.2 paragraph 4).
     pub fn accessed(&self, here: Pos, pointer: Scalar<'a>) -> Result<Place<'a>, Stop>
-        ensures gives { (around : Around) (base : ℕ) → Gives around self.now self.now base (place_in self.now.types.now) (meaning.accessed here (scalar_in self.now.types.now pointer.entry)) result }
+        ensures gives { (around : TypeEnvironment) (base : ℕ) → CallGives around self.now self.now base (place_in self.now.types.now) (meaning.accessed here (scalar_in self.now.types.now pointer.entry)) result }
         ensures stands { ScalarStands self.now.types.now pointer.entry → IfOk result (PlaceStands self.now.types.now) }
         ensures want { IfErr result (OutOnly ⊥) }
     {
@@ -129,21 +139,20 @@ impl<'a> Store<'a> {
         number: i128,
         is_minus: bool,
     ) -> Result<Scalar<'a>, Stop>
-        ensures gives { (around : Around) (base : ℕ) → Gives around self.now self.now base (scalar_in self.now.types.now) (meaning.added here (scalar_in self.now.types.now pointer.entry) (if is_minus then neg_ℤ number else number)) result }
+        ensures gives { (around : TypeEnvironment) (base : ℕ) → CallGives around self.now self.now base (scalar_in self.now.types.now) (meaning.added here (scalar_in self.now.types.now pointer.entry) (if is_minus then neg_ℤ number else number)) result }
         ensures stands { ScalarStands self.now.types.now pointer.entry → IfOk result (ScalarStands self.now.types.now) }
         ensures want { IfErr result (OutOnly ⊥) }
     {
         if self.is_dead_pointer(pointer) {
             return Err(Stop::Undefined(UbKind::U06, here));
         }
-        let place = pointer.place();
-        let index = moved(place.index, number, is_minus);
-        let is_above = index > i128::from(place.row.count) && !pointer.is_null();
-        if index < 0 || is_above {
-            return Err(Stop::Undefined(UbKind::U08, here));
-        }
         if pointer.is_null() {
             return Err(Stop::Undefined(UbKind::U17, here));
+        }
+        let place = pointer.place();
+        let index = moved(place.index, number, is_minus);
+        if index < 0 || index > i128::from(place.row.count) {
+            return Err(Stop::Undefined(UbKind::U08, here));
         }
         Ok(Scalar::Pointer(Place {
             index: index as u64,
@@ -153,7 +162,7 @@ impl<'a> Store<'a> {
 
     /// An element as an object (C17 6.5.2.1).
     pub fn element(&self, here: Pos, pointer: Scalar<'a>, number: i128) -> Result<Place<'a>, Stop>
-        ensures gives { (around : Around) (base : ℕ) → Gives around self.now self.now base (place_in self.now.types.now) (meaning.element here (scalar_in self.now.types.now pointer.entry) number) result }
+        ensures gives { (around : TypeEnvironment) (base : ℕ) → CallGives around self.now self.now base (place_in self.now.types.now) (meaning.element here (scalar_in self.now.types.now pointer.entry) number) result }
         ensures stands { ScalarStands self.now.types.now pointer.entry → IfOk result (PlaceStands self.now.types.now) }
         ensures want { IfErr result (OutOnly ⊥) }
     {
@@ -180,7 +189,7 @@ impl<'a> Store<'a> {
     /// Whether pointers to a type point to objects without a type.
     fn is_like_void(&self, c_type: CType) -> bool
         requires { Stands self.now.types.now c_type }
-        ensures { (around : Around) (base : ℕ) (state : State) → At around self.now base state → result ≡ is_like_void around.completed (type_in self.now.types.now c_type) }
+        ensures { (around : TypeEnvironment) (base : ℕ) (state : State) → At around self.now base state → result ≡ is_like_void around.completed (type_in self.now.types.now c_type) }
     {
         match self.types.shape(c_type) {
             Shape::Void => true,
@@ -193,11 +202,11 @@ impl<'a> Store<'a> {
     fn of_allocation(&mut self, here: Pos, target: CType, number: u64) -> Result<Scalar<'a>, Stop>
         requires store { IsStore self.old }
         requires target { Stands self.old.types.now target }
-        ensures gives { (around : Around) (base : ℕ) → Gives around self.old self.new base (scalar_in self.old.types.now) (with_objects (λ objects. meaning.of_allocation around here (type_in self.old.types.now target) number (objects (Heap number)))) result }
+        ensures gives { (around : TypeEnvironment) (base : ℕ) → CallGives around self.old self.new base (scalar_in self.old.types.now) (with_objects (λ objects. meaning.of_allocation around here (type_in self.old.types.now target) number (objects (Heap number)))) result }
         ensures stands { IfOk result (ScalarStands self.old.types.now) }
         ensures types { self.new.types ≡ self.old.types }
         ensures locals { self.new.locals ≡ self.old.locals }
-        ensures want { (around : Around) (base : ℕ) (state : State) → At around self.old base state → IfErr result (OutOnly (GetsType around (type_in self.old.types.now target) (state.objects (Heap number)))) }
+        ensures want { (around : TypeEnvironment) (base : ℕ) (state : State) → At around self.old base state → IfErr result (OutOnly (GetsType around (type_in self.old.types.now target) (state.objects (Heap number)))) }
     {
         let name = Name::Heap(number);
         let row = match self.objects.get(&name) {
@@ -239,11 +248,11 @@ impl<'a> Store<'a> {
         requires store { IsStore self.old }
         requires target { Stands self.old.types.now target }
         requires value { ScalarStands self.old.types.now value }
-        ensures gives { (around : Around) (base : ℕ) → Gives around self.old self.new base (scalar_in self.old.types.now) (meaning.repointed around here (type_in self.old.types.now target) (scalar_in self.old.types.now value.entry)) result }
+        ensures gives { (around : TypeEnvironment) (base : ℕ) → CallGives around self.old self.new base (scalar_in self.old.types.now) (meaning.repointed around here (type_in self.old.types.now target) (scalar_in self.old.types.now value.entry)) result }
         ensures stands { IfOk result (ScalarStands self.old.types.now) }
         ensures types { self.new.types ≡ self.old.types }
         ensures locals { self.new.locals ≡ self.old.locals }
-        ensures want { (around : Around) (base : ℕ) (state : State) → At around self.old base state → IfErr result (OutOnly ((is_like_void around.completed (type_in self.old.types.now target) ≡ false) × PointsUntyped around (type_in self.old.types.now target) state.objects (scalar_in self.old.types.now value.entry))) }
+        ensures want { (around : TypeEnvironment) (base : ℕ) (state : State) → At around self.old base state → IfErr result (OutOnly ((is_like_void around.completed (type_in self.old.types.now target) ≡ false) × PointsUntyped around (type_in self.old.types.now target) state.objects (scalar_in self.old.types.now value.entry))) }
     {
         if self.is_dead_pointer(value) {
             return Err(Stop::Undefined(UbKind::U06, here));
@@ -265,7 +274,7 @@ impl<'a> Store<'a> {
 
     /// Whether a pointer isn't null.
     pub fn tested(&self, here: Pos, value: Scalar<'a>) -> Result<Scalar<'a>, Stop>
-        ensures gives { (around : Around) (base : ℕ) → Gives around self.now self.now base (scalar_in self.now.types.now) (meaning.tested here (scalar_in self.now.types.now value.entry)) result }
+        ensures gives { (around : TypeEnvironment) (base : ℕ) → CallGives around self.now self.now base (scalar_in self.now.types.now) (meaning.tested here (scalar_in self.now.types.now value.entry)) result }
         ensures stands { IfOk result (ScalarStands self.now.types.now) }
         ensures want { IfErr result (OutOnly ⊥) }
     {
@@ -279,9 +288,9 @@ impl<'a> Store<'a> {
     fn are_equal(&self, a: Scalar<'a>, b: Scalar<'a>) -> Result<bool, Stop>
         requires a { ScalarStands self.now.types.now a }
         requires b { ScalarStands self.now.types.now b }
-        ensures found { (around : Around) → around.structs ≡ structs_in self.now.types.now → IfOk result (λ same. same ≡ meaning.are_equal around (scalar_in self.now.types.now a.entry) (scalar_in self.now.types.now b.entry)) }
+        ensures found { (around : TypeEnvironment) → around.structs ≡ structs_in self.now.types.now → IfOk result (λ same. same ≡ meaning.are_equal around (scalar_in self.now.types.now a.entry) (scalar_in self.now.types.now b.entry)) }
         ensures only { IfErr result (λ e. e ≡ Stop.OutOfMemory) }
-        ensures want { (around : Around) → around.structs ≡ structs_in self.now.types.now → IfErr result (λ e. EitherOverflows around (scalar_in self.now.types.now a.entry) (scalar_in self.now.types.now b.entry)) }
+        ensures want { (around : TypeEnvironment) → around.structs ≡ structs_in self.now.types.now → IfErr result (λ e. EitherOverflows around (scalar_in self.now.types.now a.entry) (scalar_in self.now.types.now b.entry)) }
     {
         if !(a.is_into_object() && b.is_into_object()) {
             return Ok(same_function(a, b));
@@ -302,9 +311,9 @@ impl<'a> Store<'a> {
     ) -> Result<Scalar<'a>, Stop>
         requires a { ScalarStands self.now.types.now a }
         requires b { ScalarStands self.now.types.now b }
-        ensures gives { (around : Around) (base : ℕ) → Gives around self.now self.now base (scalar_in self.now.types.now) (meaning.compared_pointers around relation here (scalar_in self.now.types.now a.entry) (scalar_in self.now.types.now b.entry)) result }
+        ensures gives { (around : TypeEnvironment) (base : ℕ) → CallGives around self.now self.now base (scalar_in self.now.types.now) (meaning.compared_pointers around relation here (scalar_in self.now.types.now a.entry) (scalar_in self.now.types.now b.entry)) result }
         ensures stands { IfOk result (ScalarStands self.now.types.now) }
-        ensures want { (around : Around) (base : ℕ) (state : State) → At around self.now base state → IfErr result (OutOnly ((is_dead_pointer state.objects (scalar_in self.now.types.now a.entry) ≡ false) × (is_dead_pointer state.objects (scalar_in self.now.types.now b.entry) ≡ false) × (meaning.is_equality relation ≡ true) × EitherOverflows around (scalar_in self.now.types.now a.entry) (scalar_in self.now.types.now b.entry))) }
+        ensures want { (around : TypeEnvironment) (base : ℕ) (state : State) → At around self.now base state → IfErr result (OutOnly ((is_dead_pointer state.objects (scalar_in self.now.types.now a.entry) ≡ false) × (is_dead_pointer state.objects (scalar_in self.now.types.now b.entry) ≡ false) × (meaning.is_equality relation ≡ true) × EitherOverflows around (scalar_in self.now.types.now a.entry) (scalar_in self.now.types.now b.entry))) }
     {
         if self.is_dead_pointer(a) || self.is_dead_pointer(b) {
             return Err(Stop::Undefined(UbKind::U06, here));
@@ -320,7 +329,7 @@ impl<'a> Store<'a> {
                 same
             }));
         }
-        if !self.is_one_row(a, b) {
+        if !self.are_in_one_row(a, b) {
             return Err(Stop::Undefined(UbKind::U09, here));
         }
         let (a, b) = (i128::from(a.place().index), i128::from(b.place().index));
@@ -329,18 +338,45 @@ impl<'a> Store<'a> {
 
     /// Whether two rows of an object are the same.
     fn same_row(&self, a: Row, b: Row) -> bool
-        requires a { Stands self.now.types.now a.c_type }
-        requires b { Stands self.now.types.now b.c_type }
-        ensures { result ≡ values.same_row (row_in self.now.types.now a) (row_in self.now.types.now b) }
+        ensures { Stands self.now.types.now a.c_type → Stands self.now.types.now b.c_type → result ≡ values.same_row (row_in self.now.types.now a) (row_in self.now.types.now b) }
     {
-        a.start == b.start && self.types.same(a.c_type, b.c_type) && a.count == b.count
+        a.start == b.start && self.types.are_same(a.c_type, b.c_type) && a.count == b.count
+    }
+
+    /// A pointer to an allocation as a whole points to its first element, once that has a type.
+    fn as_typed(&self, value: Scalar<'a>) -> Scalar<'a>
+        ensures means { (around : TypeEnvironment) (base : ℕ) (state : State) → At around self.now base state → scalar_in self.now.types.now result ≡ meaning.as_typed state.objects (scalar_in self.now.types.now value.entry) }
+        ensures stands { (around : TypeEnvironment) (base : ℕ) (state : State) → At around self.now base state → ScalarStands self.now.types.now value.entry → ScalarStands self.now.types.now result }
+    {
+        match value {
+            Scalar::Raw(number) => self.to_first(number),
+            _ => value,
+        }
+    }
+
+    /// A pointer to an allocation, to its first element once it has a type.
+    fn to_first(&self, number: u64) -> Scalar<'a>
+        ensures means { (around : TypeEnvironment) (base : ℕ) (state : State) → At around self.now base state → scalar_in self.now.types.now result ≡ meaning.to_first number (state.objects (Heap number)) }
+        ensures stands { (around : TypeEnvironment) (base : ℕ) (state : State) → At around self.now base state → ScalarStands self.now.types.now result }
+    {
+        match self.objects.get(&Name::Heap(number)) {
+            Some(content) => content.to_first(number),
+            None => Scalar::Raw(number),
+        }
+    }
+
+    /// Whether two pointers point to elements of one row, or to its end, once allocations have types.
+    fn are_in_one_row(&self, a: Scalar<'a>, b: Scalar<'a>) -> bool
+        requires a { ScalarStands self.now.types.now a }
+        requires b { ScalarStands self.now.types.now b }
+        ensures { (around : TypeEnvironment) (base : ℕ) (state : State) → At around self.now base state → result ≡ meaning.are_in_one_row state.objects (scalar_in self.now.types.now a.entry) (scalar_in self.now.types.now b.entry) }
+    {
+        self.is_one_row(self.as_typed(a), self.as_typed(b))
     }
 
     /// Whether two pointers point to elements of one row, or to its end.
     fn is_one_row(&self, a: Scalar<'a>, b: Scalar<'a>) -> bool
-        requires a { ScalarStands self.now.types.now a }
-        requires b { ScalarStands self.now.types.now b }
-        ensures { result ≡ meaning.is_one_row (scalar_in self.now.types.now a.entry) (scalar_in self.now.types.now b.entry) }
+        ensures { ScalarStands self.now.types.now a.entry → ScalarStands self.now.types.now b.entry → result ≡ meaning.is_one_row (scalar_in self.now.types.now a.entry) (scalar_in self.now.types.now b.entry) }
     {
         match (a, b) {
             (Scalar::Pointer(a), Scalar::Pointer(b)) => {
@@ -355,17 +391,21 @@ impl<'a> Store<'a> {
     pub fn difference(&self, here: Pos, a: Scalar<'a>, b: Scalar<'a>) -> Result<Scalar<'a>, Stop>
         requires a { ScalarStands self.now.types.now a }
         requires b { ScalarStands self.now.types.now b }
-        ensures gives { (around : Around) (base : ℕ) → Gives around self.now self.now base (scalar_in self.now.types.now) (meaning.difference here (scalar_in self.now.types.now a.entry) (scalar_in self.now.types.now b.entry)) result }
+        ensures gives { (around : TypeEnvironment) (base : ℕ) → CallGives around self.now self.now base (scalar_in self.now.types.now) (meaning.difference here (scalar_in self.now.types.now a.entry) (scalar_in self.now.types.now b.entry)) result }
         ensures stands { IfOk result (ScalarStands self.now.types.now) }
         ensures want { IfErr result (OutOnly ⊥) }
     {
         if self.is_dead_pointer(a) || self.is_dead_pointer(b) {
             return Err(Stop::Undefined(UbKind::U06, here));
         }
-        if !self.is_one_row(a, b) {
+        if !self.are_in_one_row(a, b) {
             return Err(Stop::Undefined(UbKind::U10, here));
         }
         let (a, b) = (i128::from(a.place().index), i128::from(b.place().index));
-        Ok(Scalar::Integer(a - b))
+        let between = a - b;
+        if !is_long(between) {
+            return Err(Stop::Undefined(UbKind::U10, here));
+        }
+        Ok(Scalar::Integer(between))
     }
 }

@@ -2,15 +2,16 @@
 
 ghost use Rattle.std.specs.Prelude.{◌≡◌, not, nat_lt};
 ghost use Rattle.c_typed.specs.Table.{Interned};
-ghost use Rattle.c_meaning.specs.Values as meaning;
-ghost use Rattle.c_meaning.specs.Meaning as meaning_rules;
-ghost use Rattle.c_meaning.specs.Pointers as pointers;
-ghost use Rattle.c_meaning.specs.Store as meaning_store;
+ghost use Rattle.ref_semantics.specs.Values as meaning;
+ghost use Rattle.ref_semantics.specs.Meaning as meaning_rules;
+ghost use Rattle.ref_semantics.specs.Pointers as pointers;
+ghost use Rattle.ref_semantics.specs.Store as meaning_store;
 ghost use Rattle.ref_store.specs.Views.{row_in, place_in, scalar_in, ScalarStands, PlaceStands};
 
 use c_typed::CType;
-use run_theory::{Pos, UbKind};
+use run_theory::UbKind;
 use std::alloc::{AllocError, AllocFailed};
+use text_place::Pos;
 
 /// An object (C17 6.2.4).
 #[derive(Clone, Copy, Debug, PartialEq, Eq, Hash)]

@@ -1,7 +1,7 @@
 -- What a reader has of a run that follows a program.
-use Rattle.std.proofs.Common.{◌≡◌, ℕ, ◌⊎◌, inl, inr, sym, ◌∙◌, refl, subst}
+use Rattle.std.proofs.Common.{◌≡◌, ℕ, ◌⊎◌, inl, inr, ap, sym, ◌∙◌, refl, subst}
 use Rattle.run_theory.specs.declared.ends.TrapKind.{TrapKind}
-use Rattle.run_theory.specs.Runs.{Trace, output_of, Final, Ended, DepthReached, Undefined, HeapExhausted, IndexExhausted, Trapped, Answer, Going, Over, trace_of, Run, IsUndefined, IsProgramEnd, IsResourceEnd, IsPrefix, Explains, goes_wrong, ends_alike, is_part, is_cut, Follows}
+use Rattle.run_theory.specs.Runs.{Trace, output_of, Final, Ended, DepthReached, Undefined, HeapExhausted, IndexExhausted, Trapped, Answer, Going, Over, trace_of, Run, IsUndefined, IsProgramEnd, IsResourceEnd, IsPrefix, all_events, Refused, ExplainsBy, goes_wrong, ends_alike, is_part, is_cut, Follows}
 use Rattle.run_theory.proofs.Traces.{prefix_refl, output_of-prefix}
 
 no_limit : (final : Final) → IsProgramEnd final → IsResourceEnd final → ⊥
@@ -16,9 +16,11 @@ same_final : (final final' : Final) (trace trace' : Trace) → Over final trace 
 same_final final final' trace trace' e = cc
 
 -- what explains an end that is not at a limit
-explained_end : (front : Run) (answer : Answer) (final : Final) (trace : Trace) → Explains front answer → answer ≡ Over final trace → (IsResourceEnd final → ⊥) → (n : ℕ) × (IsUndefined (front n) ⊎ (IsProgramEnd final × (front n ≡ Over final trace)))
+explained_end : (front : Run) (answer : Answer) (final : Final) (trace : Trace) → ExplainsBy all_events front answer → answer ≡ Over final trace → (IsResourceEnd final → ⊥) → (n : ℕ) × (IsUndefined (front n) ⊎ (IsProgramEnd final × (front n ≡ Over final trace)))
 explained_end front answer final trace (goes_wrong _ n u) e h = (n, inl u)
-explained_end front answer final trace (ends_alike final' trace' n p f) e h = (n, inr (subst IsProgramEnd (same_final final' final trace' trace e) p, f ∙ e))
+explained_end front answer final trace (ends_alike final' trace'' trace' n k f same) e h =
+    let here : front n ≡ Over final' trace' = f ∙ ap (Over final') (sym same) in
+    (n, elim k [ inl p ↦ inr (subst IsProgramEnd (same_final final' final trace' trace e) p, here ∙ e) | inr r ↦ absurd (h (subst IsResourceEnd (same_final final' final trace' trace e) r)) ])
 explained_end front answer final trace (is_part trace' n p) e h = absurd (cc)
 explained_end front answer final trace (is_cut final' trace' n r p) e h = absurd (h (subst IsResourceEnd (same_final final' final trace' trace e) r))
 
@@ -57,8 +59,8 @@ module _ (program run : Run) (follows : Follows program run) where
   pub follows_output : (m : ℕ) → (n : ℕ) × (IsUndefined (program n) ⊎ IsPrefix (output_of (trace_of (run m))) (output_of (trace_of (program n))))
   follows_output m = go (run m) (follows.backward m)
     where
-      go : (answer : Answer) → Explains program answer → (n : ℕ) × (IsUndefined (program n) ⊎ IsPrefix (output_of (trace_of answer)) (output_of (trace_of (program n))))
+      go : (answer : Answer) → ExplainsBy all_events program answer → (n : ℕ) × (IsUndefined (program n) ⊎ IsPrefix (output_of (trace_of answer)) (output_of (trace_of (program n))))
       go answer (goes_wrong _ n u) = (n, inl u)
-      go answer (ends_alike final trace n p e) = (n, inr (subst (λ a. IsPrefix (output_of trace) (output_of (trace_of a))) (sym e) (prefix_refl (output_of trace))))
+      go answer (ends_alike final trace trace' n k e same) = (n, inr (subst (λ a. IsPrefix (output_of trace') (output_of (trace_of a))) (sym e) (subst (λ t. IsPrefix (output_of trace') (output_of t)) same (prefix_refl (output_of trace')))))
       go answer (is_part trace n p) = (n, inr (output_of-prefix trace (trace_of (program n)) p))
-      go answer (is_cut final trace n r p) = (n, inr (output_of-prefix trace (trace_of (program n)) p))
+      go answer (is_cut final trace n r refused) = absurd (let e = refused.refused in cc)

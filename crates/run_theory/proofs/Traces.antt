@@ -1,7 +1,7 @@
 -- Fronts of lists, and the output of a trace.
 use Rattle.std.proofs.Common.{◌≡◌, List, [], ◌∷◌, ◌++◌, ap, sym, ◌∙◌, refl, append_assoc}
 use Rattle.std.proofs.lemmas.List.{append-nil}
-use Rattle.run_theory.specs.Runs.{Trace, Output, Called, Returned, Allocated, Freed, Loaded, Stored, output_of, IsPrefix}
+use Rattle.run_theory.specs.Runs.{Trace, Output, Called, CalledStart, Returned, Allocated, Freed, Loaded, Stored, output_of, IsPrefix, Appends}
 
 pub prefix_refl : {X : Type 0} → (s : List X) → IsPrefix s s
 prefix_refl s = ([], sym (append-nil s))
@@ -20,10 +20,15 @@ prefix_behind s a b p = (p.0, ap (λ l. s ++ l) p.1 ∙ sym (append_assoc s a p.
 pub prefix_nil : {X : Type 0} → (s : List X) → IsPrefix [] s
 prefix_nil s = (s, refl)
 
+-- what is seen of a front is a front of what is seen
+pub seen-prefix : {E C : Type 0} (seen : List E → List C) → Appends seen → (s t : List E) → IsPrefix s t → IsPrefix (seen s) (seen t)
+seen-prefix seen appends s t p = (seen p.0, ap seen p.1 ∙ appends s p.0)
+
 pub output_of-append : (s t : Trace) → output_of (s ++ t) ≡ output_of s ++ output_of t
 output_of-append [] t = refl
 output_of-append (Output byte ∷ s) t = ap (λ l. byte ∷ l) (output_of-append s t)
 output_of-append (Called function ∷ s) t = output_of-append s t
+output_of-append (CalledStart ∷ s) t = output_of-append s t
 output_of-append (Returned ∷ s) t = output_of-append s t
 output_of-append (Allocated object size ∷ s) t = output_of-append s t
 output_of-append (Freed object ∷ s) t = output_of-append s t

@@ -1,56 +1,8 @@
-// What the ends of runs name: places in a source, kinds of undefined behaviour, kinds of traps.
+// What the ends of runs name: kinds of undefined behaviour, kinds of traps.
 
-ghost use Rattle.std.specs.Prelude.{◌≡◌, ◌+◌, ◌^◌, ◌<◌, Some};
+ghost use Rattle.std.specs.Prelude.{◌≡◌, Some};
 
 use std::fmt;
-
-/// A place in a source: line and column, both counted from 1, columns in bytes.
-#[derive(Clone, Copy, Debug, PartialEq, Eq, PartialOrd, Ord, Hash)]
-pub struct Pos {
-    pub line: u32,
-    pub column: u32,
-}
-
-impl Pos {
-    ghost use Rattle.run_theory.specs.Places.{first_place, place_after};
-
-    /// The place of a source's first byte, 1:1.
-    pub fn start() -> Pos
-        ensures { result ≡ first_place }
-    {
-        Pos { line: 1, column: 1 }
-    }
-
-    /// The place behind `byte`, where `byte` stands at this place. A newline ends its line (C17 5.2.1 paragraph 3).
-    pub fn after(self, byte: u8) -> Pos
-        requires line_room { self.line + 1 < 2 ^ 32 }
-        requires column_room { self.column + 1 < 2 ^ 32 }
-        ensures { result ≡ place_after self byte }
-    {
-        if byte == b'\n' {
-            Pos {
-                line: self.line + 1,
-                column: 1,
-            }
-        } else {
-            Pos {
-                line: self.line,
-                column: self.column + 1,
-            }
-        }
-    }
-}
-
-/// As `12:5`, the line first.
-impl fmt::Display for Pos {
-    ghost use Rattle.run_theory.specs.Places.{place_text};
-
-    ghost output = { λ place. Some (place_text place) };
-
-    fn fmt<W: fmt::Write>(&self, f: &mut fmt::Formatter<W>) -> fmt::Result {
-        write!(f, "{}:{}", self.line, self.column)
-    }
-}
 
 /// A kind of undefined behaviour, as it is printed.
 #[derive(Clone, Copy, Debug, PartialEq, Eq, PartialOrd, Ord)]
@@ -178,36 +130,5 @@ impl fmt::Display for TrapKind {
 
     fn fmt<W: fmt::Write>(&self, f: &mut fmt::Formatter<W>) -> fmt::Result {
         f.write_str(self.name())
-    }
-}
-
-#[cfg(test)]
-mod tests {
-    use super::*;
-    use std::test::Fail;
-
-    // In `a`, newline, tab, `b` the `b` stands at 2:2.
-    #[test]
-    fn counts_lines_and_columns(rt: HostRuntime) {
-        let start = Pos::start();
-        let second = start.after(b'a');
-        let below = second.after(b'\n');
-        let last = below.after(b'\t');
-        assert_eq!(rt; (start.line, start.column), (1, 1));
-        assert_eq!(rt; (second.line, second.column), (1, 2));
-        assert_eq!(rt; (below.line, below.column), (2, 1));
-        assert_eq!(rt; (last.line, last.column), (2, 2));
-        assert!(rt; second < below);
-    }
-
-    #[test]
-    fn prints_ends(rt: HostRuntime) -> Result<(), Fail> {
-        let place = Pos {
-            line: 12,
-            column: 5,
-        };
-        let text = format!(in rt.alloc(); "{} at {place}, {}", UbKind::U06, TrapKind::StackFull)?;
-        assert_eq!(rt; text.as_str(), "U06 at 12:5, StackFull");
-        Ok(())
     }
 }

@@ -7,4 +7,4 @@
 mod ends;
 pub mod laws;
 
-pub use ends::{Pos, TrapKind, UbKind};
+pub use ends::{TrapKind, UbKind};

@@ -12,6 +12,3 @@ mod space;
 
 pub use kind::PoolKind;
 pub use space::{SlabSpace, TakeErr};
-
-#[cfg(test)]
-mod tests;

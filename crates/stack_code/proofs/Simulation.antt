@@ -4,7 +4,7 @@ use Rattle.std.specs.Prelude.{slice_get, slice_set, nat_eq, nat_lt, replicate, i
 use Rattle.std.proofs.lemmas.Bool.{ltb-true}
 use Rattle.std.proofs.lemmas.Option.{slice_get_within}
 use Rattle.std.proofs.lemmas.List.{length-set, length-replicate}
-use Rattle.run_theory.specs.Runs.{Trace, Output, Called, Final, Ended, Over, IsUndefined, IsProgramEnd, IsResourceEnd, Move, To, Halt, Leads, here, Locks, Simulates}
+use Rattle.run_theory.specs.Runs.{Trace, Output, Called, Final, Ended, Over, IsUndefined, IsProgramEnd, IsResourceEnd, Move, To, Halt, Leads, here, all_events, Locks, Simulates}
 use Rattle.run_theory.proofs.Machines.{one_step, leads_compose, leads_more, locked_from}
 use Rattle.run_theory.proofs.Simulations.{simulates_within}
 use Rattle.c_num.specs.declared.IntType.{IntType}
@@ -339,8 +339,8 @@ module _ (tac : Tac) (slabs index : ℕ) where
       pub follows_code : Simulates (tac_run tac input) (machine.mach (code_of tac) slabs index input) 8 2
       follows_code =
           let from = begins in
-          let simulates = locked_from (act points) (λ state. state.trace) step (λ state. state.trace) Related 8 in_step (initial tac input) (stand_in (initial tac input)) (machine.initial (code_of tac) slabs index input) from.0 from.2 (refl, length-replicate tac.main.registers (pos 0)) in
-          simulates_within (tac_run tac input) (machine.mach (code_of tac) slabs index input) 8 from.0 8 2 (λ n. omega (arith, from.1)) simulates
+          let simulates = locked_from all_events (act points) (λ state. state.trace) step (λ state. state.trace) Related 8 in_step (initial tac input) (stand_in (initial tac input)) (machine.initial (code_of tac) slabs index input) from.0 from.2 (refl, length-replicate tac.main.registers (pos 0)) in
+          simulates_within all_events (tac_run tac input) (machine.mach (code_of tac) slabs index input) 8 from.0 8 2 (λ n. omega (arith, from.1)) simulates
 
 -- the law, over all code and input, and all limits
 pub emission_follows : EmissionFollowsCode

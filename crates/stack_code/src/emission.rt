@@ -160,6 +160,3 @@ pub fn emit(alloc: Global, tac: &Tac) -> Result<Units, AllocError>
         kinds: Vec::new(alloc),
     })
 }
-
-#[cfg(test)]
-mod tests;

@@ -165,6 +165,3 @@ pub fn push_op(code: &mut Vec<Instr>, places: &[u64], op: Op) -> Result<(), Allo
         Op::Exit { from } => code.extend_from_slice(&[local(from), LOAD, Instr::Exit]),
     }
 }
-
-#[cfg(test)]
-mod tests;

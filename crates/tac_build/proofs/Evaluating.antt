@@ -9,7 +9,7 @@ use Rattle.std.proofs.Common.{◌≡◌, ◌≢◌, ℕ, zero, suc, ◌+◌, ◌
 use Rattle.std.proofs.lemmas.Bool.{and_parts, not-true, not-false, or_cases}
 use Rattle.std.proofs.lemmas.Option.{slice_get_within}
 use Rattle.std.specs.List.{AllByRecursion}
-use Rattle.run_theory.specs.declared.ends.Pos.{Pos}
+use Rattle.text_place.specs.declared.place.Pos.{Pos}
 use Rattle.run_theory.specs.declared.ends.UbKind.{UbKind}
 use Rattle.run_theory.specs.declared.ends.UbKind.TheVariants as Ub
 use Rattle.run_theory.specs.Runs.{Output, Over, Ended, Matches, ended, To, Halt}
@@ -30,11 +30,11 @@ use Rattle.c_typed.specs.declared.typed.Stepping.{Stepping}
 use Rattle.c_typed.specs.declared.typed.Stepping.TheVariants as Steppings
 use Rattle.c_typed.specs.Typed as T
 use Rattle.c_typed.specs.Typed.{Value, Object}
-use Rattle.c_meaning.specs.Values.{Own, Place, Scalar, IntegerValue, object_place, integer_of}
-use Rattle.c_meaning.specs.Store.{Around, State, Outcome, Then, Stopped, Eval, ◌>>=◌, continue_with, give, undefined, entered, entered_times}
-use Rattle.c_meaning.specs.Pointers.{truth, read, write}
-use Rattle.c_meaning.specs.Library.{library}
-use Rattle.c_meaning.specs.Meaning.{Calls, is_true, kind_of, outcome_at, converted, arithmetic, value, values, find, local_place, local_name, step_operator, step_result}
+use Rattle.ref_semantics.specs.Values.{LocalObject, Place, Scalar, IntegerValue, object_place, integer_of}
+use Rattle.ref_semantics.specs.Store.{TypeEnvironment, State, Outcome, Then, Stopped, Eval, ◌>>=◌, continue_with, give, undefined, tick, ticks}
+use Rattle.ref_semantics.specs.Pointers.{truth, read, write}
+use Rattle.ref_semantics.specs.Library.{library}
+use Rattle.ref_semantics.specs.Meaning.{Calls, is_true, kind_of, outcome_at, converted, arithmetic, value, values, find, local_place, local_name, step_operator, step_result}
 use Rattle.tac_ir.specs.Meaning as M
 use Rattle.tac_ir.specs.Values as words
 use Rattle.tac_ir.specs.Values.{byte_of, next_char, after_next, is_zero}
@@ -53,7 +53,7 @@ use Rattle.tac_build.proofs.Locals.{read_some, read_none, write_is, found_is, Is
 
 -- how many units are spent on an object, and on an expression, at most
 abbrev pub object_units : Object → ℕ
-object_units (T.GroupedObject inner) = 1 + object_units inner
+object_units (T.GroupedObject place inner) = 1 + object_units inner
 object_units _ = 1
 
 abbrev pub expr_units : Value → ℕ
@@ -166,10 +166,10 @@ module _ {points : List Op} {worth count : ℕ} where
 pub enters_times : {points : List Op} {worth : ℕ} {A : Type 0} {Stands : Stand A} {from : M.State} {n lag' slack slack' : ℕ} (times : ℕ) (lag : ℕ) (rest : Eval A) (at : ℕ) (registers : List ℤ) (s : State) →
     Path points worth from (stand at registers s) n s.units lag slack → lag + times ≤ lag' →
     ((left : ℕ) → Path points worth from (stand at registers s) n left (lag + times) slack → Does points worth from n lag' slack' Stands (rest (record s { units = left }))) →
-    Does points worth from n lag' slack' Stands (entered_times times rest s)
+    Does points worth from n lag' slack' Stands (ticks times rest s)
 enters_times zero lag rest at registers s p more next = next s.units (eased p (omega arith) (omega arith))
 enters_times {slack = slack} (suc times) lag rest at registers s p more next =
-    enter (entered_times times rest) at registers s p (omega arith) (λ left p'.
+    enter (ticks times rest) at registers s p (omega arith) (λ left p'.
     enters_times {slack = slack} times (suc lag) rest at registers (record s { units = left }) (eased p' (omega arith) (omega arith)) (omega arith) (λ left' p''.
     next left' (eased p'' (omega arith) (omega arith))))
 
@@ -194,7 +194,7 @@ halts {points} {from = from} state status p e =
     let end = there.2 ∙ step_halts (M.act points) (λ state. state.trace) 0 state state (Ended status) e in
     record {
       took = there.0;
-      matches = subst (Matches (Over (Ended status) state.trace)) (sym end) (ended (Ended status) state.trace (inl tt));
+      matches = subst (Matches (Over (Ended status) state.trace)) (sym end) (ended (Ended status) state.trace state.trace refl (inl tt));
       allowed = omega (arith, there.1);
       paid = λ g. absurd g;
     }
@@ -206,13 +206,13 @@ negated_twice false = refl
 unless_shift : (op : BinOp) (test : Bool) → (is_shift op || test) ≡ true → is_shift op ≡ false → test ≡ true
 unless_shift op test e none = elim (or_cases (is_shift op) test e) [ inl shifts ↦ absurd (true≢false (sym shifts ∙ none)) | inr holds ↦ holds ]
 
-module _ (points : List Op) (worth : ℕ) (around : Around) (calls : Calls) (count : ℕ) (below : AllByRecursion (NamesBelow count (length points)) points) where
+module _ (points : List Op) (worth : ℕ) (around : TypeEnvironment) (calls : Calls) (count : ℕ) (below : AllByRecursion (NamesBelow count (length points)) points) where
   pub named : (at : ℕ) (op : Op) → HasOp points at op → NamesBelow count (length points) op
   named at op has = each_point (NamesBelow count (length points)) points below at op has
 
   -- the object of a local, and the code where it was
   abbrev Found : IntType → ℕ → List IntType → List ℕ → ℕ → List ℤ → Place → State → M.State → Type 0
-  Found t number types names at registers place s state = (place ≡ object_place (Own (local_number names number)) (Integer t)) × (state ≡ stand at registers s) × Ready count types names registers s
+  Found t number types names at registers place s state = (place ≡ object_place (LocalObject (local_number names number)) (Integer t)) × (state ≡ stand at registers s) × Ready count types names registers s
 
   -- an object is found without a step
   find_does : (object : Object) (types : List IntType) (names : List ℕ) (number : ℕ) (t : IntType) → local_of object ≡ Some number → slice_get types number ≡ Some t →
@@ -223,11 +223,11 @@ module _ (points : List Op) (worth : ℕ) (around : Around) (calls : Calls) (cou
       let same : local ≡ number = cc in
       let within : number < length names = omega (arith, ready.depth, slice_get_within types number t f) in
       let stored = ready.held number t f in
-      let name : local_name s.locals local ≡ Some (Own (local_number names number)) =
-      subst (λ i. local_name s.locals i ≡ Some (Own (local_number names number))) (sym same) (subst (λ locals. local_name locals number ≡ Some (Own (local_number names number))) (sym ready.own) (local_named names number within)) in
+      let name : local_name s.locals local ≡ Some (LocalObject (local_number names number)) =
+      subst (λ i. local_name s.locals i ≡ Some (LocalObject (local_number names number))) (sym same) (subst (λ locals. local_name locals number ≡ Some (LocalObject (local_number names number))) (sym ready.own) (local_named names number within)) in
       subst (λ outcome. Does points worth (stand at registers s) s.units 1 4 (Found t number types names at registers) outcome) (sym (found_is (record s { units = left }) (local_number names number) local t stored.held name stored.is))
-      (comes (object_place (Own (local_number names number)) (Integer t)) (record s { units = left }) (stand at registers s) p (refl, refl, ready)))
-  find_does (T.GroupedObject inner) types names number t e f at registers s ready =
+      (comes (object_place (LocalObject (local_number names number)) (Integer t)) (record s { units = left }) (stand at registers s) p (refl, refl, ready)))
+  find_does (T.GroupedObject place inner) types names number t e f at registers s ready =
       enter (find around calls inner) at registers s (start (stand at registers s) s.units) (omega arith) (λ left p.
       eases (along p (find_does inner types names number t e f at registers (record s { units = left }) ready)) (omega arith) (omega arith))
   find_does _ types names number t e f at registers s ready = absurd (cc)
@@ -236,7 +236,7 @@ module _ (points : List Op) (worth : ℕ) (around : Around) (calls : Calls) (cou
   finds : {B : Type 0} {Stands : Stand B} {from : M.State} {n lag lag' slack slack' : ℕ} (next : Place → Eval B) (object : Object) (types : List IntType) (names : List ℕ) (local : IsLocal types object) (at : ℕ) (registers : List ℤ) (s : State) →
       Path points worth from (stand at registers s) n s.units lag slack → Ready count types names registers s → lag + object_units object ≤ lag' →
       ((s' : State) → Path points worth from (stand at registers s') n s'.units (lag + object_units object) (slack + 4) → Ready count types names registers s' →
-      Does points worth from n lag' slack' Stands (next (object_place (Own (local_number names local.number)) (Integer local.t)) s')) →
+      Does points worth from n lag' slack' Stands (next (object_place (LocalObject (local_number names local.number)) (Integer local.t)) s')) →
       Does points worth from n lag' slack' Stands (continue_with next (find around calls object s))
   finds {Stands = Stands} {from} {n} {lag} {lag'} {slack} {slack'} next object types names local at registers s p ready more rest =
       bind next (along p (find_does object types names local.number local.t local.at local.type at registers s ready)) more (λ place s' to p' found.
@@ -248,12 +248,12 @@ module _ (points : List Op) (worth : ℕ) (around : Around) (calls : Calls) (cou
       slice_get types number ≡ Some t → Ready count types names registers s →
       ((z : ℤ) → slice_get registers number ≡ Some z → is_value t z ≡ true → Does points worth from n lag slack Stands (outcome (Then (IntegerValue z) s))) →
       Does points worth from n lag slack Stands (outcome (undefined {A = Scalar} Ub.U04 place s)) →
-      Does points worth from n lag slack Stands (outcome (read around place (object_place (Own (local_number names number)) (Integer t)) s))
+      Does points worth from n lag slack Stands (outcome (read around place (object_place (LocalObject (local_number names number)) (Integer t)) s))
   reads {Stands = Stands} {from} {n} {lag} {slack} outcome place types names number t registers s f ready some none =
       by (ready.held number t f).held (ready.held number t f).is ((ready.held number t f).held 0) refl (ready.held number t f).value
     where
-      by : (held : ℕ → Option Scalar) → s.objects (Own (local_number names number)) ≡ local_content t held → (found : Option Scalar) → held 0 ≡ found → HeldIn t (slice_get registers number) found →
-          Does points worth from n lag slack Stands (outcome (read around place (object_place (Own (local_number names number)) (Integer t)) s))
+      by : (held : ℕ → Option Scalar) → s.objects (LocalObject (local_number names number)) ≡ local_content t held → (found : Option Scalar) → held 0 ≡ found → HeldIn t (slice_get registers number) found →
+          Does points worth from n lag slack Stands (outcome (read around place (object_place (LocalObject (local_number names number)) (Integer t)) s))
       by held is None e none_there =
           subst (λ x. Does points worth from n lag slack Stands (outcome x)) (sym (read_none around place (local_number names number) t held s is e)) none
       by held is (Some scalar) e there =
@@ -264,7 +264,7 @@ module _ (points : List Op) (worth : ℕ) (around : Around) (calls : Calls) (cou
       slice_get types number ≡ Some t → HasOp points mid (O.Copy (register source) (register number) (point exit)) → slice_get registers source ≡ Some z → is_value t z ≡ true →
       Path points worth from (stand mid registers s) n s.units lag (suc slack) → Ready count types names registers s →
       ((s' : State) → Path points worth from (stand exit (slice_set registers number z) s') n s'.units lag slack → Ready count types names (slice_set registers number z) s' → Does points worth from n lag' slack' Stands (outcome (Then (IntegerValue z) s'))) →
-      Does points worth from n lag' slack' Stands (outcome (write around place (object_place (Own (local_number names number)) (Integer t)) (IntegerValue z) s))
+      Does points worth from n lag' slack' Stands (outcome (write around place (object_place (LocalObject (local_number names number)) (Integer t)) (IntegerValue z) s))
   stores {Stands = Stands} {from} {n} {lag} {lag'} {slack} {slack'} outcome place types names number t source mid exit registers z s f code there fitting p ready rest =
       let stored = ready.held number t f in
       let in_count : number < count = (named mid _ code).1 in
@@ -520,7 +520,7 @@ module _ (points : List Op) (worth : ℕ) (around : Around) (calls : Calls) (cou
       let next : Place → Eval Scalar = λ p. value around calls operand >>= λ a. write around place p a in
       enter (find around calls object >>= next) entry registers s (start (stand entry registers s) s.units) (omega arith) (λ left p.
       finds next object types names local entry registers (record s { units = left }) p ready (omega arith) (λ s' p' ready'.
-      behind (write around place (object_place (Own (local_number names local.number)) (Integer local.t))) (along p' (does types names entry to code.0 assigned.1 code.1 outside registers s' ready')) (omega arith) (λ z s'' registers'' p'' held.
+      behind (write around place (object_place (LocalObject (local_number names local.number)) (Integer local.t))) (along p' (does types names entry to code.0 assigned.1 code.1 outside registers s' ready')) (omega arith) (λ z s'' registers'' p'' held.
       stores (λ outcome. outcome) place types names local.number local.t to code.0 exit registers'' z s'' local.type store held.there (held.fitting local.t assigned.2) (slower 3 p'' (omega arith)) held.ready (λ s3 p3 ready3.
       let scoped : local.number < length types = slice_get_within types local.number local.t local.type in
       let apart : to ≢ local.number = omega arith in
@@ -560,7 +560,7 @@ module _ (points : List Op) (worth : ℕ) (around : Around) (calls : Calls) (cou
       let next : Place → Eval Scalar = λ p. value around calls operand >>= then_read p in
       enter (find around calls object >>= next) entry registers s (start (stand entry registers s) s.units) (omega arith) (λ left p.
       finds next object types names local entry registers (record s { units = left }) p ready (omega arith) (λ s' p' ready'.
-      let q : Place = object_place (Own (local_number names local.number)) (Integer local.t) in
+      let q : Place = object_place (LocalObject (local_number names local.number)) (Integer local.t) in
       behind (then_read q) (along p' (does types names entry (to + 1) code.0 two.0 code.4 (omega arith) registers s' ready')) (omega arith) (λ b s'' registers'' p'' held.
       reads (continue_with (then_last q (IntegerValue b))) place types names local.number local.t registers'' s'' local.type held.ready
       (λ a a_there a_fits.
@@ -655,7 +655,7 @@ module _ (points : List Op) (worth : ℕ) (around : Around) (calls : Calls) (cou
       let next : Place → Eval Scalar = λ p. read around place p >>= then_work p in
       enter (find around calls object >>= next) entry registers s (start (stand entry registers s) s.units) (omega arith) (λ left p.
       finds next object types names local entry registers (record s { units = left }) p ready (omega arith) (λ s' p' ready'.
-      let q : Place = object_place (Own (local_number names local.number)) (Integer local.t) in
+      let q : Place = object_place (LocalObject (local_number names local.number)) (Integer local.t) in
       reads (continue_with (then_work q)) place types names local.number local.t registers s' local.type ready'
       (λ a a_there a_fits.
       increments (continue_with (then_write q (IntegerValue a))) 4 place stepping t types names object local entry to code.0 registers a s' code.1 a_there outside ready' p' (omega arith)
@@ -691,7 +691,7 @@ module _ (points : List Op) (worth : ℕ) (around : Around) (calls : Calls) (cou
       let next : Place → Eval Scalar = λ p. read around place p >>= then_work p in
       enter (find around calls object >>= next) entry registers s (start (stand entry registers s) s.units) (omega arith) (λ left p.
       finds next object types names local entry registers (record s { units = left }) p ready (omega arith) (λ s' p' ready'.
-      let q : Place = object_place (Own (local_number names local.number)) (Integer local.t) in
+      let q : Place = object_place (LocalObject (local_number names local.number)) (Integer local.t) in
       reads (continue_with (then_work q)) place types names local.number local.t registers s' local.type ready'
       (λ a a_there a_fits.
       increments (continue_with (then_write q (IntegerValue a))) 4 place stepping t types names object local entry (to + 1) code.0 registers a s' code.2 a_there (omega arith) ready' p' (omega arith)
@@ -731,8 +731,8 @@ module _ (points : List Op) (worth : ℕ) (around : Around) (calls : Calls) (cou
   gets times place types names entry to exit inside code outside registers s ready =
       let call : List Scalar → Eval Scalar = λ given. library around L.GetChar place given in
       let rest : Eval Scalar = values around calls T.NoValues >>= call in
-      enter (entered_times times (entered rest)) entry registers s (start (stand entry registers s) s.units) (omega arith) (λ left p.
-      enters_times times 1 (entered rest) entry registers (record s { units = left }) p (omega arith) (λ left' p'.
+      enter (ticks times (tick rest)) entry registers s (start (stand entry registers s) s.units) (omega arith) (λ left p.
+      enters_times times 1 (tick rest) entry registers (record s { units = left }) p (omega arith) (λ left' p'.
       enter rest entry registers (record s { units = left' }) p' (omega arith) (λ left'' p''.
       subst (λ outcome. Does points worth (stand entry registers s) s.units (2 + times) 2 (Holds count types names to exit (fits types (T.LibraryCall L.GetChar times place T.NoValues)) registers) outcome) (sym (next_is (record s { units = left'' })))
       (put types names to exit (fits types (T.LibraryCall L.GetChar times place T.NoValues)) registers (IntegerValue (next_char s.input)) (next_char s.input) (record s { units = left''; input = after_next s.input }) (stand entry registers s) refl
@@ -750,8 +750,8 @@ module _ (points : List Op) (worth : ℕ) (around : Around) (calls : Calls) (cou
   puts times place operand does types names entry to exit inside code outside registers s ready =
       let call : List Scalar → Eval Scalar = λ given. library around L.PutChar place given in
       let rest : Eval Scalar = values around calls (T.MoreValues operand T.NoValues) >>= call in
-      enter (entered_times times (entered rest)) entry registers s (start (stand entry registers s) s.units) (omega arith) (λ left p.
-      enters_times times 1 (entered rest) entry registers (record s { units = left }) p (omega arith) (λ left' p'.
+      enter (ticks times (tick rest)) entry registers s (start (stand entry registers s) s.units) (omega arith) (λ left p.
+      enters_times times 1 (tick rest) entry registers (record s { units = left }) p (omega arith) (λ left' p'.
       enter rest entry registers (record s { units = left' }) p' (omega arith) (λ left'' p''.
       calls_with call operand (record s { units = left'' }) (along p'' (does types names entry to code.0 inside code.1 outside registers (record s { units = left'' }) ready)) (omega arith) (λ z s' registers' p3 held.
       put types names to exit (fits types (T.LibraryCall L.PutChar times place (T.MoreValues operand T.NoValues))) registers (IntegerValue (pos (byte_of z))) (pos (byte_of z)) (record s' { trace = s'.trace ++ Output (byte_of z) ∷ [] }) (stand code.0 registers' s') refl
@@ -761,8 +761,8 @@ module _ (points : List Op) (worth : ℕ) (around : Around) (calls : Calls) (cou
   exits times place operand does types names entry to exit inside code outside registers s ready =
       let call : List Scalar → Eval Scalar = λ given. library around L.Exit place given in
       let rest : Eval Scalar = values around calls (T.MoreValues operand T.NoValues) >>= call in
-      enter (entered_times times (entered rest)) entry registers s (start (stand entry registers s) s.units) (omega arith) (λ left p.
-      enters_times times 1 (entered rest) entry registers (record s { units = left }) p (omega arith) (λ left' p'.
+      enter (ticks times (tick rest)) entry registers s (start (stand entry registers s) s.units) (omega arith) (λ left p.
+      enters_times times 1 (tick rest) entry registers (record s { units = left }) p (omega arith) (λ left' p'.
       enter rest entry registers (record s { units = left' }) p' (omega arith) (λ left'' p''.
       calls_with call operand (record s { units = left'' }) (along p'' (does types names entry to code.0 inside code.1 outside registers (record s { units = left'' }) ready)) (omega arith) (λ z s' registers' p3 held.
       stops (Over (Ended (byte_of z)) s'.trace) s' (halts (stand code.0 registers' s') (byte_of z) (eased p3 (omega arith) (omega arith)) (rw (code.2, held.there) refl))))))

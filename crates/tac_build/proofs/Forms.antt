@@ -1,7 +1,7 @@
 -- The code of an expression, put together from that of its parts: what stood behind still stands when a part is put in front.
 use Rattle.std.proofs.Common.{◌≡◌, ℕ, ◌+◌, pos, List, true, false, Result, Ok, Err, IfOk, OnOk, ap, subst}
 use Rattle.std.specs.declared.alloc.AllocError.{AllocError}
-use Rattle.run_theory.specs.declared.ends.Pos.{Pos}
+use Rattle.text_place.specs.declared.place.Pos.{Pos}
 use Rattle.c_num.specs.declared.IntType.{IntType}
 use Rattle.c_num.specs.declared.IntType.TheVariants as I
 use Rattle.c_num.specs.declared.BinOp.{BinOp}
@@ -10,7 +10,7 @@ use Rattle.c_num.specs.Types.{common_of}
 use Rattle.c_typed.specs.declared.typed.Stepping.{Stepping}
 use Rattle.c_typed.specs.Typed as T
 use Rattle.c_typed.specs.Typed.{Value, Object}
-use Rattle.c_meaning.specs.Meaning.{step_operator}
+use Rattle.ref_semantics.specs.Meaning.{step_operator}
 use Rattle.tac_ir.specs.declared.Op.{Op}
 use Rattle.tac_ir.specs.declared.Op.TheVariants as O
 use Rattle.tac_ir.specs.declared.Register.{Register}

@@ -8,7 +8,6 @@ pub mod Switching
 pub mod Simulation
 pub mod Outside
 pub mod Declaring
-pub mod StatementRows
 pub mod Points
 pub mod Standing
 pub mod Forms

@@ -1,16 +1,16 @@
 -- Locals of integer types are found, read and written.
 use Rattle.std.proofs.Common.{◌≡◌, ℕ, ◌+◌, ◌*◌, true, false, true≢false, is_some, List, [], ◌∷◌, Option, Some, None, slice_get, refl, sym, ap, ◌∙◌, subst, arith, append-nil}
 use Rattle.std.proofs.lemmas.Bool.{and_parts}
-use Rattle.run_theory.specs.declared.ends.Pos.{Pos}
+use Rattle.text_place.specs.declared.place.Pos.{Pos}
 use Rattle.run_theory.specs.declared.ends.UbKind.TheVariants as Ub
 use Rattle.c_num.specs.declared.IntType.{IntType}
 use Rattle.c_typed.specs.Types.{Integer}
 use Rattle.c_typed.specs.Typed as T
 use Rattle.c_typed.specs.Typed.{Value, Object}
-use Rattle.c_meaning.specs.Values.{Own, Scalar, object_place}
-use Rattle.c_meaning.specs.Store.{Around, State, Then, Eval, size_of, with_content, with_scalar, happened, give, scalar_or, scalar_at, undefined, unless, premise, is_dead, store_content, holding, offset_of}
-use Rattle.c_meaning.specs.Pointers.{read, write, loaded}
-use Rattle.c_meaning.specs.Meaning.{local_name, local_place}
+use Rattle.ref_semantics.specs.Values.{LocalObject, Scalar, object_place}
+use Rattle.ref_semantics.specs.Store.{TypeEnvironment, State, Then, Eval, size_of, with_content, with_scalar, emit, give, scalar_or, scalar_at, undefined, unless, premise, is_dead, store_content, holding, offset_of}
+use Rattle.ref_semantics.specs.Pointers.{read, write, loaded}
+use Rattle.ref_semantics.specs.Meaning.{local_name, local_place}
 use Rattle.tac_build.specs.Inside.{contains, local_of, type_at, type_of_object, is_of_type, fits, is_inside}
 use Rattle.tac_build.proofs.Registers.{local_content}
 
@@ -18,34 +18,34 @@ no_offset : (size : ℕ) → 0 + 0 * size ≡ 0
 no_offset size = omega arith
 
 -- where no event happens, nothing does
-quiet : {A : Type 0} (rest : Eval A) (s : State) → happened [] rest s ≡ rest s
+quiet : {A : Type 0} (rest : Eval A) (s : State) → emit [] rest s ≡ rest s
 quiet rest s = ap (λ trace. rest (record s { trace = trace })) (append-nil s.trace)
 
-module _ (around : Around) (place : Pos) (number : ℕ) (t : IntType) (held : ℕ → Option Scalar) where
-  read_is : (s : State) → s.objects (Own number) ≡ local_content t held → read around place (object_place (Own number) (Integer t)) s ≡ loaded place (Own number) (scalar_or (held 0) false (Integer t)) s
+module _ (around : TypeEnvironment) (place : Pos) (number : ℕ) (t : IntType) (held : ℕ → Option Scalar) where
+  read_is : (s : State) → s.objects (LocalObject number) ≡ local_content t held → read around place (object_place (LocalObject number) (Integer t)) s ≡ loaded place (LocalObject number) (scalar_or (held 0) false (Integer t)) s
   read_is s is =
-      ap (λ content. unless place (premise (is_dead content) Ub.U06 ∷ []) (loaded place (Own number) (scalar_at around content (object_place (Own number) (Integer t)))) s) is
-      ∙ ap (λ offset. loaded place (Own number) (scalar_or (held offset) false (Integer t)) s) (no_offset (size_of around (Integer t)))
+      ap (λ content. unless place (premise (is_dead content) Ub.U06 ∷ []) (loaded place (LocalObject number) (scalar_at around content (object_place (LocalObject number) (Integer t)))) s) is
+      ∙ ap (λ offset. loaded place (LocalObject number) (scalar_or (held offset) false (Integer t)) s) (no_offset (size_of around (Integer t)))
 
   -- a local that holds a value gives it
-  pub read_some : (s : State) (value : Scalar) → s.objects (Own number) ≡ local_content t held → held 0 ≡ Some value → read around place (object_place (Own number) (Integer t)) s ≡ Then value s
-  read_some s value is e = read_is s is ∙ ap (λ found. loaded place (Own number) (scalar_or found false (Integer t)) s) e ∙ quiet (give value) s
+  pub read_some : (s : State) (value : Scalar) → s.objects (LocalObject number) ≡ local_content t held → held 0 ≡ Some value → read around place (object_place (LocalObject number) (Integer t)) s ≡ Then value s
+  read_some s value is e = read_is s is ∙ ap (λ found. loaded place (LocalObject number) (scalar_or found false (Integer t)) s) e ∙ quiet (give value) s
 
   -- one that holds none is not to be read
-  pub read_none : (s : State) → s.objects (Own number) ≡ local_content t held → held 0 ≡ None → read around place (object_place (Own number) (Integer t)) s ≡ undefined Ub.U04 place s
-  read_none s is e = read_is s is ∙ ap (λ found. loaded place (Own number) (scalar_or found false (Integer t)) s) e
+  pub read_none : (s : State) → s.objects (LocalObject number) ≡ local_content t held → held 0 ≡ None → read around place (object_place (LocalObject number) (Integer t)) s ≡ undefined Ub.U04 place s
+  read_none s is e = read_is s is ∙ ap (λ found. loaded place (LocalObject number) (scalar_or found false (Integer t)) s) e
 
   -- a local is written
-  pub write_is : (s : State) (value : Scalar) → s.objects (Own number) ≡ local_content t held →
-      write around place (object_place (Own number) (Integer t)) value s ≡ Then value (record s { objects = with_content (Own number) (local_content t (with_scalar 0 value held)) s.objects })
+  pub write_is : (s : State) (value : Scalar) → s.objects (LocalObject number) ≡ local_content t held →
+      write around place (object_place (LocalObject number) (Integer t)) value s ≡ Then value (record s { objects = with_content (LocalObject number) (local_content t (with_scalar 0 value held)) s.objects })
   write_is s value is =
-      ap (λ content. unless place (premise (is_dead content) Ub.U06 ∷ []) (store_content (Own number) (holding (offset_of around (object_place (Own number) (Integer t))) value content) (happened [] (give value))) s) is
-      ∙ ap (λ offset. store_content (Own number) (local_content t (with_scalar offset value held)) (happened [] (give value)) s) (no_offset (size_of around (Integer t)))
-      ∙ quiet (give value) (record s { objects = with_content (Own number) (local_content t (with_scalar 0 value held)) s.objects })
+      ap (λ content. unless place (premise (is_dead content) Ub.U06 ∷ []) (store_content (LocalObject number) (holding (offset_of around (object_place (LocalObject number) (Integer t))) value content) (emit [] (give value))) s) is
+      ∙ ap (λ offset. store_content (LocalObject number) (local_content t (with_scalar offset value held)) (emit [] (give value)) s) (no_offset (size_of around (Integer t)))
+      ∙ quiet (give value) (record s { objects = with_content (LocalObject number) (local_content t (with_scalar 0 value held)) s.objects })
 
 -- the object of a local, as it stands in the store
-pub found_is : (s : State) (number k : ℕ) (t : IntType) (held : ℕ → Option Scalar) → local_name s.locals k ≡ Some (Own number) → s.objects (Own number) ≡ local_content t held →
-    local_place k s ≡ Then (object_place (Own number) (Integer t)) s
+pub found_is : (s : State) (number k : ℕ) (t : IntType) (held : ℕ → Option Scalar) → local_name s.locals k ≡ Some (LocalObject number) → s.objects (LocalObject number) ≡ local_content t held →
+    local_place k s ≡ Then (object_place (LocalObject number) (Integer t)) s
 found_is s number k t held name is = rw (name, is) refl
 
 -- ---- objects that are locals

@@ -4,11 +4,11 @@
 use Rattle.std.proofs.Common.{◌≡◌, ℕ, zero, suc, ◌+◌, ◌*◌, ◌<◌, ◌≤◌, Bool, true, false, if◌then◌else◌, ℤ, List, [], ◌∷◌, length, slice_set, ap, sym, refl, subst, arith}
 use Rattle.std.proofs.lemmas.Bool.{lt-ltb}
 use Rattle.std.specs.List.{AllByRecursion}
-use Rattle.run_theory.specs.declared.ends.Pos.{Pos}
+use Rattle.text_place.specs.declared.place.Pos.{Pos}
 use Rattle.run_theory.specs.declared.ends.UbKind.{UbKind}
 use Rattle.run_theory.specs.Runs.{Trace, Answer, Going, Over, Undefined, Matches, wrong, going, IsGoing, To, steps, Leads, here}
 use Rattle.run_theory.proofs.Machines.{leads_steps, one_step, leads_compose}
-use Rattle.c_meaning.specs.Store.{State, Outcome, Then, Stopped, Eval, continue_with, undefined, spend}
+use Rattle.ref_semantics.specs.Store.{State, Outcome, Then, Stopped, Eval, continue_with, undefined, spend}
 use Rattle.tac_ir.specs.Meaning as T
 use Rattle.tac_ir.specs.declared.Op.{Op}
 use Rattle.tac_build.specs.Code.{HasOp}
@@ -151,7 +151,7 @@ module _ {points : List Op} {worth : ℕ} where
       ((left : ℕ) → Path points worth from (stand at registers s) n left (suc lag) (4 + slack) → Does points worth from n lag' slack' Stands (rest (record s { units = left }))) →
       Does points worth from n lag' slack' Stands (spend rest units s)
   enter {units = zero} rest at registers s p more next =
-      let none : Answers points worth (stand at registers s) 0 0 (Going s.trace) = record { took = 0; matches = going s.trace; allowed = omega arith; paid = λ g. omega arith } in
+      let none : Answers points worth (stand at registers s) 0 0 (Going s.trace) = record { took = 0; matches = going s.trace s.trace refl; allowed = omega arith; paid = λ g. omega arith } in
       stops (Going s.trace) s (answers_behind p.leads none (omega arith) (omega arith))
   enter {units = suc left} rest at registers s p more next = next left (spent p)
 

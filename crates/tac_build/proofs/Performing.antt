@@ -6,7 +6,7 @@
 use Rattle.std.proofs.Common.{◌≡◌, ℕ, zero, suc, ◌+◌, ◌*◌, ◌<◌, ◌≤◌, Bool, true, false, true≢false, not, ◌&&◌, if◌then◌else◌, ℤ, pos, List, [], ◌∷◌, ◌++◌, Option, Some, None, length, is_some, slice_get, slice_set, ap, sym, ◌∙◌, refl, subst, arith, append-nil, append_assoc, length-append}
 use Rattle.std.proofs.lemmas.Bool.{and_parts}
 use Rattle.std.specs.List.{AllByRecursion}
-use Rattle.run_theory.specs.declared.ends.Pos.{Pos}
+use Rattle.text_place.specs.declared.place.Pos.{Pos}
 use Rattle.run_theory.specs.Runs.{Ended, To, Halt}
 use Rattle.run_theory.proofs.Machines.{one_step, leads_compose}
 use Rattle.c_num.specs.declared.IntType.{IntType}
@@ -14,12 +14,12 @@ use Rattle.c_num.specs.Types.{is_value}
 use Rattle.c_typed.specs.Types.{CType, Integer}
 use Rattle.c_typed.specs.Typed as T
 use Rattle.c_typed.specs.Typed.{Value, Stmt, Block, SwitchItems, LocalDef, ForStart}
-use Rattle.c_rules.specs.Constants.{not_zero}
-use Rattle.c_meaning.specs.Values.{Own, Scalar, IntegerValue, object_place}
-use Rattle.c_meaning.specs.Store.{Around, State, Outcome, Then, Stopped, Eval, ◌>>=◌, continue_with, give}
-use Rattle.c_meaning.specs.Pointers.{write}
-use Rattle.c_meaning.specs.Meaning as R
-use Rattle.c_meaning.specs.Meaning.{Calls, is_true, value, Way, Onward, Broken, Continued, Returned, way_or, turns, loop, after_body, optional_value, holds, stored_first, declare, declare_all, leave, scoped, block_rest, do_condition, for_step, stmt, block}
+use Rattle.c_typed.specs.Values.{not_zero}
+use Rattle.ref_semantics.specs.Values.{LocalObject, Scalar, IntegerValue, object_place}
+use Rattle.ref_semantics.specs.Store.{TypeEnvironment, State, Outcome, Then, Stopped, Eval, ◌>>=◌, continue_with, give}
+use Rattle.ref_semantics.specs.Pointers.{write}
+use Rattle.ref_semantics.specs.Meaning as R
+use Rattle.ref_semantics.specs.Meaning.{Calls, is_true, value, Completion, Normal, Break, Continue, Return, way_or, turns, loop, after_body, optional_value, holds, stored_first, declare, declare_all, leave, scoped, block_rest, do_condition, for_step, stmt, block}
 use Rattle.tac_ir.specs.Meaning as M
 use Rattle.tac_ir.specs.Values.{byte_of, is_zero}
 use Rattle.tac_ir.specs.Fits.{NamesBelow}
@@ -95,27 +95,27 @@ GivesBack points (Some scalar) s state = Returns points scalar s state
 abbrev pub StaysAt : (List ℤ → State → Type 0) → ℕ → State → M.State → Type 0
 StaysAt Stays at s state = (registers : List ℤ) × (state ≡ stand at registers s) × Stays registers s
 
-abbrev pub Leaves : List Op → (List ℤ → State → Type 0) → Ways → Way → State → M.State → Type 0
-Leaves points Stays ways Onward s state = StaysAt Stays ways.onward s state
-Leaves points Stays ways Broken s state = StaysAt Stays ways.broken s state
-Leaves points Stays ways Continued s state = StaysAt Stays ways.continued s state
-Leaves points Stays ways (Returned given) s state = GivesBack points given s state
+abbrev pub Leaves : List Op → (List ℤ → State → Type 0) → Ways → Completion → State → M.State → Type 0
+Leaves points Stays ways Normal s state = StaysAt Stays ways.onward s state
+Leaves points Stays ways Break s state = StaysAt Stays ways.broken s state
+Leaves points Stays ways Continue s state = StaysAt Stays ways.continued s state
+Leaves points Stays ways (Return given) s state = GivesBack points given s state
 
 pub widened : (points : List Op) (Stays Stays' : List ℤ → State → Type 0) (ways : Ways) → ((registers : List ℤ) (s : State) → Stays registers s → Stays' registers s) →
-    (way : Way) (s : State) (state : M.State) → Leaves points Stays ways way s state → Leaves points Stays' ways way s state
-widened points Stays Stays' ways also Onward s state leaves = (leaves.0, leaves.1, also leaves.0 s leaves.2)
-widened points Stays Stays' ways also Broken s state leaves = (leaves.0, leaves.1, also leaves.0 s leaves.2)
-widened points Stays Stays' ways also Continued s state leaves = (leaves.0, leaves.1, also leaves.0 s leaves.2)
-widened points Stays Stays' ways also (Returned given) s state leaves = leaves
+    (way : Completion) (s : State) (state : M.State) → Leaves points Stays ways way s state → Leaves points Stays' ways way s state
+widened points Stays Stays' ways also Normal s state leaves = (leaves.0, leaves.1, also leaves.0 s leaves.2)
+widened points Stays Stays' ways also Break s state leaves = (leaves.0, leaves.1, also leaves.0 s leaves.2)
+widened points Stays Stays' ways also Continue s state leaves = (leaves.0, leaves.1, also leaves.0 s leaves.2)
+widened points Stays Stays' ways also (Return given) s state leaves = leaves
 
 -- a block's locals are given up at its end
-pub left : (points : List Op) (count : ℕ) (types : List IntType) (names : List ℕ) (outer : ℕ) (ways : Ways) (way : Way) (s : State) (state : M.State) → length names ≡ length types → outer ≡ length names →
+pub left : (points : List Op) (count : ℕ) (types : List IntType) (names : List ℕ) (outer : ℕ) (ways : Ways) (way : Completion) (s : State) (state : M.State) → length names ≡ length types → outer ≡ length names →
     Leaves points (Within count types names) ways way s state → Leaves points (Ready count types names) ways way (with_left outer s) state
-left points count types names outer ways Onward s state depth same leaves = (leaves.0, leaves.1, ready_leave s outer leaves.2 depth same)
-left points count types names outer ways Broken s state depth same leaves = (leaves.0, leaves.1, ready_leave s outer leaves.2 depth same)
-left points count types names outer ways Continued s state depth same leaves = (leaves.0, leaves.1, ready_leave s outer leaves.2 depth same)
-left points count types names outer ways (Returned None) s state depth same leaves = absurd leaves
-left points count types names outer ways (Returned (Some scalar)) s state depth same leaves = leaves
+left points count types names outer ways Normal s state depth same leaves = (leaves.0, leaves.1, ready_leave s outer leaves.2 depth same)
+left points count types names outer ways Break s state depth same leaves = (leaves.0, leaves.1, ready_leave s outer leaves.2 depth same)
+left points count types names outer ways Continue s state depth same leaves = (leaves.0, leaves.1, ready_leave s outer leaves.2 depth same)
+left points count types names outer ways (Return None) s state depth same leaves = absurd leaves
+left points count types names outer ways (Return (Some scalar)) s state depth same leaves = leaves
 
 -- ---- evaluations in turn
 
@@ -165,19 +165,19 @@ module _ {points : List Op} {worth : ℕ} where
   }
 
   -- what follows a statement
-  pub proceeds : {from at : M.State} {n lag lag' slack slack' : ℕ} (Stays Stays' : List ℤ → State → Type 0) (rest : Eval Way) (mid : ℕ) (ways : Ways) (way : Way) (s : State) →
+  pub proceeds : {from at : M.State} {n lag lag' slack slack' : ℕ} (Stays Stays' : List ℤ → State → Type 0) (rest : Eval Completion) (mid : ℕ) (ways : Ways) (way : Completion) (s : State) →
       Path points worth from at n s.units lag slack → Leaves points Stays (record ways { onward = mid }) way s at → ((registers : List ℤ) (s : State) → Stays registers s → Stays' registers s) → lag ≤ lag' → slack' ≤ slack →
       ((registers : List ℤ) → Path points worth from (stand mid registers s) n s.units lag slack → Stays registers s → Does points worth from n lag' slack' (Leaves points Stays' ways) (rest s)) →
       Does points worth from n lag' slack' (Leaves points Stays' ways) (block_rest way rest s)
-  proceeds {from = from} {n = n} {lag} {slack = slack} Stays Stays' rest mid ways Onward s p leaves also more less next =
+  proceeds {from = from} {n = n} {lag} {slack = slack} Stays Stays' rest mid ways Normal s p leaves also more less next =
       next leaves.0 (subst (λ at. Path points worth from at n s.units lag slack) leaves.1 p) leaves.2
-  proceeds Stays Stays' rest mid ways Broken s p leaves also more less next = comes Broken s _ (eased p more less) (leaves.0, leaves.1, also leaves.0 s leaves.2)
-  proceeds Stays Stays' rest mid ways Continued s p leaves also more less next = comes Continued s _ (eased p more less) (leaves.0, leaves.1, also leaves.0 s leaves.2)
-  proceeds Stays Stays' rest mid ways (Returned given) s p leaves also more less next = comes (Returned given) s _ (eased p more less) leaves
+  proceeds Stays Stays' rest mid ways Break s p leaves also more less next = comes Break s _ (eased p more less) (leaves.0, leaves.1, also leaves.0 s leaves.2)
+  proceeds Stays Stays' rest mid ways Continue s p leaves also more less next = comes Continue s _ (eased p more less) (leaves.0, leaves.1, also leaves.0 s leaves.2)
+  proceeds Stays Stays' rest mid ways (Return given) s p leaves also more less next = comes (Return given) s _ (eased p more less) leaves
 
 -- ---- declarations and conditions
 
-module _ (points : List Op) (worth : ℕ) (around : Around) (calls : Calls) (count : ℕ) (below : AllByRecursion (NamesBelow count (length points)) points) where
+module _ (points : List Op) (worth : ℕ) (around : TypeEnvironment) (calls : Calls) (count : ℕ) (below : AllByRecursion (NamesBelow count (length points)) points) where
   -- an expression behind a path
   pub evaluated : {from : M.State} {n lag slack : ℕ} (tree : Value) (types : List IntType) (names : List ℕ) (entry to exit : ℕ) →
       is_inside types tree ≡ true → ExprCode points types tree entry to exit → length types ≤ to →
@@ -237,23 +237,23 @@ module _ (points : List Op) (worth : ℕ) (around : Around) (calls : Calls) (cou
       (λ registers' s' p' e ready' fewer. false_way (stand code.0 registers' s') registers' s' (eased p' (omega arith) (omega arith)) e ready' fewer))
 
   -- the code is at a point, and locals were declared
-  abbrev pub Begun : List IntType → List ℕ → ℕ → Way → State → M.State → Type 0
+  abbrev pub Begun : List IntType → List ℕ → ℕ → Completion → State → M.State → Type 0
   Begun types names exit way s state = (registers : List ℤ) × (state ≡ stand exit registers s) × (fresh : List ℕ) × Ready count types (fresh ++ names) registers s
 
-  abbrev pub Declared : List IntType → List ℕ → ℕ → Way → State → M.State → Type 0
+  abbrev pub Declared : List IntType → List ℕ → ℕ → Completion → State → M.State → Type 0
   Declared types names exit way s state = (registers : List ℤ) × (state ≡ stand exit registers s) × Ready count types names registers s
 
   -- a first value is copied to the local's register
   copied : {from : M.State} {n lag slack : ℕ} (place : Pos) (types : List IntType) (names : List ℕ) (local : ℕ) (t : IntType) (source mid exit : ℕ) (registers : List ℤ) (z : ℤ) (s : State) →
       slice_get types local ≡ Some t → HasOp points mid (O.Copy (register source) (register local) (point exit)) → slice_get registers source ≡ Some z → is_value t z ≡ true →
       Path points worth from (stand mid registers s) n s.units lag (slack + 1) → Ready count types names registers s →
-      Does points worth from n lag slack (Declared types names exit) (continue_with (λ b. give Onward) (write around place (object_place (Own (local_number names local)) (Integer t)) (IntegerValue z) s))
+      Does points worth from n lag slack (Declared types names exit) (continue_with (λ b. give Normal) (write around place (object_place (LocalObject (local_number names local)) (Integer t)) (IntegerValue z) s))
   copied {from} {n} {lag} {slack} place types names local t source mid exit registers z s of_type code there fitting p ready =
       let stored = ready.held local t of_type in
       let in_count : local < count = (named points worth around calls count below mid _ code).1 in
       let moves : M.act points (stand mid registers s) ≡ To (stand exit (slice_set registers local z) s) = rw (code, there) (written local z exit s.input s.trace (stand mid registers s) (omega (arith, ready.all))) in
-      subst (λ outcome. Does points worth from n lag slack (Declared types names exit) (continue_with (λ b. give Onward) outcome)) (sym (write_is around place (local_number names local) t stored.held s (IntegerValue z) stored.is))
-      (comes Onward (with_value (local_number names local) t stored.held z s) (stand exit (slice_set registers local z) s) (stepped p moves (omega arith) (omega arith))
+      subst (λ outcome. Does points worth from n lag slack (Declared types names exit) (continue_with (λ b. give Normal) outcome)) (sym (write_is around place (local_number names local) t stored.held s (IntegerValue z) stored.is))
+      (comes Normal (with_value (local_number names local) t stored.held z s) (stand exit (slice_set registers local z) s) (stepped p moves (omega arith) (omega arith))
       (slice_set registers local z, refl, ready_store s ready local t stored.held z of_type in_count fitting))
 
   -- a local is declared
@@ -262,16 +262,16 @@ module _ (points : List Op) (worth : ℕ) (around : Around) (calls : Calls) (cou
       (registers : List ℤ) (s : State) → Ready count types names registers s →
       Does points worth (stand entry registers s) s.units (first_units first) 0 (Declared (types ++ int_type_of c_type ∷ []) (s.next_local ∷ names) exit) (declare around calls (record { c_type = c_type; first = first }) s)
   declared (Integer t) None types names entry exit inside code registers s ready =
-      comes Onward (with_new t s) (stand entry registers s) (start (stand entry registers s) s.units) (registers, ap (λ at. stand at registers s) code, ready_declare s ready t)
+      comes Normal (with_new t s) (stand entry registers s) (start (stand entry registers s) s.units) (registers, ap (λ at. stand at registers s) code, ready_declare s ready t)
   declared (Integer t) (Some v) types names entry exit inside code registers s ready =
       let parts = and_parts (is_inside (types ++ t ∷ []) v) (fits (types ++ t ∷ []) v t) inside in
-      let next : Option Scalar → Eval Way = λ a. stored_first around (object_place (Own s.next_local) (Integer t)) a in
+      let next : Option Scalar → Eval Completion = λ a. stored_first around (object_place (LocalObject s.next_local) (Integer t)) a in
       let same : local_number (s.next_local ∷ names) (length types) ≡ s.next_local = subst (λ i. local_number (s.next_local ∷ names) i ≡ s.next_local) ready.depth (newest_number s.next_local names) in
       subst (λ outcome. Does points worth (stand entry registers s) s.units (expr_units v) 0 (Declared (types ++ t ∷ []) (s.next_local ∷ names) exit) outcome) (sym (nested next (value around calls v (with_new t s))))
       (behind (λ a. next (Some a)) (evaluated v (types ++ t ∷ []) (s.next_local ∷ names) entry (length types + 1) code.0 parts.0 code.1 (omega (arith, length-append types (t ∷ []))) registers (with_new t s) (start (stand entry registers s) s.units) (ready_declare s ready t)) (omega arith)
       (λ z s' registers' p held.
       subst (λ number. Does points worth (stand entry registers s) s.units (expr_units v) 0 (Declared (types ++ t ∷ []) (s.next_local ∷ names) exit)
-      (continue_with (λ b. give Onward) (write around (record { line = 1; column = 1 }) (object_place (Own number) (Integer t)) (IntegerValue z) s'))) same
+      (continue_with (λ b. give Normal) (write around (record { line = 1; column = 1 }) (object_place (LocalObject number) (Integer t)) (IntegerValue z) s'))) same
       (copied {lag = expr_units v} {slack = 0} (record { line = 1; column = 1 }) (types ++ t ∷ []) (s.next_local ∷ names) (length types) t (length types + 1) code.0 exit registers' z s' (last_type types t) code.2 held.there (held.fitting t parts.1) (eased p (omega arith) (omega arith)) held.ready)))
   declared _ first types names entry exit inside code registers s ready = absurd (true≢false (sym inside))
 
@@ -280,7 +280,7 @@ module _ (points : List Op) (worth : ℕ) (around : Around) (calls : Calls) (cou
       (registers : List ℤ) (s : State) → Ready count types names registers s →
       Does points worth (stand entry registers s) s.units (locals_units locals) 0 (Begun (with_locals types locals) names exit) (declare_all around calls locals s)
   declares [] types names entry exit inside code registers s ready =
-      comes Onward s (stand entry registers s) (start (stand entry registers s) s.units) (registers, ap (λ at. stand at registers s) code, [], ready)
+      comes Normal s (stand entry registers s) (start (stand entry registers s) s.units) (registers, ap (λ at. stand at registers s) code, [], ready)
   declares (first ∷ others) types names entry exit inside code registers s ready =
       let parts = and_parts (is_local types first) (are_locals (with_local types first) others) inside in
       bind (λ way. declare_all around calls others) (declared first.c_type first.first types names entry code.0 parts.0 code.1 registers s ready) (omega arith) (λ way s' to p begun.
@@ -297,10 +297,10 @@ module _ (points : List Op) (worth : ℕ) (around : Around) (calls : Calls) (cou
       (registers : List ℤ) (s : State) → Ready count types names registers s →
       Does points worth (stand entry registers s) s.units (start_units begin) 0 (Begun (with_start types begin) names exit) (R.start around calls begin s)
   starts T.StartNothing types names entry exit inside code registers s ready =
-      comes Onward s (stand entry registers s) (start (stand entry registers s) s.units) (registers, ap (λ at. stand at registers s) code, [], ready)
+      comes Normal s (stand entry registers s) (start (stand entry registers s) s.units) (registers, ap (λ at. stand at registers s) code, [], ready)
   starts (T.StartValue v) types names entry exit inside code registers s ready =
-      behind (λ a. give Onward) (evaluated v types names entry (length types) exit inside code (omega arith) registers s (start (stand entry registers s) s.units) ready) (omega arith) (λ z s' registers' p held.
-      comes Onward s' (stand exit registers' s') (eased p (omega arith) (omega arith)) (registers', refl, [], held.ready))
+      behind (λ a. give Normal) (evaluated v types names entry (length types) exit inside code (omega arith) registers s (start (stand entry registers s) s.units) ready) (omega arith) (λ z s' registers' p held.
+      comes Normal s' (stand exit registers' s') (eased p (omega arith) (omega arith)) (registers', refl, [], held.ready))
   starts (T.StartLocals locals) types names entry exit inside code registers s ready = declares locals types names entry exit inside code registers s ready
 
   -- ---- the forms of statements
@@ -327,51 +327,51 @@ module _ (points : List Op) (worth : ℕ) (around : Around) (calls : Calls) (cou
 
   pub empties : Executes T.Empty
   empties types names entry ways inside code enough registers s ready =
-      enter (give Onward) entry registers s (start (stand entry registers s) s.units) (omega arith) (λ units p.
-      comes Onward (record s { units = units }) (stand entry registers s) (eased p (omega arith) (omega arith)) (registers, ap (λ at. stand at registers s) code, ready))
+      enter (give Normal) entry registers s (start (stand entry registers s) s.units) (omega arith) (λ units p.
+      comes Normal (record s { units = units }) (stand entry registers s) (eased p (omega arith) (omega arith)) (registers, ap (λ at. stand at registers s) code, ready))
 
   pub breaks : Executes T.Break
   breaks types names entry ways inside code enough registers s ready =
-      enter (give Broken) entry registers s (start (stand entry registers s) s.units) (omega arith) (λ units p.
-      comes Broken (record s { units = units }) (stand entry registers s) (eased p (omega arith) (omega arith)) (registers, ap (λ at. stand at registers s) code, ready))
+      enter (give Break) entry registers s (start (stand entry registers s) s.units) (omega arith) (λ units p.
+      comes Break (record s { units = units }) (stand entry registers s) (eased p (omega arith) (omega arith)) (registers, ap (λ at. stand at registers s) code, ready))
 
   pub continues : Executes T.Continue
   continues types names entry ways inside code enough registers s ready =
-      enter (give Continued) entry registers s (start (stand entry registers s) s.units) (omega arith) (λ units p.
-      comes Continued (record s { units = units }) (stand entry registers s) (eased p (omega arith) (omega arith)) (registers, ap (λ at. stand at registers s) code, ready))
+      enter (give Continue) entry registers s (start (stand entry registers s) s.units) (omega arith) (λ units p.
+      comes Continue (record s { units = units }) (stand entry registers s) (eased p (omega arith) (omega arith)) (registers, ap (λ at. stand at registers s) code, ready))
 
   pub expressions : (v : Value) → Executes (T.Expression v)
   expressions v types names entry ways inside code enough registers s ready =
-      let next : Scalar → Eval Way = λ a. give Onward in
+      let next : Scalar → Eval Completion = λ a. give Normal in
       enter (value around calls v >>= next) entry registers s (start (stand entry registers s) s.units) (omega arith) (λ units p.
       behind next (evaluated v types names entry (length types) ways.onward inside code (omega arith) registers (record s { units = units }) p ready) (omega arith) (λ z s' registers' p' held.
-      comes Onward s' (stand ways.onward registers' s') (eased p' (omega arith) (omega arith)) (registers', refl, held.ready)))
+      comes Normal s' (stand ways.onward registers' s') (eased p' (omega arith) (omega arith)) (registers', refl, held.ready)))
 
   pub returns : (v : Option Value) → Executes (T.Return v)
   returns None types names entry ways inside code enough registers s ready = absurd code
   returns (Some v) types names entry ways inside code enough registers s ready =
-      let next : Option Scalar → Eval Way = λ a. give (Returned a) in
+      let next : Option Scalar → Eval Completion = λ a. give (Return a) in
       enter (optional_value (value around calls) (Some v) >>= next) entry registers s (start (stand entry registers s) s.units) (omega arith) (λ units p.
       subst (λ outcome. Does points worth (stand entry registers s) s.units (1 + expr_units v) 2 (Leaves points (Ready count types names) ways) outcome) (sym (nested next (value around calls v (record s { units = units }))))
       (behind (λ a. next (Some a)) (evaluated v types names entry (length types) code.0 inside code.1 (omega arith) registers (record s { units = units }) p ready) (omega arith) (λ z s' registers' p' held.
-      comes (Returned (Some (IntegerValue z))) s' (stand code.0 registers' s') (eased p' (omega arith) (omega arith)) (z, refl, rw (code.2, held.there) refl, refl))))
+      comes (Return (Some (IntegerValue z))) s' (stand code.0 registers' s') (eased p' (omega arith) (omega arith)) (z, refl, rw (code.2, held.there) refl, refl))))
 
   pub ifs : (condition : Value) (taken : Stmt) → Executes taken → Executes (T.If condition taken)
   ifs condition taken does types names entry ways inside code enough registers s ready =
       let parts = and_parts (is_condition types condition) (is_stmt types taken) inside in
-      let next : Scalar → Eval Way = λ c. if is_true c then stmt around calls taken else give Onward in
+      let next : Scalar → Eval Completion = λ c. if is_true c then stmt around calls taken else give Normal in
       enter (value around calls condition >>= next) entry registers s (start (stand entry registers s) s.units) (omega arith) (λ units p.
-      conditions next (stmt around calls taken) (give Onward) (λ z e. rw e refl) (λ z e. rw e refl) condition types names entry code.0 code.1 ways.onward parts.0 code.2 code.3 registers (record s { units = units }) p ready (omega arith)
+      conditions next (stmt around calls taken) (give Normal) (λ z e. rw e refl) (λ z e. rw e refl) condition types names entry code.0 code.1 ways.onward parts.0 code.2 code.3 registers (record s { units = units }) p ready (omega arith)
       (λ registers' s' p' e ready' fewer.
       eases (along (onward p' e) (does types names code.1 ways parts.1 code.4 (omega arith) registers' s' ready')) (omega arith) (omega arith))
       (λ registers' s' p' e ready' fewer.
-      comes Onward s' (stand ways.onward registers' s') (stepped p' e (omega arith) (omega arith)) (registers', refl, ready')))
+      comes Normal s' (stand ways.onward registers' s') (stepped p' e (omega arith) (omega arith)) (registers', refl, ready')))
 
   pub if_elses : (condition : Value) (taken otherwise : Stmt) → Executes taken → Executes otherwise → Executes (T.IfElse condition taken otherwise)
   if_elses condition taken otherwise does does' types names entry ways inside code enough registers s ready =
       let parts = and_parts (is_condition types condition && is_stmt types taken) (is_stmt types otherwise) inside in
       let parts' = and_parts (is_condition types condition) (is_stmt types taken) parts.0 in
-      let next : Scalar → Eval Way = λ c. if is_true c then stmt around calls taken else stmt around calls otherwise in
+      let next : Scalar → Eval Completion = λ c. if is_true c then stmt around calls taken else stmt around calls otherwise in
       enter (value around calls condition >>= next) entry registers s (start (stand entry registers s) s.units) (omega arith) (λ units p.
       conditions next (stmt around calls taken) (stmt around calls otherwise) (λ z e. rw e refl) (λ z e. rw e refl) condition types names entry code.0 code.1 code.2 parts'.0 code.3 code.4 registers (record s { units = units }) p ready (omega arith)
       (λ registers' s' p' e ready' fewer.
@@ -383,7 +383,7 @@ module _ (points : List Op) (worth : ℕ) (around : Around) (calls : Calls) (cou
 
   pub closes : ExecutesBlock T.Close
   closes outer types more outer_names names fresh of_types of_names entry ways inside code enough registers s ready =
-      comes Onward s (stand entry registers s) (start (stand entry registers s) s.units) (
+      comes Normal s (stand entry registers s) (start (stand entry registers s) s.units) (
         registers,
         ap (λ at. stand at registers s) code,
         record {
@@ -418,28 +418,28 @@ module _ (points : List Op) (worth : ℕ) (around : Around) (calls : Calls) (cou
   -- ---- loops
 
   -- what the body of a loop leaves: it goes on at the next point, or the loop ends
-  abbrev AfterBody : (List ℤ → State → Type 0) → Ways → ℕ → Option Way → State → M.State → Type 0
+  abbrev AfterBody : (List ℤ → State → Type 0) → Ways → ℕ → Option Completion → State → M.State → Type 0
   AfterBody Stays ways next None s state = StaysAt Stays next s state
   AfterBody Stays ways next (Some way) s state = Leaves points Stays ways way s state
 
-  body_left : (Stays : List ℤ → State → Type 0) (ways : Ways) (next : ℕ) (way : Way) (s : State) (state : M.State) →
+  body_left : (Stays : List ℤ → State → Type 0) (ways : Ways) (next : ℕ) (way : Completion) (s : State) (state : M.State) →
       Leaves points Stays (record { onward = next; broken = ways.onward; continued = next }) way s state → AfterBody Stays ways next (after_body way) s state
-  body_left Stays ways next Onward s state leaves = leaves
-  body_left Stays ways next Broken s state leaves = leaves
-  body_left Stays ways next Continued s state leaves = leaves
-  body_left Stays ways next (Returned given) s state leaves = leaves
+  body_left Stays ways next Normal s state leaves = leaves
+  body_left Stays ways next Break s state leaves = leaves
+  body_left Stays ways next Continue s state leaves = leaves
+  body_left Stays ways next (Return given) s state leaves = leaves
 
   -- Behind a turn the code is at the head of the loop again, and fewer units are left, or the loop has ended.
-  abbrev Turned : M.State → ℕ → ℕ → (List ℤ → State → Type 0) → Ways → ℕ → ℕ → Option Way → State → M.State → Type 0
+  abbrev Turned : M.State → ℕ → ℕ → (List ℤ → State → Type 0) → Ways → ℕ → ℕ → Option Completion → State → M.State → Type 0
   Turned from n lag Stays ways head before None s state = Path points worth from state n s.units lag 3 × (s.units < before) × StaysAt Stays head s state
   Turned from n lag Stays ways head before (Some way) s state = Leaves points Stays ways way s state
 
-  abbrev Turning : (List ℤ → State → Type 0) → Ways → ℕ → ℕ → ℕ → Eval (Option Way) → Type 0
+  abbrev Turning : (List ℤ → State → Type 0) → Ways → ℕ → ℕ → ℕ → Eval (Option Completion) → Type 0
   Turning Stays ways head lag lag' one =
       (from : M.State) (n : ℕ) (registers : List ℤ) (s : State) → Path points worth from (stand head registers s) n s.units lag 3 → Stays registers s →
       Does points worth from n lag' 2 (Turned from n lag Stays ways head s.units) (one s)
 
-  turned : {from to : M.State} {n lag lag' : ℕ} (Stays : List ℤ → State → Type 0) (ways : Ways) (head before : ℕ) (rest : Eval Way) (way : Option Way) (s : State) →
+  turned : {from to : M.State} {n lag lag' : ℕ} (Stays : List ℤ → State → Type 0) (ways : Ways) (head before : ℕ) (rest : Eval Completion) (way : Option Completion) (s : State) →
       Path points worth from to n s.units lag' 2 → Turned from n lag Stays ways head before way s to →
       ((registers : List ℤ) → Path points worth from (stand head registers s) n s.units lag 3 → s.units < before → Stays registers s → Does points worth from n lag' 2 (Leaves points Stays ways) (rest s)) →
       Does points worth from n lag' 2 (Leaves points Stays ways) (way_or way rest s)
@@ -447,7 +447,7 @@ module _ (points : List Op) (worth : ℕ) (around : Around) (calls : Calls) (cou
       again stands.2.0 (subst (λ at. Path points worth from at n s.units lag 3) stands.2.1 stands.0) stands.1 stands.2.2
   turned Stays ways head before rest (Some way) s p stands again = comes way s _ p stands
 
-  loops : (Stays : List ℤ → State → Type 0) (ways : Ways) (head lag lag' : ℕ) (one : Eval (Option Way)) → Turning Stays ways head lag lag' one → (times : ℕ) →
+  loops : (Stays : List ℤ → State → Type 0) (ways : Ways) (head lag lag' : ℕ) (one : Eval (Option Completion)) → Turning Stays ways head lag lag' one → (times : ℕ) →
       (from : M.State) (n : ℕ) (registers : List ℤ) (s : State) → Path points worth from (stand head registers s) n s.units lag 3 → Stays registers s → s.units < times →
       Does points worth from n lag' 2 (Leaves points Stays ways) (turns one times s)
   loops Stays ways head lag lag' one turning zero from n registers s p stays fewer = absurd (omega arith)
@@ -457,7 +457,7 @@ module _ (points : List Op) (worth : ℕ) (around : Around) (calls : Calls) (cou
       loops Stays ways head lag lag' one turning times from n registers' s' p'' stays' (omega arith)))
 
   -- a turn whose end is at the head
-  turns_on : {from to : M.State} {n lag lag' : ℕ} (Stays : List ℤ → State → Type 0) (ways : Ways) (head before : ℕ) (way : Option Way) (s : State) →
+  turns_on : {from to : M.State} {n lag lag' : ℕ} (Stays : List ℤ → State → Type 0) (ways : Ways) (head before : ℕ) (way : Option Completion) (s : State) →
       Path points worth from to n s.units lag 3 → AfterBody Stays ways head way s to → s.units < before → lag ≤ lag' →
       Does points worth from n lag' 2 (Turned from n lag Stays ways head before) (Then way s)
   turns_on Stays ways head before None s p after fewer more = comes None s _ (eased p more (omega arith)) (p, fewer, after)
@@ -465,7 +465,7 @@ module _ (points : List Op) (worth : ℕ) (around : Around) (calls : Calls) (cou
 
   -- the step of a `for`
   for_steps : (step : Option Value) (types : List IntType) (names : List ℕ) (next head : ℕ) → is_optional types step ≡ true → OptionalCode points types step next head →
-      (from to : M.State) (n before lag lag' : ℕ) (ways : Ways) (way : Option Way) (s : State) → Path points worth from to n s.units 0 4 → s.units < before → first_units step ≤ lag → lag ≤ lag' →
+      (from to : M.State) (n before lag lag' : ℕ) (ways : Ways) (way : Option Completion) (s : State) → Path points worth from to n s.units 0 4 → s.units < before → first_units step ≤ lag → lag ≤ lag' →
       AfterBody (Ready count types names) ways next way s to →
       Does points worth from n lag' 2 (Turned from n lag (Ready count types names) ways head before) (for_step way (optional_value (value around calls) step) s)
   for_steps step types names next head inside code from to n before lag lag' ways (Some way) s p fewer enough more after = turns_on (Ready count types names) ways head before (Some way) s (eased {lag' = lag} p (omega arith) (omega arith)) after fewer more
@@ -485,24 +485,24 @@ module _ (points : List Op) (worth : ℕ) (around : Around) (calls : Calls) (cou
       parts : (is_condition types condition ≡ true) × (is_stmt types body ≡ true)
       parts = and_parts (is_condition types condition) (is_stmt types body) inside
 
-      first : Eval (Option Way)
+      first : Eval (Option Completion)
       first = stmt around calls body >>= λ way. give (after_body way)
 
-      next : Scalar → Eval (Option Way)
-      next c = if is_true c then first else give (Some Onward)
+      next : Scalar → Eval (Option Completion)
+      next c = if is_true c then first else give (Some Normal)
 
-      one : Eval (Option Way)
+      one : Eval (Option Completion)
       one = value around calls condition >>= next
 
       turning : Turning (Ready count types names) ways entry 1 (1 + expr_units condition + stmt_units body) one
       turning from n registers s p ready =
-          conditions next first (give (Some Onward)) (λ z e. rw e refl) (λ z e. rw e refl) condition types names entry code.1.0 code.0 ways.onward parts.0 code.1.1 code.1.2 registers s p ready (omega arith)
+          conditions next first (give (Some Normal)) (λ z e. rw e refl) (λ z e. rw e refl) condition types names entry code.1.0 code.0 ways.onward parts.0 code.1.1 code.1.2 registers s p ready (omega arith)
           (λ registers' s' p' e ready' fewer.
           bind (λ way. give (after_body way)) (turn {slack'' = 4} p' e (counted (does types names code.0 (record { onward = entry; broken = ways.onward; continued = entry }) parts.1 code.2 (omega arith) registers' s' ready')) (omega arith) (omega arith) (omega arith)) (omega arith)
           (λ way s'' at p'' stands.
           turns_on (Ready count types names) ways entry s.units (after_body way) s'' (eased p'' (omega arith) (omega arith)) (body_left (Ready count types names) ways entry way s'' at stands.0) (omega (arith, stands.1)) (omega arith)))
           (λ registers' s' p' e ready' fewer.
-          comes (Some Onward) s' (stand ways.onward registers' s') (stepped p' e (omega arith) (omega arith)) (registers', refl, ready'))
+          comes (Some Normal) s' (stand ways.onward registers' s') (stepped p' e (omega arith) (omega arith)) (registers', refl, ready'))
 
   pub do_whiles : (body : Stmt) (condition : Value) → Executes body → Executes (T.DoWhile body condition)
   do_whiles body condition does types names entry ways inside code enough registers s ready =
@@ -512,21 +512,21 @@ module _ (points : List Op) (worth : ℕ) (around : Around) (calls : Calls) (cou
       parts : (is_stmt types body ≡ true) × (is_condition types condition ≡ true)
       parts = and_parts (is_stmt types body) (is_condition types condition) inside
 
-      next : Scalar → Eval (Option Way)
-      next c = give (if is_true c then None else Some Onward)
+      next : Scalar → Eval (Option Completion)
+      next c = give (if is_true c then None else Some Normal)
 
-      one : Eval (Option Way)
+      one : Eval (Option Completion)
       one = stmt around calls body >>= λ way. do_condition (after_body way) (value around calls condition)
 
-      checks : (from to : M.State) (n before : ℕ) (way : Option Way) (s : State) → Path points worth from to n s.units (1 + stmt_units body) 5 → s.units < before → AfterBody (Ready count types names) ways code.0 way s to →
+      checks : (from to : M.State) (n before : ℕ) (way : Option Completion) (s : State) → Path points worth from to n s.units (1 + stmt_units body) 5 → s.units < before → AfterBody (Ready count types names) ways code.0 way s to →
           Does points worth from n (1 + stmt_units body + expr_units condition) 2 (Turned from n 1 (Ready count types names) ways entry before) (do_condition way (value around calls condition) s)
       checks from to n before None s p fewer after =
-          conditions next (give None) (give (Some Onward)) (λ z e. rw e refl) (λ z e. rw e refl) condition types names code.0 code.2.0 entry ways.onward parts.1 code.2.1 code.2.2 after.0 s
+          conditions next (give None) (give (Some Normal)) (λ z e. rw e refl) (λ z e. rw e refl) condition types names code.0 code.2.0 entry ways.onward parts.1 code.2.1 code.2.2 after.0 s
           (subst (λ at. Path points worth from at n s.units (1 + stmt_units body) 5) after.1 p) after.2 (omega arith)
           (λ registers' s' p' e ready' fewer'.
           turns_on (Ready count types names) ways entry before None s' (eased {lag' = 1} (paid_by {slack' = 5} p' e (omega arith) (omega arith)) (omega arith) (omega arith)) (registers', refl, ready') (omega arith) (omega arith))
           (λ registers' s' p' e ready' fewer'.
-          comes (Some Onward) s' (stand ways.onward registers' s') (stepped p' e (omega arith) (omega arith)) (registers', refl, ready'))
+          comes (Some Normal) s' (stand ways.onward registers' s') (stepped p' e (omega arith) (omega arith)) (registers', refl, ready'))
       checks from to n before (Some way) s p fewer after = comes (Some way) s to (eased p (omega arith) (omega arith)) after
 
       turning : Turning (Ready count types names) ways entry 1 (1 + stmt_units body + expr_units condition) one
@@ -569,21 +569,21 @@ module _ (points : List Op) (worth : ℕ) (around : Around) (calls : Calls) (cou
       parts'' : (is_start types begin ≡ true) × (is_optional_condition known condition ≡ true)
       parts'' = and_parts (is_start types begin) (is_optional_condition known condition) parts'.0
 
-      first : Eval (Option Way)
+      first : Eval (Option Completion)
       first = stmt around calls body >>= λ way. for_step (after_body way) (optional_value (value around calls) step)
 
-      next : Option Scalar → Eval (Option Way)
-      next c = if holds c then first else give (Some Onward)
+      next : Option Scalar → Eval (Option Completion)
+      next c = if holds c then first else give (Some Normal)
 
-      one : Eval (Option Way)
+      one : Eval (Option Completion)
       one = optional_value (value around calls) condition >>= next
 
       turning : (own : List ℕ) → Turning (Ready count known own) ways code.0 lag units_in_all one
       turning own from n registers s p ready =
-          tests next first (give (Some Onward)) (λ c e. rw e refl) (λ c e. rw e refl) condition known own code.0 code.1 ways.onward parts''.1 code.4 registers s p ready (omega arith)
+          tests next first (give (Some Normal)) (λ c e. rw e refl) (λ c e. rw e refl) condition known own code.0 code.1 ways.onward parts''.1 code.4 registers s p ready (omega arith)
           (λ mid registers' s' p' e ready' fewer.
           bind (λ way. for_step (after_body way) (optional_value (value around calls) step)) (turn {slack'' = 4} p' e (counted (does known own code.1 (record { onward = code.2; broken = ways.onward; continued = code.2 }) parts.1 code.5 (omega arith) registers' s' ready')) (omega arith) (omega arith) (omega arith)) (omega arith)
           (λ way s'' at p'' stands.
           for_steps step known own code.2 code.0 parts'.1 code.6 from at n s.units lag units_in_all ways (after_body way) s'' p'' (omega (arith, stands.1)) (omega arith) (omega arith) (body_left (Ready count known own) ways code.2 way s'' at stands.0)))
           (λ mid registers' s' p' e ready' fewer.
-          comes (Some Onward) s' (stand ways.onward registers' s') (stepped p' e (omega arith) (omega arith)) (registers', refl, ready'))
+          comes (Some Normal) s' (stand ways.onward registers' s') (stepped p' e (omega arith) (omega arith)) (registers', refl, ready'))

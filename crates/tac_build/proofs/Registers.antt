@@ -5,9 +5,9 @@ use Rattle.std.proofs.lemmas.Bool.{cases_order, eqb-false}
 use Rattle.c_num.specs.declared.IntType.{IntType}
 use Rattle.c_num.specs.Types.{is_value}
 use Rattle.c_typed.specs.Types.{Integer}
-use Rattle.c_meaning.specs.Values.{Own, Scalar, IntegerValue, Content, Dead, Elements}
-use Rattle.c_meaning.specs.Store.{Objects, State, with_content, with_scalar}
-use Rattle.c_meaning.specs.Meaning.{local_name, killed, kept}
+use Rattle.ref_semantics.specs.Values.{LocalObject, Scalar, IntegerValue, Content, Dead, Elements}
+use Rattle.ref_semantics.specs.Store.{Objects, State, with_content, with_scalar}
+use Rattle.ref_semantics.specs.Meaning.{local_name, killed, kept}
 
 -- ---- lists that are written
 
@@ -51,11 +51,11 @@ abbrev pub local_number : List ℕ → ℕ → ℕ
 local_number [] k = 0
 local_number (newest ∷ others) k = if length others == k then newest else local_number others k
 
-pub local_named : (names : List ℕ) (k : ℕ) → k < length names → local_name names k ≡ Some (Own (local_number names k))
+pub local_named : (names : List ℕ) (k : ℕ) → k < length names → local_name names k ≡ Some (LocalObject (local_number names k))
 local_named [] k within = absurd (omega arith)
 local_named (newest ∷ others) k within = by (length others == k) refl (local_named others k)
   where
-    by : (test : Bool) → (length others == k) ≡ test → (k < length others → local_name others k ≡ Some (Own (local_number others k))) → (if test then Some (Own newest) else local_name others k) ≡ Some (Own (if test then newest else local_number others k))
+    by : (test : Bool) → (length others == k) ≡ test → (k < length others → local_name others k ≡ Some (LocalObject (local_number others k))) → (if test then Some (LocalObject newest) else local_name others k) ≡ Some (LocalObject (if test then newest else local_number others k))
     by true e older = refl
     by false e older = let other = eqb-false (length others) k e in older (omega arith)
 
@@ -97,10 +97,10 @@ numbers_apart bound names i k fresh i_within k_within other =
 
 -- ---- objects
 
-pub content_there : (number : ℕ) (content : Content) (objects : Objects) → with_content (Own number) content objects (Own number) ≡ content
+pub content_there : (number : ℕ) (content : Content) (objects : Objects) → with_content (LocalObject number) content objects (LocalObject number) ≡ content
 content_there number content objects = rw (eq-eqb number number refl) refl
 
-pub content_elsewhere : (number other : ℕ) (content : Content) (objects : Objects) → number ≢ other → with_content (Own number) content objects (Own other) ≡ objects (Own other)
+pub content_elsewhere : (number other : ℕ) (content : Content) (objects : Objects) → number ≢ other → with_content (LocalObject number) content objects (LocalObject other) ≡ objects (LocalObject other)
 content_elsewhere number other content objects apart = rw (ne_eqb number other apart) refl
 
 -- a local of an integer type
@@ -127,7 +127,7 @@ pub record Standing (count : ℕ) (types : List IntType) (names : List ℕ) (reg
   pub own : locals ≡ names
   pub depth : length names ≡ length types
   pub fresh : Fresh next names
-  pub held : (k : ℕ) (t : IntType) → slice_get types k ≡ Some t → Stored t (slice_get registers k) (objects (Own (local_number names k)))
+  pub held : (k : ℕ) (t : IntType) → slice_get types k ≡ Some t → Stored t (slice_get registers k) (objects (LocalObject (local_number names k)))
 
 abbrev pub Ready : ℕ → List IntType → List ℕ → List ℤ → State → Type 0
 Ready count types names registers s = Standing count types names registers s.objects s.locals s.next_local
@@ -144,12 +144,12 @@ pub record Within (count : ℕ) (types : List IntType) (names : List ℕ) (regis
 
 -- the state once a local holds a value
 abbrev pub with_value : ℕ → IntType → (ℕ → Option Scalar) → ℤ → State → State
-with_value number t held v s = record s { objects = with_content (Own number) (local_content t (with_scalar 0 (IntegerValue v) held)) s.objects }
+with_value number t held v s = record s { objects = with_content (LocalObject number) (local_content t (with_scalar 0 (IntegerValue v) held)) s.objects }
 
 -- the state once a local was declared
 abbrev pub with_new : IntType → State → State
 with_new t s = record s {
-  objects = with_content (Own s.next_local) (local_content t (λ offset. None)) s.objects;
+  objects = with_content (LocalObject s.next_local) (local_content t (λ offset. None)) s.objects;
   locals = s.next_local ∷ s.locals;
   next_local = suc s.next_local;
 }
@@ -164,14 +164,14 @@ kept_outer [] (newest ∷ others) = rw (lt-ltb (length others) (length (newest �
 kept_outer (newest ∷ fresh) names = rw (le-ltb (length (fresh ++ names)) (length names) (omega (arith, length-append fresh names))) (kept_outer fresh names)
 
 killed_outer : (bound : ℕ) (fresh names : List ℕ) (k : ℕ) → Fresh bound (fresh ++ names) → k < length names → (objects : Objects) →
-    killed (length names) (fresh ++ names) objects (Own (local_number names k)) ≡ objects (Own (local_number names k))
+    killed (length names) (fresh ++ names) objects (LocalObject (local_number names k)) ≡ objects (LocalObject (local_number names k))
 killed_outer bound [] [] k below within objects = refl
 killed_outer bound [] (newest ∷ others) k below within objects = rw (lt-ltb (length others) (length (newest ∷ others)) (omega arith)) refl
 killed_outer bound (newest ∷ fresh) names k below within objects =
     let less : local_number (fresh ++ names) k < newest = number_below newest (fresh ++ names) k below.1 (omega (arith, length-append fresh names)) in
     let same : local_number (fresh ++ names) k ≡ local_number names k = outer_number fresh names k within in
     rw (le-ltb (length (fresh ++ names)) (length names) (omega (arith, length-append fresh names)))
-    (killed_outer newest fresh names k below.1 within (with_content (Own newest) Dead objects) ∙ content_elsewhere newest (local_number names k) Dead objects (λ e. omega arith))
+    (killed_outer newest fresh names k below.1 within (with_content (LocalObject newest) Dead objects) ∙ content_elsewhere newest (local_number names k) Dead objects (λ e. omega arith))
 
 module _ {count : ℕ} {types : List IntType} {names : List ℕ} {registers : List ℤ} (s : State) (ready : Ready count types names registers s) where
   -- a register behind those of the locals is written
@@ -184,7 +184,7 @@ module _ {count : ℕ} {types : List IntType} {names : List ℕ} {registers : Li
     held = λ k t e.
         let within : k < length types = slice_get_within types k t e in
         let other : k ≢ to = omega arith in
-        subst (λ register. Stored t register (s.objects (Own (local_number names k)))) (sym (slice_get-set_other registers to k value other)) (ready.held k t e);
+        subst (λ register. Stored t register (s.objects (LocalObject (local_number names k)))) (sym (slice_get-set_other registers to k value other)) (ready.held k t e);
   }
 
   -- a local gets a value
@@ -199,21 +199,21 @@ module _ {count : ℕ} {types : List IntType} {names : List ℕ} {registers : Li
   }
     where
       by : (k : ℕ) (u : IntType) → slice_get types k ≡ Some u → (test : Bool) → (k == local) ≡ test →
-          Stored u (slice_get (slice_set registers local value) k) (with_content (Own (local_number names local)) (local_content t (with_scalar 0 (IntegerValue value) held)) s.objects (Own (local_number names k)))
+          Stored u (slice_get (slice_set registers local value) k) (with_content (LocalObject (local_number names local)) (local_content t (with_scalar 0 (IntegerValue value) held)) s.objects (LocalObject (local_number names k)))
       by k u e true test =
           let same : k ≡ local = eqb-true k local test in
           let type : t ≡ u = cc in
           let register : slice_get (slice_set registers local value) k ≡ Some value = subst (λ i. slice_get (slice_set registers local value) i ≡ Some value) (sym same) (slice_get-set registers local value (omega (arith, ready.all))) in
-          let object : with_content (Own (local_number names local)) (local_content t (with_scalar 0 (IntegerValue value) held)) s.objects (Own (local_number names k)) ≡ local_content t (with_scalar 0 (IntegerValue value) held) =
-          subst (λ i. with_content (Own (local_number names local)) (local_content t (with_scalar 0 (IntegerValue value) held)) s.objects (Own (local_number names i)) ≡ local_content t (with_scalar 0 (IntegerValue value) held)) (sym same) (content_there (local_number names local) (local_content t (with_scalar 0 (IntegerValue value) held)) s.objects) in
-          subst (λ w. Stored w (slice_get (slice_set registers local value) k) (with_content (Own (local_number names local)) (local_content t (with_scalar 0 (IntegerValue value) held)) s.objects (Own (local_number names k)))) type (record { held = with_scalar 0 (IntegerValue value) held; is = object; value = (value, refl, register, fits) })
+          let object : with_content (LocalObject (local_number names local)) (local_content t (with_scalar 0 (IntegerValue value) held)) s.objects (LocalObject (local_number names k)) ≡ local_content t (with_scalar 0 (IntegerValue value) held) =
+          subst (λ i. with_content (LocalObject (local_number names local)) (local_content t (with_scalar 0 (IntegerValue value) held)) s.objects (LocalObject (local_number names i)) ≡ local_content t (with_scalar 0 (IntegerValue value) held)) (sym same) (content_there (local_number names local) (local_content t (with_scalar 0 (IntegerValue value) held)) s.objects) in
+          subst (λ w. Stored w (slice_get (slice_set registers local value) k) (with_content (LocalObject (local_number names local)) (local_content t (with_scalar 0 (IntegerValue value) held)) s.objects (LocalObject (local_number names k)))) type (record { held = with_scalar 0 (IntegerValue value) held; is = object; value = (value, refl, register, fits) })
       by k u e false test =
           let other : k ≢ local = eqb-false k local test in
           let within : k < length types = slice_get_within types k u e in
           let here : local < length types = slice_get_within types local t of_type in
           let apart : local_number names local ≢ local_number names k = numbers_apart s.next_local names local k ready.fresh (omega (arith, ready.depth)) (omega (arith, ready.depth)) (λ same. other (sym same)) in
           subst (λ c. Stored u (slice_get (slice_set registers local value) k) c) (sym (content_elsewhere (local_number names local) (local_number names k) (local_content t (with_scalar 0 (IntegerValue value) held)) s.objects apart))
-          (subst (λ register. Stored u register (s.objects (Own (local_number names k)))) (sym (slice_get-set_other registers local k value other)) (ready.held k u e))
+          (subst (λ register. Stored u register (s.objects (LocalObject (local_number names k)))) (sym (slice_get-set_other registers local k value other)) (ready.held k u e))
 
   -- a new local, with no value
   pub ready_declare : (t : IntType) → Ready count (types ++ t ∷ []) (s.next_local ∷ names) registers (with_new t s)
@@ -226,21 +226,21 @@ module _ {count : ℕ} {types : List IntType} {names : List ℕ} {registers : Li
   }
     where
       old : (k : ℕ) (u : IntType) → slice_get types k ≡ Some u →
-          Stored u (slice_get registers k) (with_content (Own s.next_local) (local_content t (λ offset. None)) s.objects (Own (local_number (s.next_local ∷ names) k)))
+          Stored u (slice_get registers k) (with_content (LocalObject s.next_local) (local_content t (λ offset. None)) s.objects (LocalObject (local_number (s.next_local ∷ names) k)))
       old k u e =
           let within : k < length names = omega (arith, slice_get_within types k u e, ready.depth) in
           let below : local_number names k < s.next_local = number_below s.next_local names k ready.fresh within in
           let same : local_number (s.next_local ∷ names) k ≡ local_number names k = older_number s.next_local names k within in
-          subst (λ number. Stored u (slice_get registers k) (with_content (Own s.next_local) (local_content t (λ offset. None)) s.objects (Own number))) (sym same)
+          subst (λ number. Stored u (slice_get registers k) (with_content (LocalObject s.next_local) (local_content t (λ offset. None)) s.objects (LocalObject number))) (sym same)
           (subst (λ c. Stored u (slice_get registers k) c) (sym (content_elsewhere s.next_local (local_number names k) (local_content t (λ offset. None)) s.objects (λ e. omega arith))) (ready.held k u e))
 
       new : (k : ℕ) (u : IntType) → k ≡ length types → t ≡ u →
-          Stored u (slice_get registers k) (with_content (Own s.next_local) (local_content t (λ offset. None)) s.objects (Own (local_number (s.next_local ∷ names) k)))
+          Stored u (slice_get registers k) (with_content (LocalObject s.next_local) (local_content t (λ offset. None)) s.objects (LocalObject (local_number (s.next_local ∷ names) k)))
       new k u last type =
           let same : local_number (s.next_local ∷ names) k ≡ s.next_local =
           subst (λ i. local_number (s.next_local ∷ names) i ≡ s.next_local) (ready.depth ∙ sym last) (newest_number s.next_local names) in
-          let object : with_content (Own s.next_local) (local_content t (λ offset. None)) s.objects (Own (local_number (s.next_local ∷ names) k)) ≡ local_content u (λ offset. None) =
-          ap (λ number. with_content (Own s.next_local) (local_content t (λ offset. None)) s.objects (Own number)) same ∙ content_there s.next_local (local_content t (λ offset. None)) s.objects ∙ ap (λ w. local_content w (λ offset. None)) type in
+          let object : with_content (LocalObject s.next_local) (local_content t (λ offset. None)) s.objects (LocalObject (local_number (s.next_local ∷ names) k)) ≡ local_content u (λ offset. None) =
+          ap (λ number. with_content (LocalObject s.next_local) (local_content t (λ offset. None)) s.objects (LocalObject number)) same ∙ content_there s.next_local (local_content t (λ offset. None)) s.objects ∙ ap (λ w. local_content w (λ offset. None)) type in
           record { held = λ offset. None; is = object; value = tt }
 
 -- the locals of a block are given up
@@ -255,11 +255,11 @@ ready_leave {count} {types} {names} {registers} s outer within depth same =
       held = λ k t e.
           let here : k < length names = omega (arith, slice_get_within types k t e) in
           let number : local_number (within.fresh ++ names) k ≡ local_number names k = outer_number within.fresh names k here in
-          let object : killed (length names) s.locals s.objects (Own (local_number names k)) ≡ s.objects (Own (local_number names k)) =
-          subst (λ locals. killed (length names) locals s.objects (Own (local_number names k)) ≡ s.objects (Own (local_number names k))) (sym within.ready.own)
+          let object : killed (length names) s.locals s.objects (LocalObject (local_number names k)) ≡ s.objects (LocalObject (local_number names k)) =
+          subst (λ locals. killed (length names) locals s.objects (LocalObject (local_number names k)) ≡ s.objects (LocalObject (local_number names k))) (sym within.ready.own)
           (killed_outer s.next_local within.fresh names k within.ready.fresh here s.objects) in
           subst (λ c. Stored t (slice_get registers k) c) (sym object)
-          (subst (λ i. Stored t (slice_get registers k) (s.objects (Own i))) number (within.ready.held k t (read_front types within.more k t e)));
+          (subst (λ i. Stored t (slice_get registers k) (s.objects (LocalObject i))) number (within.ready.held k t (read_front types within.more k t e)));
     })
   where
     wider : (names : List ℕ) (bound bound' : ℕ) → bound ≤ bound' → Fresh bound names → Fresh bound' names

@@ -4,19 +4,19 @@ use Rattle.std.proofs.lemmas.List.{length-replicate}
 use Rattle.std.proofs.lemmas.Bool.{and_parts}
 use Rattle.std.proofs.lemmas.Slice.Eq.{bytes_eq-Decides}
 use Rattle.std.specs.List.{AllByRecursion}
-use Rattle.run_theory.specs.declared.ends.Pos.{Pos}
+use Rattle.text_place.specs.declared.place.Pos.{Pos}
 use Rattle.run_theory.specs.declared.ends.UbKind.TheVariants as Ub
 use Rattle.run_theory.specs.Runs
-use Rattle.run_theory.specs.Runs.{Trace, Called, Answer, Over, Ended, Undefined, Matches, wrong, ended, To, Halt, steps, Simulates}
+use Rattle.run_theory.specs.Runs.{Trace, Called, Answer, Over, Ended, Undefined, Matches, wrong, ended, To, Halt, steps, all_events, Simulates}
 use Rattle.run_theory.proofs.Machines.{step_halts, leads_steps}
 use Rattle.run_theory.proofs.Simulations.{simulates_from}
 use Rattle.c_typed.specs.Types.{CType, same_type}
 use Rattle.c_typed.specs.Typed as T
 use Rattle.c_typed.specs.Typed.{Value, Stmt, Block, SwitchItems, GlobalDef, FunctionDef, Program}
-use Rattle.c_meaning.specs.Values.{Scalar, IntegerValue, FunctionValue}
-use Rattle.c_meaning.specs.Store.{Around, State, Outcome, Then, Stopped, Eval, ◌>>=◌, continue_with, give, happened, entered, premise, unless, spend}
-use Rattle.c_meaning.specs.Meaning.{Calls, Way, Onward, Broken, Continued, Returned, block, killed, bind, given_back, main_value, within_own, run_function, used_value, call_known, call_named, bodies_within, greatest_depth}
-use Rattle.c_meaning.specs.First.{around_of, first_objects, first_state, status_of, main_type, run_main, reference}
+use Rattle.ref_semantics.specs.Values.{Scalar, IntegerValue, FunctionValue}
+use Rattle.ref_semantics.specs.Store.{TypeEnvironment, State, Outcome, Then, Stopped, Eval, ◌>>=◌, continue_with, give, emit, tick, premise, unless, spend}
+use Rattle.ref_semantics.specs.Meaning.{Calls, Completion, Normal, Break, Continue, Return, block, killed, bind, given_back, main_value, within_own, run_function, used_value, call_known, call_named, bodies_within, greatest_depth}
+use Rattle.ref_semantics.specs.First.{around_of, first_objects, first_state, status_of, main_type, run_main, reference}
 use Rattle.tac_ir.specs.Meaning as M
 use Rattle.tac_ir.specs.Values.{byte_of}
 use Rattle.tac_ir.specs.Fits.{NamesBelow}
@@ -40,16 +40,16 @@ here = record { line = 1; column = 1 }
 -- behind the body of main, with its value
 abbrev closing : FunctionDef → Option Scalar → State → Answer
 closing main result s =
-    status_of (continue_with (λ value. used_value here true main.result value) (continue_with (λ value. happened (Runs.Returned ∷ []) (give value)) (Then result s)))
+    status_of (continue_with (λ value. used_value here true main.result value) (continue_with (λ value. emit (Runs.Returned ∷ []) (give value)) (Then result s)))
 
 abbrev left_main : State → State
 left_main s = record s { objects = killed 0 s.locals s.objects; locals = [] }
 
-abbrev answered : FunctionDef → Outcome Way → Answer
+abbrev answered : FunctionDef → Outcome Completion → Answer
 answered main (Then way s) = closing main (main_value main.name (given_back way)) (left_main s)
 answered main (Stopped answer s) = answer
 
-module _ (points : List Op) (worth : ℕ) (around : Around) (calls : Calls) (count : ℕ) (below : AllByRecursion (NamesBelow count (length points)) points) where
+module _ (points : List Op) (worth : ℕ) (around : TypeEnvironment) (calls : Calls) (count : ℕ) (below : AllByRecursion (NamesBelow count (length points)) points) where
   mutual
     -- a statement does what executing it does
     pub stmt_does : (tree : Stmt) → Executes points worth around calls count below tree
@@ -90,7 +90,7 @@ module _ (points : List Op) (worth : ℕ) (around : Around) (calls : Calls) (cou
       ∙ ap (λ trace. Over (Ended (byte_of z)) (trace ++ Runs.Returned ∷ [])) same in
       record {
         took = there.0;
-        matches = subst (Matches (Over (Ended (byte_of z)) (trace ++ Runs.Returned ∷ []))) (sym end) (ended (Ended (byte_of z)) (trace ++ Runs.Returned ∷ []) (inl tt));
+        matches = subst (Matches (Over (Ended (byte_of z)) (trace ++ Runs.Returned ∷ []))) (sym end) (ended (Ended (byte_of z)) (trace ++ Runs.Returned ∷ []) (trace ++ Runs.Returned ∷ []) refl (inl tt));
         allowed = omega (arith, there.1);
         paid = λ g. absurd g;
       }
@@ -111,13 +111,13 @@ module _ (points : List Op) (worth : ℕ) (around : Around) (calls : Calls) (cou
       (closes_main exit stays.0 s code (subst (λ at. Path points worth from at n s.units lag 2) stays.1 p) stays.2.ready.all)
 
   -- what the reference answers behind the body of main: it ends as the value says
-  pub finishes : {from : M.State} {n lag : ℕ} (main : FunctionDef) (exit : ℕ) (outcome : Outcome Way) → bytes_eq main.name (codes "main") ≡ true → EndCode points exit →
+  pub finishes : {from : M.State} {n lag : ℕ} (main : FunctionDef) (exit : ℕ) (outcome : Outcome Completion) → bytes_eq main.name (codes "main") ≡ true → EndCode points exit →
       Does points worth from n lag 2 (Leaves points (Within count [] []) (record { onward = exit; broken = exit; continued = exit })) outcome → Answers points worth from n lag (answered main outcome)
-  finishes {from} {n} {lag} main exit _ name code (comes Onward s to p leaves) = falls_off main exit s to name code p leaves
-  finishes {from} {n} {lag} main exit _ name code (comes Broken s to p leaves) = falls_off main exit s to name code p leaves
-  finishes {from} {n} {lag} main exit _ name code (comes Continued s to p leaves) = falls_off main exit s to name code p leaves
-  finishes main exit _ name code (comes (Returned None) s to p leaves) = absurd leaves
-  finishes {from} {n} {lag} main exit _ name code (comes (Returned (Some scalar)) s to p leaves) =
+  finishes {from} {n} {lag} main exit _ name code (comes Normal s to p leaves) = falls_off main exit s to name code p leaves
+  finishes {from} {n} {lag} main exit _ name code (comes Break s to p leaves) = falls_off main exit s to name code p leaves
+  finishes {from} {n} {lag} main exit _ name code (comes Continue s to p leaves) = falls_off main exit s to name code p leaves
+  finishes main exit _ name code (comes (Return None) s to p leaves) = absurd leaves
+  finishes {from} {n} {lag} main exit _ name code (comes (Return (Some scalar)) s to p leaves) =
       subst (λ x. Answers points worth from n lag (closing main (Some x) (left_main s))) (sym leaves.1) (returned to leaves.0 s.trace (eased p (omega arith) (omega arith)) leaves.2 leaves.3)
   finishes main exit _ name code (stops answer s a) = a
 
@@ -125,13 +125,13 @@ depth_is : greatest_depth ≡ suc 9999
 unfolding greatest_depth
 depth_is = refl
 
-one_deep : (around : Around) (functions : List FunctionDef) (depth number : ℕ) (function : FunctionDef) (given : List Scalar) →
+one_deep : (around : TypeEnvironment) (functions : List FunctionDef) (depth number : ℕ) (function : FunctionDef) (given : List Scalar) →
     bodies_within around functions (suc depth) number function given
-    ≡ (happened (Called number ∷ []) (run_function around (call_named functions (bodies_within around functions depth)) function given) >>= λ result. happened (Runs.Returned ∷ []) (give result))
+    ≡ (emit (Called number ∷ []) (run_function around (call_named functions (bodies_within around functions depth)) function given) >>= λ result. emit (Runs.Returned ∷ []) (give result))
 unfolding bodies_within
 one_deep around functions depth number function given = refl
 
-bind_none : (around : Around) (parameters : List CType) → bind around parameters [] ≡ give Onward
+bind_none : (around : TypeEnvironment) (parameters : List CType) → bind around parameters [] ≡ give Normal
 bind_none around [] = refl
 bind_none around (first ∷ others) = refl
 
@@ -140,8 +140,8 @@ abbrev main_state : Program → List ℕ → ℕ → State
 main_state program input n = record { units = n; input = input; trace = Called 0 ∷ []; objects = first_objects program; locals = []; next_local = 1; next_heap = 1 }
 
 -- main's own locals
-own_is : (main : FunctionDef) (inside : Eval Way) (s : State) (outcome : Outcome Way) → inside (record s { locals = [] }) ≡ outcome →
-    status_of (continue_with (λ value. used_value here true main.result value) (continue_with (λ value. happened (Runs.Returned ∷ []) (give value))
+own_is : (main : FunctionDef) (inside : Eval Completion) (s : State) (outcome : Outcome Completion) → inside (record s { locals = [] }) ≡ outcome →
+    status_of (continue_with (λ value. used_value here true main.result value) (continue_with (λ value. emit (Runs.Returned ∷ []) (give value))
     (continue_with (λ way. give (main_value main.name (given_back way))) (within_own inside (record s { locals = [] }))))) ≡ answered main outcome
 own_is main inside s (Then way after) e = rw e refl
 own_is main inside s (Stopped answer after) e = rw e refl
@@ -174,8 +174,8 @@ module _ (program : Program) (input : List ℕ) (n : ℕ) (main : FunctionDef) (
       ∙ ap (λ test. status_of (unless here (premise (not test) Ub.U14 ∷ []) called (first_state program input n))) same
       ∙ ap (λ body. status_of ((body >>= λ result. used_value here true main.result result) (first_state program input n)))
       (ap (λ depth. bodies_within (around_of program) (main ∷ []) depth 0 main []) depth_is ∙ one_deep (around_of program) (main ∷ []) 9999 0 main [])
-      ∙ own_is main (bind (around_of program) main.parameters [] >>= λ bound. entered (block (around_of program) (main_calls program main) main.body)) (main_state program input n) _
-      (ap (λ bound. (bound >>= λ begun. entered (block (around_of program) (main_calls program main) main.body)) (main_state program input n)) (bind_none (around_of program) main.parameters))
+      ∙ own_is main (bind (around_of program) main.parameters [] >>= λ bound. tick (block (around_of program) (main_calls program main) main.body)) (main_state program input n) _
+      (ap (λ bound. (bound >>= λ begun. tick (block (around_of program) (main_calls program main) main.body)) (main_state program input n)) (bind_none (around_of program) main.parameters))
 
 -- ---- the whole
 
@@ -225,7 +225,7 @@ answers program tac input compiled worth n enough = by (same_type compiled.main.
 pub follows : (program : Program) (tac : Tac) (input : List ℕ) → IsCompiled program tac → Simulates (reference program input) (M.tac_run tac input) 4 0
 follows program tac input compiled =
     let units : ℕ = 1 + block_units compiled.main.body in
-    simulates_from (reference program input) (M.tac_run tac input) 4 0 units units (λ n.
+    simulates_from all_events (reference program input) (M.tac_run tac input) 4 0 units units (λ n.
     let a = answers program tac input compiled units n (omega arith) in
     (a.took, omega (arith, a.allowed), a.matches, a.paid))
 

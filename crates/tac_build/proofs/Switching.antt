@@ -9,9 +9,9 @@ use Rattle.c_num.specs.declared.IntType.TheVariants as I
 use Rattle.c_num.specs.Types.{is_value}
 use Rattle.c_typed.specs.Typed as T
 use Rattle.c_typed.specs.Typed.{Value, Stmt, SwitchItems}
-use Rattle.c_meaning.specs.Values.{Scalar, integer_of}
-use Rattle.c_meaning.specs.Store.{Around, State, Eval, ◌>>=◌, give}
-use Rattle.c_meaning.specs.Meaning.{Calls, value, Way, Onward, Broken, Continued, Returned, Entry, NoEntry, At, later_entry, default_at, case_at, entry_or, broken_out, block_rest, switch_from}
+use Rattle.ref_semantics.specs.Values.{Scalar, integer_of}
+use Rattle.ref_semantics.specs.Store.{TypeEnvironment, State, Eval, ◌>>=◌, give}
+use Rattle.ref_semantics.specs.Meaning.{Calls, value, Completion, Normal, Break, Continue, Return, Entry, NoEntry, At, later_entry, default_at, case_at, entry_or, broken_out, block_rest, switch_from}
 use Rattle.tac_ir.specs.Meaning as M
 use Rattle.tac_ir.specs.Values.{is_zero, truth}
 use Rattle.tac_ir.specs.Fits.{NamesBelow}
@@ -38,11 +38,11 @@ From points types int_type ways otherwise (suc k) (T.SwitchStmt one others) at =
 abbrev pub out_of : Ways → Ways
 out_of ways = record { onward = ways.onward; broken = ways.onward; continued = ways.continued }
 
-out_left : (points : List Op) (Stays : List ℤ → State → Type 0) (ways : Ways) (way : Way) (s : State) (state : M.State) → Leaves points Stays (out_of ways) way s state → Leaves points Stays ways (broken_out way) s state
-out_left points Stays ways Onward s state leaves = leaves
-out_left points Stays ways Broken s state leaves = leaves
-out_left points Stays ways Continued s state leaves = leaves
-out_left points Stays ways (Returned given) s state leaves = leaves
+out_left : (points : List Op) (Stays : List ℤ → State → Type 0) (ways : Ways) (way : Completion) (s : State) (state : M.State) → Leaves points Stays (out_of ways) way s state → Leaves points Stays ways (broken_out way) s state
+out_left points Stays ways Normal s state leaves = leaves
+out_left points Stays ways Break s state leaves = leaves
+out_left points Stays ways Continue s state leaves = leaves
+out_left points Stays ways (Return given) s state leaves = leaves
 
 -- where `default` stands, the items are done from the point to which no label leads
 default_from : (points : List Op) (types : List IntType) (int_type : IntType) (ways : Ways) (items : SwitchItems) (tests entry otherwise : ℕ) → SwitchCode points types int_type items tests entry otherwise ways →
@@ -67,7 +67,7 @@ one_truth : (test : Bool) → test ≡ false → is_zero (truth test) ≡ true
 one_truth true e = absurd (true≢false e)
 one_truth false e = refl
 
-module _ (points : List Op) (worth : ℕ) (around : Around) (calls : Calls) (count : ℕ) (below : AllByRecursion (NamesBelow count (length points)) points) where
+module _ (points : List Op) (worth : ℕ) (around : TypeEnvironment) (calls : Calls) (count : ℕ) (below : AllByRecursion (NamesBelow count (length points)) points) where
   -- ---- labels
 
   -- the code is where the items from the entry on are done, or where it goes without an entry
@@ -158,7 +158,7 @@ module _ (points : List Op) (worth : ℕ) (around : Around) (calls : Calls) (cou
 
   pub ends : ExecutesItems T.SwitchEnd
   ends types names tested int_type ways otherwise zero at inside code enough registers s ready =
-      comes Onward s (stand at registers s) (start (stand at registers s) s.units) (registers, ap (λ at. stand at registers s) code.1.1, ready)
+      comes Normal s (stand at registers s) (start (stand at registers s) s.units) (registers, ap (λ at. stand at registers s) code.1.1, ready)
   ends types names tested int_type ways otherwise (suc k) at inside code enough registers s ready = absurd code
 
   pub cases : (label : ℤ) (others : SwitchItems) → ExecutesItems others → ExecutesItems (T.Case label others)
@@ -198,10 +198,10 @@ module _ (points : List Op) (worth : ℕ) (around : Around) (calls : Calls) (cou
       parts' : (is_inside types v ≡ true) × (is_some (word_type types v) ≡ true)
       parts' = and_parts (is_inside types v) (is_some (word_type types v)) parts.0
 
-      enters : Entry → Eval Way
+      enters : Entry → Eval Completion
       enters found = switch_from around calls (entry_or found (default_at items)) items >>= λ way. give (broken_out way)
 
-      next : Scalar → Eval Way
+      next : Scalar → Eval Completion
       next a = case_at (integer_of a) 0 items >>= enters
 
       units_in_all : ℕ
@@ -222,7 +222,7 @@ module _ (points : List Op) (worth : ℕ) (around : Around) (calls : Calls) (cou
       entering NoEntry s' to p stays =
           elim (default_from points types int_type ways items code.0 code.1 code.2 code.4) [
             | inl none ↦ subst (λ found. Does points worth (stand entry registers s) s.units units_in_all 2 (Leaves points (Ready count types names) (out_of ways)) (switch_from around calls found items s')) (sym none.0)
-                (comes Onward s' to (eased p (omega arith) (omega arith)) (stays.0, stays.1 ∙ ap (λ at. stand at stays.0 s') (past (has_default items) code.2 ways.onward none.1 code.5), stays.2))
+                (comes Normal s' to (eased p (omega arith) (omega arith)) (stays.0, stays.1 ∙ ap (λ at. stand at stays.0 s') (past (has_default items) code.2 ways.onward none.1 code.5), stays.2))
             | inr found ↦ subst (λ found. Does points worth (stand entry registers s) s.units units_in_all 2 (Leaves points (Ready count types names) (out_of ways)) (switch_from around calls found items s')) (sym found.1)
                 (items_do found.0 code.2 s' to p found.2 stays)
           ]

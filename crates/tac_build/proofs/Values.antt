@@ -3,7 +3,7 @@ use Rattle.std.proofs.Common.{◌≡◌, ℕ, ◌-◌, ◌%◌, ◌^◌, ◌<◌
 use Rattle.std.proofs.lemmas.Int.{ints}
 use Rattle.std.proofs.lemmas.Bool.{and_parts, and_from, or_parts, true_from_ne_false}
 use Rattle.std.proofs.lemmas.Nat.{pow_pos}
-use Rattle.run_theory.specs.declared.ends.Pos.{Pos}
+use Rattle.text_place.specs.declared.place.Pos.{Pos}
 use Rattle.run_theory.specs.Runs.{Trace}
 use Rattle.c_num.specs.declared.IntType.{IntType}
 use Rattle.c_num.specs.declared.IntType.TheVariants.{Char, UChar, Short, UShort, Int, UInt, Long, ULong}
@@ -16,11 +16,11 @@ use Rattle.c_num.specs.Arith.{is_shift, is_bad_amount, is_bad_shift, outcome_of,
 use Rattle.c_num.proofs.Conversions.{convert_to-in_range, convert_to-same, bits_below, modulo_below}
 use Rattle.c_num.proofs.Outcomes.{is_value-Decides, outcome-in_range, complement-in_range, shift_outcome, test_from_le}
 use Rattle.c_typed.specs.Typed.{Value}
-use Rattle.c_meaning.specs.Values.{IntegerValue}
-use Rattle.c_meaning.specs.Store.{Objects, State, Then}
-use Rattle.c_meaning.specs.Pointers.{truth}
-use Rattle.c_meaning.specs.Library.{next_byte}
-use Rattle.c_meaning.specs.Meaning.{right_of, outcome_at, arithmetic}
+use Rattle.ref_semantics.specs.Values.{IntegerValue}
+use Rattle.ref_semantics.specs.Store.{Objects, State, Then}
+use Rattle.ref_semantics.specs.Pointers.{truth}
+use Rattle.ref_semantics.specs.Library.{next_byte}
+use Rattle.ref_semantics.specs.Meaning.{right_of, outcome_at, arithmetic}
 use Rattle.tac_ir.specs.Values as words
 use Rattle.tac_ir.specs.Values.{byte_of, next_char, after_next}
 use Rattle.tac_build.specs.Inside.{contains, fits, word_type, common_word_type, is_label}

@@ -17,7 +17,7 @@ use Rattle.c_typed.specs.declared.typed.Stepping.{Stepping}
 use Rattle.c_typed.specs.declared.typed.Stepping.TheVariants as Steppings
 use Rattle.c_typed.specs.Typed as T
 use Rattle.c_typed.specs.Typed.{Value, Object, Stmt, Block, SwitchItems, LocalDef, ForStart, FunctionDef, Program}
-use Rattle.c_meaning.specs.Meaning.{step_operator}
+use Rattle.ref_semantics.specs.Meaning.{step_operator}
 use Rattle.tac_ir.specs.declared.Op.{Op}
 use Rattle.tac_ir.specs.declared.Op.TheVariants as O
 use Rattle.tac_ir.specs.declared.Register.{Register}

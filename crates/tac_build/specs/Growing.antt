@@ -5,7 +5,7 @@ use Rattle.c_num.specs.declared.IntType.TheVariants as I
 use Rattle.c_num.specs.declared.BinOp.{BinOp}
 use Rattle.c_num.specs.Types.{common_of}
 use Rattle.c_typed.specs.declared.typed.Stepping.{Stepping}
-use Rattle.c_meaning.specs.Meaning.{step_operator}
+use Rattle.ref_semantics.specs.Meaning.{step_operator}
 use Rattle.tac_ir.specs.declared.Register.{Register}
 use Rattle.c_typed.specs.declared.statement.BlockItem as memory_item
 use Rattle.c_typed.specs.declared.statement.BlockItem.TheVariants as items

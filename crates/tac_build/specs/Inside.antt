@@ -17,7 +17,7 @@ contains int_type other = is_value int_type (least_of other) && is_value int_typ
 -- the local that an expression names, in parentheses or not
 abbrev pub local_of : Object → Option ℕ
 local_of (T.Local number) = Some number
-local_of (T.GroupedObject inner) = local_of inner
+local_of (T.GroupedObject place inner) = local_of inner
 local_of _ = None
 
 abbrev pub type_at : List IntType → Option ℕ → Option IntType

@@ -1,9 +1,9 @@
 // Expressions, lowered backwards: the operation on the value first, then the operands, the last one first.
 
 ghost use Rattle.std.specs.Prelude.{◌≡◌, ◌+◌, ◌<◌, ℕ, pos, length, IfOk, OnOk};
-ghost use Rattle.run_theory.specs.declared.ends.Pos.{Pos};
+ghost use Rattle.text_place.specs.declared.place.Pos.{Pos};
 ghost use Rattle.c_num.specs.declared.BinOp.TheVariants as B;
-ghost use Rattle.c_meaning.specs.Meaning.{step_operator};
+ghost use Rattle.ref_semantics.specs.Meaning.{step_operator};
 ghost use Rattle.c_typed.specs.Table.{Interned};
 ghost use Rattle.c_typed.specs.Typed as typed;
 ghost use Rattle.c_typed.specs.Views.{value_in, object_in, values_in};

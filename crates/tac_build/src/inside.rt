@@ -1,7 +1,7 @@
 // Whether an expression is in the part of the language that is compiled.
 
 ghost use Rattle.std.specs.Prelude.{◌≡◌, ◌&&◌, ◌||◌, ℕ, List, is_some};
-ghost use Rattle.run_theory.specs.declared.ends.Pos.{Pos};
+ghost use Rattle.text_place.specs.declared.place.Pos.{Pos};
 ghost use Rattle.c_num.specs.declared.IntType.{IntType};
 ghost use Rattle.c_num.specs.declared.IntType.TheVariants as int_types;
 ghost use Rattle.c_num.specs.Types.{is_value};
@@ -74,7 +74,7 @@ pub(crate) fn local_of(object: &Object) -> Option<usize>
 {
     match object {
         Object::Local(number) => Some(*number),
-        Object::Grouped(inner) => local_of(inner),
+        Object::Grouped { inner, .. } => local_of(inner),
         _ => None,
     }
 }

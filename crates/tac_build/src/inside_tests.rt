@@ -3,9 +3,9 @@
 use crate::inside::{fits, is_inside};
 use c_num::{IntType, Relation};
 use c_typed::{ByteString, CType, Designator, Object, Value};
-use run_theory::Pos;
 use std::alloc::{AllocError, Global};
 use std::test::Fail;
+use text_place::Pos;
 
 const HERE: Pos = Pos { line: 1, column: 1 };
 
@@ -21,8 +21,8 @@ fn constant(alloc: Global, int_type: IntType, value: i128) -> Result<Value, Allo
 
 /// The value of a local, in parentheses.
 fn read(alloc: Global, number: usize) -> Result<Value, AllocError> {
-    let object = Box::new(alloc, Object::Local(number))?;
-    let object = Box::new(alloc, Object::Grouped(object))?;
+    let inner = Box::new(alloc, Object::Local(number))?;
+    let object = Box::new(alloc, Object::Grouped { place: HERE, inner })?;
     Ok(Value::Read {
         place: HERE,
         object,

@@ -3,7 +3,7 @@
 ghost use Rattle.std.specs.Prelude.{ℕ, List};
 ghost use Rattle.run_theory.specs.Runs.{Simulates};
 ghost use Rattle.c_typed.specs.Typed.{Program};
-ghost use Rattle.c_meaning.specs.First.{reference};
+ghost use Rattle.ref_semantics.specs.First.{reference};
 ghost use Rattle.tac_ir.specs.Meaning.{tac_run};
 ghost use Rattle.tac_ir.specs.declared.Tac.{Tac};
 ghost use Rattle.tac_build.specs.Laws.{IsCompiled};

@@ -49,6 +49,3 @@ pub fn lower(alloc: Global, program: &Program) -> Result<Tac, AllocError>
     };
     Ok(Tac { main })
 }
-
-#[cfg(test)]
-mod tests;

@@ -1,6 +1,6 @@
 use Rattle.std.proofs.Common.{◌≤◌, length, sym, refl, ap, ◌∙◌, arith, false-eqb, eqb-true, length-drop, length-take-le}
 use Rattle.std.proofs.lemmas.List.{map_push, nil_from_length}
-use Rattle.run_theory.specs.Places.{place_behind}
+use Rattle.text_place.specs.Places.{place_behind}
 use Rattle.c_token.specs.Leaves.{leaves_of}
 use Rattle.c_lexer.specs.Tokens.{line_behind}
 use Rattle.c_lexer.proofs.Widths.{front_within}

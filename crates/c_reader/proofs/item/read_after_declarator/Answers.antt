@@ -1,9 +1,9 @@
-use Rattle.std.proofs.Common.{arith, refl, ap, ◌∙◌, ◌∷◌}
+use Rattle.std.proofs.Common.{arith, refl, ap, sym, map, ◌∙◌, ◌∷◌}
 use Rattle.std.proofs.lemmas.Result.{err_from_is_err_and}
 use Rattle.c_syntax.specs.Trees as trees
 use Rattle.c_syntax.specs.Views as views
-use Rattle.c_reader.specs.Shapes as shapes
-use Rattle.c_reader.proofs.Reaching as Rows
+use Rattle.c_reader_tokens.specs.Shapes as shapes
+use Rattle.c_reader_tokens.proofs.Reaching as Rows
 use Rattle.c_reader.specs.ItemForms as items
 use Rattle.c_reader.specs.ItemLists as before
 use Rattle.c_reader.proofs.ItemRows as steps
@@ -23,7 +23,7 @@ returns-in_err-has_room-in-Some-Body-clause-gives c =
 pub returns-in_ok-has_room-in-Some-Body-clause-gives : goal.returns-in_ok-has_room-in-Some-Body-clause-gives
 returns-in_ok-has_room-in-Some-Body-clause-gives c =
     let r0 = Rows.begin {below = c.args.room} record { kind = _; begins = c.in_ok-first_kind.ensures.found; tells = Rows.tells_at items.after_form c.in-Some-Body.ensures c.in-Some-Body.field-0-is; fits = c.in_ok-has_room-in-Some-Body.ensures.fits; down = omega arith; ends = record { ends = λ own kind. refl } } in
-    steps.part_through (before.after_of (views.base_tree c.args.base) (views.declarator_tree c.args.declarator)) (shapes.body_of (views.base_tree c.args.base) (views.declarator_tree c.args.declarator)) views.item_tree _ r0 (λ parse. refl) c.read_function.ensures.gives
+    steps.part_through (before.after_of (views.base_tree c.args.base.value) (views.declarator_tree c.args.declarator.value)) (shapes.body_of (views.base_tree c.args.base.value) (views.declarator_tree c.args.declarator.value)) views.item_tree _ r0 (λ parse. refl) c.read_function.ensures.gives
 
 pub returns-in_err-init-in-Some-Values-clause-gives : goal.returns-in_err-init-in-Some-Values-clause-gives
 returns-in_err-init-in-Some-Values-clause-gives c =
@@ -45,7 +45,7 @@ returns-in_ok-declarators-in-Some-Values-clause-gives c =
     let r2 = Rows.found r1 c.in_ok-declarators-in-Some-Values.ensures.gives in
     let s0 = c.in_ok-init-in-Some-Values.ensures.gives.shape in
     let s1 = c.in_ok-declarators-in-Some-Values.ensures.gives.shape in
-    Rows.finish (before.after_of (views.base_tree c.args.base) (views.declarator_tree c.args.declarator)) _ r2 (ap (trees.Declaration (views.base_tree c.args.base)) (ap (λ i. same.made (views.declarator_tree c.args.declarator) i ∷ shapes.declarators_of c.in_ok-declarators-in-Some-Values.ensures.gives.parse) s0 ∙ s1))
+    Rows.finish (before.after_of (views.base_tree c.args.base.value) (views.declarator_tree c.args.declarator.value)) _ r2 (ap (trees.Declaration (views.base_tree c.args.base.value)) (ap (λ d. same.made (views.declarator_tree d) (shapes.first_value_of c.in_ok-init-in-Some-Values.ensures.gives.parse) ∷ shapes.declarators_of c.in_ok-declarators-in-Some-Values.ensures.gives.parse) (sym c.into_inner.ensures) ∙ ap (λ i. same.made (views.declarator_tree c.into_inner.result) i ∷ shapes.declarators_of c.in_ok-declarators-in-Some-Values.ensures.gives.parse) s0 ∙ s1) ∙ ap (λ b. trees.Declaration (views.base_tree b) (map views.init_declarator_tree c.in_ok-declarators-in-Some-Values.declarators.value.items)) (sym c.into_inner-in-Some-Values.ensures))
 
 pub returns-in-None-clause-gives : goal.returns-in-None-clause-gives
 returns-in-None-clause-gives c =

@@ -1,10 +1,10 @@
-use Rattle.std.proofs.Common.{arith, refl, sym, ◌∙◌}
+use Rattle.std.proofs.Common.{arith, refl, ap, sym, ◌∙◌}
 use Rattle.std.proofs.lemmas.Result.{err_from_is_err_and}
 use Rattle.grammar_table.specs.Table as tables
 use Rattle.c_grammar.specs.Forms as forms
 use Rattle.c_syntax.specs.Views as views
-use Rattle.c_reader.specs.Shapes as shapes
-use Rattle.c_reader.proofs.Reaching as Rows
+use Rattle.c_reader_tokens.specs.Shapes as shapes
+use Rattle.c_reader_tokens.proofs.Reaching as Rows
 use Rattle.c_grammar.specs.Chooses as chooses
 use Rattle.c_reader.specs.ItemLists as before
 use Rattle.c_reader.proofs.ItemRows as steps
@@ -35,4 +35,4 @@ returns-clause-gives c =
     let r0 = Rows.begin {below = c.args.room} record { kind = _; begins = c.in_ok-first_kind.ensures.found; tells = Rows.tells_if forms.DeclaredRow tables.Never (chooses.begins_declarator c.in_ok-first_kind.field-0) (sym c.begins_declarator.ensures ∙ c.if-not-begins_declarator.false) (λ next. refl); fits = c.in_ok-has_room.ensures.fits; down = omega arith; ends = record { ends = λ own kind. refl } } in
     let r1 = Rows.read r0 c.in_ok-declarator.ensures.gives in
     let s0 = c.in_ok-declarator.ensures.gives.shape in
-    steps.part_through (shapes.declared_of (views.base_tree c.args.base)) (before.after_of (views.base_tree c.args.base) (views.declarator_tree c.in_ok-declarator.declarator.value)) views.item_tree _ r1 (λ parse. steps.declared_after (views.base_tree c.args.base) _ parse _ s0) c.read_after_declarator.ensures.gives
+    steps.part_through (shapes.declared_of (views.base_tree c.args.base.value)) (before.after_of (views.base_tree c.args.base.value) (views.declarator_tree c.in_ok-boxed.boxed.value)) views.item_tree _ r1 (λ parse. steps.declared_after (views.base_tree c.args.base.value) _ parse _ (s0 ∙ ap views.declarator_tree (sym c.in_ok-boxed.ensures.ok))) c.read_after_declarator.ensures.gives

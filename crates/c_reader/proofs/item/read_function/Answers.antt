@@ -1,10 +1,10 @@
-use Rattle.std.proofs.Common.{refl, sym, ◌∙◌}
+use Rattle.std.proofs.Common.{refl, ap, sym, ◌∙◌}
 use Rattle.std.proofs.lemmas.Result.{err_from_is_err_and}
 use Rattle.c_grammar.specs.Forms as forms
 use Rattle.c_syntax.specs.Trees as trees
 use Rattle.c_syntax.specs.Views as views
-use Rattle.c_reader.specs.Shapes as shapes
-use Rattle.c_reader.proofs.Reaching as Rows
+use Rattle.c_reader_tokens.specs.Shapes as shapes
+use Rattle.c_reader_tokens.proofs.Reaching as Rows
 use Rattle.c_grammar.specs.Kinds as kinds
 use Rattle.c_grammar.specs.declared.kind.Kind.TheVariants as K
 use Rattle.c_reader.proofs.SameItems as same
@@ -44,4 +44,4 @@ returns-clause-gives c =
     let r2 = Rows.found r1 c.in_ok-items.ensures.gives in
     let s0 = c.in_ok-opening.ensures.found.stands in
     let s1 = c.in_ok-items.ensures.gives.shape in
-    Rows.finish (shapes.body_of (views.base_tree c.args.base) (views.declarator_tree c.args.declarator)) _ r2 (Rows.same_two (trees.Function (views.base_tree c.args.base) (views.declarator_tree c.args.declarator)) s0 (s1 ∙ same.block_of-folds c.in_ok-items.items.value.items))
+    Rows.finish (shapes.body_of (views.base_tree c.args.base.value) (views.declarator_tree c.args.declarator.value)) _ r2 (Rows.same_two (trees.Function (views.base_tree c.args.base.value) (views.declarator_tree c.args.declarator.value)) s0 (s1 ∙ same.block_of-folds c.in_ok-items.items.value.items) ∙ Rows.same_two (λ b d. trees.Function (views.base_tree b) (views.declarator_tree d) c.in_ok-opening.opening.place (views.block_of c.in_ok-items.items.value.items)) (sym c.into_inner.ensures) (sym c.into_inner-2.ensures))

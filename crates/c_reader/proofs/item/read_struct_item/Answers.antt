@@ -1,11 +1,11 @@
-use Rattle.std.proofs.Common.{ap, ◌∙◌}
+use Rattle.std.proofs.Common.{ap, sym, ◌∙◌}
 use Rattle.std.proofs.lemmas.Result.{err_from_is_err_and}
 use Rattle.grammar_table.specs.Table as tables
 use Rattle.c_grammar.specs.Forms as forms
 use Rattle.c_token.specs.Leaves.{leaves_of}
 use Rattle.c_syntax.specs.Views as views
-use Rattle.c_reader.specs.Shapes as shapes
-use Rattle.c_reader.proofs.Reaching as Rows
+use Rattle.c_reader_tokens.specs.Shapes as shapes
+use Rattle.c_reader_tokens.proofs.Reaching as Rows
 use Rattle.c_reader.proofs.ItemRows as steps
 use Rattle.c_reader.proofs.item.read_struct_item.Goals as goal
 
@@ -37,4 +37,4 @@ returns-clause-gives c =
     let r2 = steps.name r1 c.in_ok-name.ensures.gives in
     let r3 = Rows.found r2 c.in_ok-base.ensures.gives in
     let s0 = steps.struct_is _ _ c.in_ok-name.ensures.gives.leaf c.in_ok-base.ensures.gives.parse _ c.in_ok-word.ensures.found.stands c.in_ok-name.ensures.gives.is_name in
-    steps.part_through (λ parts. shapes.item_of (tables.Node forms.ItemStruct parts)) (shapes.tail_of (views.base_tree c.in_ok-base.base.value)) views.item_tree _ r3 (λ parse. ap (λ b. shapes.tail_of b parse) (s0 ∙ c.in_ok-base.ensures.gives.shape)) c.read_struct_tail.ensures.gives
+    steps.part_through (λ parts. shapes.item_of (tables.Node forms.ItemStruct parts)) (shapes.tail_of (views.base_tree c.in_ok-boxed.boxed.value)) views.item_tree _ r3 (λ parse. ap (λ b. shapes.tail_of b parse) (s0 ∙ c.in_ok-base.ensures.gives.shape ∙ ap views.base_tree (sym c.in_ok-boxed.ensures.ok))) c.read_struct_tail.ensures.gives

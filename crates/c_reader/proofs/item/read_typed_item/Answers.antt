@@ -1,11 +1,11 @@
-use Rattle.std.proofs.Common.{ap, ◌∙◌}
+use Rattle.std.proofs.Common.{ap, sym, ◌∙◌}
 use Rattle.std.proofs.lemmas.Result.{err_from_is_err_and}
 use Rattle.grammar_table.specs.Table as tables
 use Rattle.c_grammar.specs.Forms as forms
 use Rattle.c_token.specs.Leaves.{leaves_of}
 use Rattle.c_syntax.specs.Views as views
-use Rattle.c_reader.specs.Shapes as shapes
-use Rattle.c_reader.proofs.Reaching as Rows
+use Rattle.c_reader_tokens.specs.Shapes as shapes
+use Rattle.c_reader_tokens.proofs.Reaching as Rows
 use Rattle.c_reader.proofs.ItemRows as steps
 use Rattle.c_reader.proofs.item.read_typed_item.Goals as goal
 
@@ -27,5 +27,5 @@ returns-clause-gives c =
     let r0 = Rows.start (forms.symbols_of (forms.ItemTyped c.args.kind c.args.words)) c.args.room (leaves_of c.args.tokens.now) in
     let r1 = Rows.token r0 c.in_ok-word.ensures.found in
     let r2 = Rows.found r1 c.in_ok-base.ensures.gives in
-    let s0 = ap (λ place. shapes.base_from place c.in_ok-base.ensures.gives.parse) c.in_ok-word.ensures.found.stands ∙ c.in_ok-base.ensures.gives.shape in
-    steps.part_through (λ parts. shapes.item_of (tables.Node (forms.ItemTyped c.args.kind c.args.words) parts)) (shapes.declared_of (views.base_tree c.in_ok-base.base.value)) views.item_tree _ r2 (λ parse. ap (λ b. shapes.declared_of b parse) s0) c.read_declared.ensures.gives
+    let s0 = ap (λ place. shapes.base_from place c.in_ok-base.ensures.gives.parse) c.in_ok-word.ensures.found.stands ∙ c.in_ok-base.ensures.gives.shape ∙ ap views.base_tree (sym c.in_ok-boxed.ensures.ok) in
+    steps.part_through (λ parts. shapes.item_of (tables.Node (forms.ItemTyped c.args.kind c.args.words) parts)) (shapes.declared_of (views.base_tree c.in_ok-boxed.boxed.value)) views.item_tree _ r2 (λ parse. ap (λ b. shapes.declared_of b parse) s0) c.read_declared.ensures.gives

@@ -4,7 +4,7 @@ use Rattle.c_syntax.specs.declared.declaration.InitDeclarator as memory_init_dec
 use Rattle.c_syntax.specs.Trees.{InitDeclaratorTree}
 use Rattle.c_syntax.specs.Views.{init_declarator_tree, words_tree}
 use Rattle.c_rules.specs.Expressions.{words_type}
-use Rattle.c_rules.specs.NameTables.{scope_of}
+use Rattle.c_types_state.specs.NameTables.{scope_of}
 use Rattle.c_types.proofs.LocalsMade.{LocalsSoFar, so_far-none, so_far-more}
 use Rattle.c_types.proofs.declarations.declaration_locals.Goals as goal
 

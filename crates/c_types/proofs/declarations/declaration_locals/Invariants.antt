@@ -1,7 +1,7 @@
 use Rattle.std.proofs.Common.{take, map}
 use Rattle.c_syntax.specs.Views.{init_declarator_tree, words_tree}
 use Rattle.c_rules.specs.Expressions.{words_type}
-use Rattle.c_rules.specs.NameTables.{scope_of}
+use Rattle.c_types_state.specs.NameTables.{scope_of}
 use Rattle.c_types.proofs.LocalsMade.{LocalsSoFar}
 use Rattle.c_types.proofs.declarations.declaration_locals.Given as goal
 

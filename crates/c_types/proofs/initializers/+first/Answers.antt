@@ -13,11 +13,11 @@ use Rattle.c_typed.specs.Table.{type_in, tag_in, structs_in, members_of, shape_t
 use Rattle.c_typed.proofs.Grown.{stays}
 use Rattle.c_rules.specs.Initializers as initializers
 use Rattle.c_rules.specs.Elaborated as elaborated
-use Rattle.c_rules.specs.Finding.{each_in}
-use Rattle.c_rules.specs.NameTables.{scope_of}
+use Rattle.c_types_state.specs.Finding.{each_in}
+use Rattle.c_types_state.specs.NameTables.{scope_of}
 use Rattle.c_types.specs.NamedItems.{named_in_inits}
 use Rattle.c_types.specs.Made.{Covers}
-use Rattle.c_types.specs.FirstValues.{Holds, too_many}
+use Rattle.c_types.specs.FirstValues.{HoldsFirst, too_many}
 use Rattle.c_types.proofs.Covering.{covers-same}
 use Rattle.c_types.proofs.Firsts.{on_ok, left-more}
 use Rattle.c_types.proofs.ListedFirsts.{ElementsFar, MembersFar, elements-none, elements-more, elements-refused, members-none, members-more, members-refused}
@@ -77,7 +77,7 @@ first_of-returns-in-List-clause-held t c =
     let scope = scope_of s.checker in
     let init = c.args.init.now in
     on_ok c.list_first.result
-    (λ h. subst (λ (held : List Held). Holds held c.args.target.now c.list_first.new.target)
+    (λ h. subst (λ (held : List Held). HoldsFirst held c.args.target.now c.list_first.new.target)
     (listed-held scope c.args.c_type c.in-Some.c_type init c.in-List.place c.in-List.inits c.deref.result.now s.checker.table c.in-Some.is c.in-List.is c.deref.ensures.value c.args.target.now.parts.items c.args.index) h)
     c.list_first.ensures.held
 
@@ -110,7 +110,7 @@ list_first-returns-in_ok-elements_first-in-Array t c =
           covers-same (braced-elements-found scope c.args.place element c.in-Array.length inits no_text ∙ (λ i. initializers.first_of scope (Some (sym array i)) (Trees.InitList c.args.place inits))) refl refl
           (c.in_ok-elements_first-in-Array.ensures {u = tt}).found;
       held =
-          subst (λ (held : List Held). Holds held old new)
+          subst (λ (held : List Held). HoldsFirst held old new)
           ((λ i. elaborated.elements_held scope (pushed i) 0 element c.in-Array.length inits) ∙ braced-elements-held scope c.args.place element c.in-Array.length old.parts.items c.args.index inits no_text
           ∙ (λ i. elaborated.held_of scope old.parts.items c.args.index (Some (sym array i)) (Trees.InitList c.args.place inits)))
           (held-within refl holds (popped mid.parts.items old.parts.items c.pop.new.self.items step mid.parts.len (holds.parts ∙ pushed) (omega (arith, mid.parts.ok.0)) c.pop.ensures.rest) refl);

@@ -1,7 +1,7 @@
 use Rattle.std.proofs.Common.{drop}
 use Rattle.c_syntax.specs.Views.{inits_of}
 use Rattle.c_rules.specs.Initializers as rules
-use Rattle.c_rules.specs.NameTables.{scope_of}
+use Rattle.c_types_state.specs.NameTables.{scope_of}
 use Rattle.c_types.specs.NamedItems.{named_in_inits}
 use Rattle.c_types.proofs.Firsts.{Passed}
 use Rattle.c_types.proofs.initializers.+within.Given as goal

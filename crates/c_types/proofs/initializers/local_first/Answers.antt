@@ -1,5 +1,5 @@
 use Rattle.std.proofs.Common.{refl}
-use Rattle.c_check.proofs.Passing.{with_checker}
+use Rattle.c_types_expressions.proofs.Passing.{with_checker}
 use Rattle.c_types.proofs.LocalFirsts.{first-list, first-list-refused}
 use Rattle.c_types.proofs.initializers.local_first.Goals as goal
 

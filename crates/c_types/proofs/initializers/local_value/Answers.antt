@@ -2,12 +2,12 @@ use Rattle.std.proofs.Common.{◌≡◌, Option, refl, ap, subst, ◌∙◌}
 use Rattle.std.proofs.lemmas.Result.{IfOk-weaker}
 use Rattle.c_syntax.specs.Views.{expr_tree}
 use Rattle.c_typed.specs.Table.{type_in}
-use Rattle.c_rules.specs.Finding.{AllStand, each_in, noted}
-use Rattle.c_operators.specs.declared.operands.Operand as memory_operand
-use Rattle.c_operators.specs.Operands.{OperandStands, operand_in}
-use Rattle.c_check.specs.declared.pass.Pass.{Pass}
-use Rattle.c_check.proofs.Giving.{stands-now}
-use Rattle.c_check.proofs.Passing.{with_checker}
+use Rattle.c_types_state.specs.Finding.{AllStand, each_in, noted}
+use Rattle.c_types_operands.specs.declared.operands.Operand as memory_operand
+use Rattle.c_types_operands.specs.Operands.{OperandStands, operand_in}
+use Rattle.c_types_expressions.specs.declared.pass.Pass.{Pass}
+use Rattle.c_types_expressions.proofs.Giving.{stands-now}
+use Rattle.c_types_expressions.proofs.Passing.{with_checker}
 use Rattle.c_types.proofs.Returning.{noted-stands, noted-all_stand}
 use Rattle.c_types.proofs.LocalFirsts.{behind_local, behind-some, behind-none, behind-aggregate, local-stands, local-made}
 use Rattle.c_types.proofs.initializers.local_value.Goals.{then-is_scalar+in-Some, then-is_scalar+in_default, else-is_scalar}
@@ -83,6 +83,6 @@ returns c =
       )
     ] in
     IfOk-weaker c.value_as.result _ _
-    (λ v h. local-made (expr_tree c.args.tree.now) c.args.c_type s (with_checker s c.require.new.self) t aggregate place operand r v
+    (λ v h. local-made (expr_tree c.args.tree.now) c.args.c_type s (with_checker s c.require.new.self) t aggregate place operand r v.value
     c.is_aggregate-is_scalar.ensures c.requires c.place_of-place.ensures c.require.ensures.noted refl c.in_ok-operand.ensures same.0 same.1 h)
     c.value_as.ensures

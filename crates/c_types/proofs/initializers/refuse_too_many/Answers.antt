@@ -4,9 +4,9 @@ use Rattle.c_syntax.specs.Views.{inits_of}
 use Rattle.c_rules.specs.declared.rule.TypeRule.TheVariants as T
 use Rattle.c_rules.specs.Known.{at}
 use Rattle.c_rules.specs.Initializers as rules
-use Rattle.c_rules.specs.NameTables.{scope_of}
-use Rattle.c_rules.specs.Finding.{noted}
-use Rattle.c_check.specs.declared.pass.Pass.{Pass}
+use Rattle.c_types_state.specs.NameTables.{scope_of}
+use Rattle.c_types_state.specs.Finding.{noted}
+use Rattle.c_types_expressions.specs.declared.pass.Pass.{Pass}
 use Rattle.c_types.specs.NamedItems.{named_in_inits}
 use Rattle.c_types.proofs.Covering.{covers-same}
 use Rattle.c_types.proofs.Firsts.{covers-behind, on_ok}

@@ -1,22 +1,19 @@
-use Rattle.std.proofs.Common.{◌≡◌, rules, ◌++◌, List, [], Bool, Option, ℕ, refl, sym, ap, subst, ◌∙◌, not, is_none, append-nil}
+use Rattle.std.proofs.Common.{◌≡◌, rules, ◌++◌, List, [], ℕ, refl, sym, subst, ◌∙◌, not, append-nil}
 use Rattle.std.proofs.lemmas.Result.{on_ok_weaker}
-use Rattle.c_typed.specs.declared.typed.LibraryFunction.{LibraryFunction}
-use Rattle.c_rules.specs.declared.file_name.FileEntry.{FileEntry}
-use Rattle.c_typed.specs.Table.{Interned, type_in, KnownStands}
+use Rattle.c_types_state.specs.declared.file_name.FileEntry.{FileEntry}
+use Rattle.c_typed.specs.Table.{type_in, KnownStands}
 use Rattle.c_typed.proofs.Grown.{grows_trans}
 use Rattle.c_rules.specs.declared.rule.TypeRule.TheVariants as T
-use Rattle.c_rules.specs.declared.violation.Violation.{Violation}
 use Rattle.c_rules.specs.Known.{unless}
-use Rattle.c_rules.specs.Names.{Scope, FileName, file_name, with_file_name, is_library, library_named}
-use Rattle.c_rules.specs.NameTables.{State, scope_of, Leads}
-use Rattle.c_rules.specs.Finding.{each_in}
+use Rattle.c_rules.specs.Names.{Scope, FileName, file_name, with_file_name, is_library}
+use Rattle.c_types_state.specs.NameTables.{State, scope_of, ScopeGrows}
+use Rattle.c_types_state.specs.Finding.{each_in}
 use Rattle.c_rules.specs.Programs.{main_clash, again_clash, joined_name}
 use Rattle.c_syntax.specs.Views.{name_tree}
-use Rattle.c_check.specs.declared.pass.Pass.{Pass}
-use Rattle.c_types.specs.Made.{Covers}
+use Rattle.c_types_expressions.specs.declared.pass.Pass.{Pass}
 use Rattle.c_types.specs.Outside.{row_of}
 use Rattle.c_types.proofs.Covering.{covers-noted, covers-then, covers-leads, covers-same}
-use Rattle.c_types.proofs.Filed.{each_stays, known_stands-each, row-stays, known-each, known_stays, is_free}
+use Rattle.c_types.proofs.Filed.{known_stands-each, row-stays, known-each, known_stays}
 use Rattle.c_types.proofs.items.declare_outside.Goals as goal
 
 -- the table behind the first rule
@@ -59,10 +56,10 @@ returns c =
     let same_joined = c.note_again-joined.ensures.joined ∙ (λ i. joined_name (file_name (two.scope i).file bytes) (same_row i)) in
     let same_bytes = c.as_slice-bytes.ensures in
     on_ok_weaker c.put_file_entry.result
-    (λ (leads : Leads (filed (row_of t3.checker.table c.as_slice-bytes.result.now c.note_again-joined.result) (scope_of t3.checker)) t3.checker c.put_file_entry.new.self).
+    (λ (leads : ScopeGrows (filed (row_of t3.checker.table c.as_slice-bytes.result.now c.note_again-joined.result) (scope_of t3.checker)) t3.checker c.put_file_entry.new.self).
     covers-same
     (append-nil _ ∙ (λ i. (unless (free i) T.T04 here ++ main_clash tree (each_in type_in (c.require.ensures.noted i).table c.args.c_type)) ++ again_clash here (file_name scope.file bytes) (same_row i)))
     refl
     (λ i. filed (same_joined i) scope)
-    (covers-then (λ _. []) (λ _. []) (filed joined) three (covers-leads {s = t3} {t = record t3 { checker = c.put_file_entry.new.self }} (subst (λ (b : List ℕ). Leads (filed (row_of t3.checker.table b c.note_again-joined.result) (scope_of t3.checker)) t3.checker c.put_file_entry.new.self) same_bytes leads) refl)))
+    (covers-then (λ _. []) (λ _. []) (filed joined) three (covers-leads {s = t3} {t = record t3 { checker = c.put_file_entry.new.self }} (subst (λ (b : List ℕ). ScopeGrows (filed (row_of t3.checker.table b c.note_again-joined.result) (scope_of t3.checker)) t3.checker c.put_file_entry.new.self) same_bytes leads) refl)))
     c.put_file_entry.ensures.done

@@ -2,7 +2,7 @@ use Rattle.std.proofs.Common.{sym, subst, ◌∙◌}
 use Rattle.c_syntax.specs.Views.{name_tree}
 use Rattle.c_typed.specs.Table.{Stands}
 use Rattle.c_typed.specs.DefinitionViews.{all_first}
-use Rattle.c_rules.specs.Finding.{AllStand}
+use Rattle.c_types_state.specs.Finding.{AllStand}
 use Rattle.c_types.proofs.VariableNumbers.{option-none}
 use Rattle.c_types.proofs.DefinedStays.{on_ok_both, defines-none, defines-function, defines-variable}
 use Rattle.c_types.proofs.items.define_global.Goals as goal

@@ -6,10 +6,10 @@ use Rattle.c_syntax.specs.Views.{name_tree, declarator_tree, init_declarator_tre
 use Rattle.c_typed.specs.Table.{type_in}
 use Rattle.c_rules.specs.Elaborated.{declared_global}
 use Rattle.c_rules.specs.Expressions.{declared_name}
-use Rattle.c_rules.specs.Finding.{each_in}
-use Rattle.c_rules.specs.NameTables.{scope_of}
+use Rattle.c_types_state.specs.Finding.{each_in}
+use Rattle.c_types_state.specs.NameTables.{scope_of}
 use Rattle.c_rules.specs.Programs.{file_declarator}
-use Rattle.c_check.specs.Roles.{role_of}
+use Rattle.c_types_expressions.specs.Roles.{role_of}
 use Rattle.c_types.specs.Made.{Covers}
 use Rattle.c_types.specs.NamedItems.{named_in_file_declarator}
 use Rattle.c_types.proofs.Filed.{known_stands-each}

@@ -1,7 +1,7 @@
 use Rattle.std.proofs.Common.{drop, map}
 use Rattle.c_syntax.specs.Views.{init_declarator_tree}
 use Rattle.c_typed.specs.Table.{type_in}
-use Rattle.c_rules.specs.Finding.{each_in}
+use Rattle.c_types_state.specs.Finding.{each_in}
 use Rattle.c_types.proofs.OutsideMade.{FilesFar}
 use Rattle.c_types.proofs.items.file_declarators.Given as goal
 

@@ -3,10 +3,10 @@ use Rattle.c_syntax.specs.declared.declaration.Init as memory_init
 use Rattle.c_syntax.specs.Views.{init_tree}
 use Rattle.c_typed.specs.Table.{type_in}
 use Rattle.c_rules.specs.Elaborated.{first_held}
-use Rattle.c_rules.specs.Finding.{each_in}
-use Rattle.c_rules.specs.NameTables.{scope_of}
+use Rattle.c_types_state.specs.Finding.{each_in}
+use Rattle.c_types_state.specs.NameTables.{scope_of}
 use Rattle.c_rules.specs.Programs.{first_rules}
-use Rattle.c_check.specs.declared.pass.Pass.{Pass}
+use Rattle.c_types_expressions.specs.declared.pass.Pass.{Pass}
 use Rattle.c_types.specs.declared.initializers.Target.{Target}
 use Rattle.c_types.specs.Made.{Makes, IsFirst}
 use Rattle.c_types.specs.NamedItems.{named_in_first}

@@ -1,8 +1,8 @@
 use Rattle.std.proofs.Common.{refl, ap, ◌∙◌}
 use Rattle.c_syntax.specs.Views.{name_tree, declarator_tree, block_of}
 use Rattle.c_typed.specs.Table.{type_in}
-use Rattle.c_rules.specs.Finding.{each_in}
-use Rattle.c_check.proofs.Passing.{with_checker}
+use Rattle.c_types_state.specs.Finding.{each_in}
+use Rattle.c_types_expressions.proofs.Passing.{with_checker}
 use Rattle.c_types.proofs.Filed.{known_stands-each}
 use Rattle.c_types.proofs.OutsideMade.{found-stands, found-kept}
 use Rattle.c_types.proofs.FunctionMade.{function-outside, entered-stands, function-leave, function-covers, function-stands, function-defines}

@@ -1,10 +1,10 @@
-use Rattle.std.proofs.Common.{[], refl, sym, ap, subst, ◌∙◌, Option, Some}
+use Rattle.std.proofs.Common.{[], refl, sym, ap, subst, ◌∙◌, Option}
 use Rattle.c_num.specs.declared.IntType.TheVariants as I
 use Rattle.c_typed.specs.declared.c_type.CType.{CType}
 use Rattle.c_typed.specs.Types as T
 use Rattle.c_typed.specs.Table.{Stands, type_in}
 use Rattle.c_typed.proofs.Grown.{integer_stands, stays, grows_trans}
-use Rattle.c_rules.specs.Finding.{AllStand, each_in}
+use Rattle.c_types_state.specs.Finding.{AllStand, each_in}
 use Rattle.c_rules.specs.Programs.{is_main_type}
 use Rattle.c_types.proofs.Covering.{covers-finds, covers-then}
 use Rattle.c_types.proofs.items.is_main_type.Goals as goal

@@ -4,8 +4,8 @@ use Rattle.c_syntax.specs.Trees as Trees
 use Rattle.c_syntax.specs.declared.name.Name.{Name}
 use Rattle.c_syntax.specs.Views.{name_tree, base_tree, declarator_tree, init_declarator_tree, item_tree, block_of}
 use Rattle.c_typed.specs.Table.{type_in}
-use Rattle.c_rules.specs.Finding.{each_in}
-use Rattle.c_rules.specs.NameTables.{scope_of}
+use Rattle.c_types_state.specs.Finding.{each_in}
+use Rattle.c_types_state.specs.NameTables.{scope_of}
 use Rattle.c_rules.specs.Programs.{base_type, base_place}
 use Rattle.c_types.specs.Outside.{IsOutside}
 use Rattle.c_types.proofs.Covering.{covers-none}

@@ -1,15 +1,11 @@
-use Rattle.std.proofs.Common.{◌≡◌, [], refl, sym, ap, subst, ◌∙◌, List, ℕ, Option, Some, not}
-use Rattle.run_theory.specs.declared.ends.Pos.{Pos}
+use Rattle.std.proofs.Common.{◌≡◌, refl, sym, ap, subst, ◌∙◌, List, ℕ, Option, Some, not}
 use Rattle.c_rules.specs.declared.rule.TypeRule.TheVariants as T
-use Rattle.c_rules.specs.declared.violation.Violation.{Violation}
 use Rattle.c_typed.specs.Table.{KnownStands}
 use Rattle.c_rules.specs.Known.{unless}
 use Rattle.c_rules.specs.Names.{FileName, file_name}
-use Rattle.c_rules.specs.NameTables.{State, scope_of, IsFileEntry}
+use Rattle.c_types_state.specs.NameTables.{State, scope_of, IsFileEntry}
 use Rattle.c_rules.specs.Programs.{again_clash, joined_name}
-use Rattle.c_check.specs.declared.pass.Pass.{Pass}
-use Rattle.c_types.specs.Made.{Covers}
-use Rattle.c_types.specs.Outside.{row_of, clash}
+use Rattle.c_types.specs.Outside.{row_of}
 use Rattle.c_types.proofs.Covering.{covers-noted, covers-same}
 use Rattle.c_types.proofs.Filed.{entry-row}
 use Rattle.c_types.proofs.items.note_again.Goals as goal

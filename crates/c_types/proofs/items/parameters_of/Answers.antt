@@ -1,7 +1,7 @@
 use Rattle.std.proofs.Common.{◌++◌, length, Some, map, sym, ap, subst, ◌∙◌, arith}
 use Rattle.c_typed.specs.Table.{type_in, types_in}
 use Rattle.c_typed.specs.DefinitionViews.{TypesStand}
-use Rattle.c_rules.specs.Finding.{each_in}
+use Rattle.c_types_state.specs.Finding.{each_in}
 use Rattle.c_rules.specs.Elaborated as elaborated
 use Rattle.c_types.proofs.ParameterTypes.{stand-pushed, types-more, types-end, none-of-shape}
 use Rattle.c_types.proofs.items.parameters_of.Goals as goal

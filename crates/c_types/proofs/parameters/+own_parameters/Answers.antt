@@ -1,7 +1,6 @@
 use Rattle.std.proofs.Common.{true, false, sym, ap, ◌∙◌}
 use Rattle.c_syntax.specs.declared.expr.Declarator.{Declarator}
-use Rattle.c_syntax.specs.declared.expr.Suffix.{Suffix}
-use Rattle.c_syntax.specs.Views.{declarator_tree, direct_tree, suffixes_of}
+use Rattle.c_syntax.specs.Views.{declarator_tree, suffixes_of}
 use Rattle.c_rules.specs.Expressions.{adds}
 use Rattle.c_rules.specs.Programs.{own_parameters, first_parameters}
 use Rattle.c_types.proofs.Declaring.{nested-own, plain-own}

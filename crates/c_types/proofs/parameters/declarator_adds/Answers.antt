@@ -1,6 +1,6 @@
 use Rattle.std.proofs.Common.{sym, ◌∙◌}
 use Rattle.c_syntax.specs.Views.{direct_tree, suffixes_of}
-use Rattle.c_check.proofs.Deriving.{adds-stars, adds-suffixes, some-there}
+use Rattle.c_types_expressions.proofs.Deriving.{adds-stars, adds-suffixes, some-there}
 use Rattle.c_types.proofs.parameters.declarator_adds.Goals.{then-declarator-gt0, else-declarator-gt0}
 use Rattle.c_types.proofs.parameters.declarator_adds.Goals as goal
 

@@ -1,14 +1,14 @@
-use Rattle.std.proofs.Common.{◌≡◌, ◌<◌, ◌+◌, [], None, option_map, Bor, length, drop, get_or, refl, sym, ap, subst, ◌∙◌, arith}
+use Rattle.std.proofs.Common.{◌<◌, ◌+◌, [], None, option_map, Bor, length, drop, get_or, refl, sym, ap, subst, ◌∙◌, arith}
 use Rattle.std.proofs.lemmas.List.{drop_more}
 use Rattle.c_syntax.specs.declared.expr.Parameter.{out-Parameter}
 use Rattle.c_syntax.specs.declared.name.Name.{Name}
 use Rattle.c_syntax.specs.Views.{name_tree, parameters_of, words_tree, optional_of}
 use Rattle.c_typed.specs.Table.{Interned, KnownStands}
 use Rattle.c_rules.specs.Expressions.{optional_name}
-use Rattle.c_rules.specs.NameTables.{State, scope_of}
+use Rattle.c_types_state.specs.NameTables.{State, scope_of}
 use Rattle.c_rules.specs.Programs.{unnamed, parameter_local}
-use Rattle.c_check.specs.declared.pass.Pass.{Pass}
-use Rattle.c_check.proofs.Parameters.{parameter-next, parameters-end}
+use Rattle.c_types_expressions.specs.declared.pass.Pass.{Pass}
+use Rattle.c_types_expressions.proofs.Parameters.{parameter-next, parameters-end}
 use Rattle.c_types.specs.Made.{Covers}
 use Rattle.c_types.proofs.ParameterLocals.{declares-start, declares-more, declares-end, declared-named, declared-unnamed, known-at}
 use Rattle.c_types.proofs.parameters.declare_parameters.Goals.{in-Some+in_ok-declare_local-in-Some, in-None}

@@ -3,7 +3,7 @@ use Rattle.c_syntax.specs.Trees.{ParametersTree}
 use Rattle.c_syntax.specs.Views.{parameters_of}
 use Rattle.c_typed.specs.declared.c_type.CType.{CType}
 use Rattle.c_typed.specs.Table.{Interned}
-use Rattle.c_rules.specs.NameTables.{scope_of}
+use Rattle.c_types_state.specs.NameTables.{scope_of}
 use Rattle.c_rules.specs.Programs.{entered_function}
 use Rattle.c_types.specs.Made.{Covers}
 use Rattle.c_types.specs.Outside.{AllKnown, AreTypes, local_types}

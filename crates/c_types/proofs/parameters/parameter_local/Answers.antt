@@ -4,9 +4,9 @@ use Rattle.c_syntax.specs.declared.name.Name.{Name}
 use Rattle.c_syntax.specs.Views.{name_tree, words_tree, optional_of}
 use Rattle.c_typed.specs.Table.{Stands, type_in}
 use Rattle.c_rules.specs.declared.violation.Violation.{Violation}
-use Rattle.c_rules.specs.NameTables.{State}
+use Rattle.c_types_state.specs.NameTables.{State}
 use Rattle.c_rules.specs.Expressions.{optional_name}
-use Rattle.c_check.proofs.Giving.{stands-now}
+use Rattle.c_types_expressions.proofs.Giving.{stands-now}
 use Rattle.c_types.proofs.ParameterLocals.{local-some}
 use Rattle.c_types.proofs.parameters.parameter_local.Goals as goal
 

@@ -2,8 +2,8 @@ use Rattle.std.proofs.Common.{◌+◌, [], ◌∷◌, length, drop, refl, ap, su
 use Rattle.c_syntax.specs.declared.expr.Parameter.{out-Parameter}
 use Rattle.c_syntax.specs.Views.{parameters_of, words_tree, optional_of}
 use Rattle.c_rules.specs.Expressions.{optional_name}
-use Rattle.c_rules.specs.NameTables.{scope_of}
-use Rattle.c_check.proofs.Parameters.{parameter-next, parameters-end}
+use Rattle.c_types_state.specs.NameTables.{scope_of}
+use Rattle.c_types_expressions.proofs.Parameters.{parameter-next, parameters-end}
 use Rattle.c_types.specs.Made.{IsOptionalType}
 use Rattle.c_types.specs.Outside.{local_type}
 use Rattle.c_types.proofs.Covering.{covers-none, covers-two, covers-same}

@@ -1,6 +1,6 @@
 use Rattle.std.proofs.Common.{◌≡◌, [], length, drop}
 use Rattle.c_syntax.specs.Views.{parameters_of}
-use Rattle.c_rules.specs.NameTables.{scope_of}
+use Rattle.c_types_state.specs.NameTables.{scope_of}
 use Rattle.c_types.specs.Made.{Covers}
 use Rattle.c_types.proofs.ParameterLocals.{Gathers}
 use Rattle.c_types.proofs.parameters.parameter_locals.Given as goal

@@ -2,17 +2,17 @@ use Rattle.std.proofs.Common.{◌+◌, List, map, drop, refl, sym, ap, subst, �
 use Rattle.c_syntax.specs.declared.declaration.Item.{Item}
 use Rattle.c_syntax.specs.Views.{program_tree, item_tree}
 use Rattle.c_typed.specs.declared.definition.Program as memory_program
-use Rattle.c_rules.specs.NameTables.{State}
+use Rattle.c_types_state.specs.NameTables.{State}
 use Rattle.c_rules.specs.Programs.{violations}
-use Rattle.c_check.specs.declared.pass.Pass.{Pass}
-use Rattle.c_outline.specs.Lists.{with_outline}
+use Rattle.c_types_expressions.specs.declared.pass.Pass.{Pass}
+use Rattle.c_types_state.specs.Lists.{with_outline}
 use Rattle.c_types.proofs.DeclaredMembers.{trees-next, trees-end}
 use Rattle.c_types.proofs.VariableNumbers.{option-none}
 use Rattle.c_types.proofs.ProgramRead.{Reading, reading-start, reading-step, reading-end, refusal-noted, least-none, typed-whole, whole-stands, named-whole, not-refused, refused-same}
 use Rattle.c_types.proofs.program.check.Goals as goal
 
 pub returns-in_err-outermost-clause-refused : goal.returns-in_err-outermost-clause-refused
-returns-in_err-outermost-clause-refused c = λ violation h. not-refused c.from_residual.result violation c.from_residual.ensures.1 h
+returns-in_err-outermost-clause-refused c = λ violation h. not-refused c.from_residual-in_err-outermost.result violation c.from_residual-in_err-outermost.ensures.1 h
 
 pub loop-tree-init : goal.loop-tree-init
 loop-tree-init c =
@@ -44,11 +44,11 @@ returns-in-Some-clause-refused c = λ violation h.
     let read = reading-end program (map item_tree (drop index slice)) pass defined (trees-end item_tree slice slice refl index c.loop-tree-test.false) c.loop-tree.invariant in
     refused-same program c.least.result c.in-Some.violation violation (c.least.ensures ∙ refusal-noted program pass defined c.require.new.self c.defines-has_main.result read c.defines-has_main.ensures c.require.ensures.noted) c.in-Some.is h
 
-pub returns-in_err-completed_by-clause-refused : goal.returns-in_err-completed_by-clause-refused
-returns-in_err-completed_by-clause-refused c = λ violation h. not-refused c.from_residual-in_err-completed_by.result violation c.from_residual-in_err-completed_by.ensures.1 h
+pub returns-in_err-completed-clause-refused : goal.returns-in_err-completed-clause-refused
+returns-in_err-completed-clause-refused c = λ violation h. not-refused c.from_residual.result violation c.from_residual.ensures.1 h
 
-pub returns-in_err-literals_of-clause-refused : goal.returns-in_err-literals_of-clause-refused
-returns-in_err-literals_of-clause-refused c = λ violation h. not-refused c.from_residual-in_err-literals_of.result violation c.from_residual-in_err-literals_of.ensures.1 h
+pub returns-in_err-literals-clause-refused : goal.returns-in_err-literals-clause-refused
+returns-in_err-literals-clause-refused c = λ violation h. not-refused c.from_residual-in_err-literals.result violation c.from_residual-in_err-literals.ensures.1 h
 
 pub returns-clause-accepted : goal.returns-clause-accepted
 returns-clause-accepted c =
@@ -70,8 +70,8 @@ returns-clause-typed c =
     let defined = c.loop-tree.defined in
     let read = reading-end program (map item_tree (drop index slice)) pass defined (trees-end item_tree slice slice refl index c.loop-tree-test.false) c.loop-tree.invariant in
     let types = c.into_types.ensures ∙ ap (λ (state : State). state.table) c.require.ensures.noted in
-    let p : memory_program.Program = record { types = c.into_types.result; completed = c.in_ok-completed_by.field-0; globals = c.into_vec.result; literals = c.in_ok-literals_of.field-0; functions = defined.functions } in
-    typed-whole program pass defined p read types c.in_ok-completed_by.ensures c.into_vec.ensures c.in_ok-literals_of.ensures refl
+    let p : memory_program.Program = record { types = c.into_types.result; completed = c.in_ok-completed.completed; globals = c.into_vec.result; literals = c.in_ok-literals.literals; functions = defined.functions } in
+    typed-whole program pass defined p read types c.in_ok-completed.ensures c.into_vec.ensures c.in_ok-literals.ensures refl
 
 pub returns-clause-named : goal.returns-clause-named
 returns-clause-named c =
@@ -93,5 +93,5 @@ returns-clause-stands c =
     let defined = c.loop-tree.defined in
     let read = reading-end program (map item_tree (drop index slice)) pass defined (trees-end item_tree slice slice refl index c.loop-tree-test.false) c.loop-tree.invariant in
     let types = c.into_types.ensures ∙ ap (λ (state : State). state.table) c.require.ensures.noted in
-    let p : memory_program.Program = record { types = c.into_types.result; completed = c.in_ok-completed_by.field-0; globals = c.into_vec.result; literals = c.in_ok-literals_of.field-0; functions = defined.functions } in
+    let p : memory_program.Program = record { types = c.into_types.result; completed = c.in_ok-completed.completed; globals = c.into_vec.result; literals = c.in_ok-literals.literals; functions = defined.functions } in
     (whole-stands program pass defined p read types c.into_vec.ensures refl, (named-whole program pass defined c.into_types.result read types).0)

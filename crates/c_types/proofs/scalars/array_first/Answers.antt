@@ -1,5 +1,5 @@
 use Rattle.std.proofs.Common.{◌≡◌, ℕ, List, [], Option, Some, None, refl, sym, subst}
-use Rattle.run_theory.specs.declared.ends.Pos.{Pos}
+use Rattle.text_place.specs.declared.place.Pos.{Pos}
 use Rattle.c_syntax.specs.Views.{expr_tree}
 use Rattle.c_syntax.specs.declared.expr.Expr.{Expr}
 use Rattle.c_syntax.specs.declared.expr.Expr.TheVariants as E
@@ -10,8 +10,8 @@ use Rattle.c_rules.specs.Names.{Scope}
 use Rattle.c_rules.specs.Known.{Known, as_value}
 use Rattle.c_rules.specs.Expressions.{expr, place_of}
 use Rattle.c_rules.specs.Elaborated as elaborated
-use Rattle.c_rules.specs.NameTables.{scope_of}
-use Rattle.c_types.specs.FirstValues.{Holds}
+use Rattle.c_types_state.specs.NameTables.{scope_of}
+use Rattle.c_types.specs.FirstValues.{HoldsFirst}
 use Rattle.c_types.proofs.Firsts.{holds-none, on_ok}
 use Rattle.c_types.proofs.scalars.array_first.Goals as goal
 
@@ -50,5 +50,5 @@ pub returns-in_default-clause-held : goal.returns-in_default-clause-held
 returns-in_default-clause-held c =
     let target = c.args.target.now in
     on_ok c.refused_first-in_default.result
-    (λ _. subst (λ held. Holds held target target) (sym (other-held (scope_of c.args.pass.now.checker) target.parts.items c.args.index (type_in c.args.pass.now.checker.table c.args.element) c.args.length c.args.tree.now c.in_default.not-Literal)) (holds-none target))
+    (λ _. subst (λ held. HoldsFirst held target target) (sym (other-held (scope_of c.args.pass.now.checker) target.parts.items c.args.index (type_in c.args.pass.now.checker.table c.args.element) c.args.length c.args.tree.now c.in_default.not-Literal)) (holds-none target))
     c.refused_first-in_default.ensures

@@ -1,8 +1,8 @@
 use Rattle.std.proofs.Common.{◌++◌, refl, ap}
-use Rattle.run_theory.specs.declared.ends.Pos.{Pos}
+use Rattle.text_place.specs.declared.place.Pos.{Pos}
 use Rattle.c_syntax.specs.Views.{expr_tree}
 use Rattle.c_rules.specs.Known.{at}
-use Rattle.c_rules.specs.NameTables.{scope_of}
+use Rattle.c_types_state.specs.NameTables.{scope_of}
 use Rattle.c_rules.specs.Initializers as rules
 use Rattle.c_types.proofs.Covering.{covers-same, covers-passes}
 use Rattle.c_types.proofs.Firsts.{covers-refused}

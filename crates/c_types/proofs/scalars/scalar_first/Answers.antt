@@ -5,10 +5,10 @@ use Rattle.c_typed.specs.DefinitionViews.{scalar_of}
 use Rattle.c_rules.specs.declared.rule.TypeRule.TheVariants as R
 use Rattle.c_rules.specs.Initializers.{known_first}
 use Rattle.c_rules.specs.Elaborated as elaborated
-use Rattle.c_rules.specs.NameTables.{State, scope_of}
-use Rattle.c_rules.specs.Finding.{noted}
-use Rattle.c_operators.specs.Operands.{operand_in}
-use Rattle.c_types.specs.FirstValues.{Holds}
+use Rattle.c_types_state.specs.NameTables.{State, scope_of}
+use Rattle.c_types_state.specs.Finding.{noted}
+use Rattle.c_types_operands.specs.Operands.{operand_in}
+use Rattle.c_types.specs.FirstValues.{HoldsFirst}
 use Rattle.c_types.proofs.Firsts.{noted-scalar, unless-met, holds-one}
 use Rattle.c_types.proofs.scalars.scalar_first.Goals.{in-Integer, in-Pointer}
 use Rattle.c_types.proofs.scalars.scalar_first.Goals as goal
@@ -51,5 +51,5 @@ returns-clause-held c =
     ] in
     let steps = c.args.target.now.parts.items in
     let one = elaborated.held_at steps c.args.index (elaborated.scalar_of (scope_of s.checker) (type_in s.checker.table c.args.c_type) (operand_in s.checker.table c.args.operand)) in
-    subst (λ b. Holds (if b then one else []) c.args.target.now (record c.args.target.now { first = c.push.new.self })) (sym met ∙ c.fits-fits.ensures)
+    subst (λ b. HoldsFirst (if b then one else []) c.args.target.now (record c.args.target.now { first = c.push.new.self })) (sym met ∙ c.fits-fits.ensures)
     (holds-one _ refl c.in_ok-push.ensures.items (λ i. elaborated.held_at (c.in_ok-parts.ensures i) c.args.index (value i)))

@@ -4,8 +4,8 @@ use Rattle.c_typed.specs.Table.{type_in}
 use Rattle.c_typed.specs.DefinitionViews.{characters_held}
 use Rattle.c_rules.specs.declared.rule.TypeRule.TheVariants as R
 use Rattle.c_rules.specs.Elaborated as elaborated
-use Rattle.c_rules.specs.NameTables.{State}
-use Rattle.c_types.specs.FirstValues.{Holds}
+use Rattle.c_types_state.specs.NameTables.{State}
+use Rattle.c_types.specs.FirstValues.{HoldsFirst}
 use Rattle.c_types.proofs.Firsts.{unless-met, holds-one}
 use Rattle.c_types.proofs.scalars.text_first.Goals as goal
 
@@ -20,5 +20,5 @@ returns-clause-held c =
     let steps = c.in_ok-push.ensures.items ∙ (λ i. elaborated.within (c.in_ok-parts.ensures i) (Parts.Elements c.args.index)) in
     let copied = c.in_ok-from_slice.ensures ∙ c.as_slice-bytes.ensures in
     let held = characters_held (elaborated.within c.args.target.now.parts.items (Parts.Elements c.args.index)) (elaborated.character_type (type_in s.checker.table c.args.element)) 0 bytes in
-    subst (λ b. Holds (if b then held else []) c.args.target.now (record c.args.target.now { first = c.push-2.new.self })) (sym met ∙ ap (λ bs. nat_le (length bs) n) c.as_slice-bytes.ensures)
+    subst (λ b. HoldsFirst (if b then held else []) c.args.target.now (record c.args.target.now { first = c.push-2.new.self })) (sym met ∙ ap (λ bs. nat_le (length bs) n) c.as_slice-bytes.ensures)
     (holds-one _ refl c.in_ok-push-2.ensures.items (λ i. characters_held (steps i) (int_type i) 0 (copied i)))

@@ -12,12 +12,12 @@ use Rattle.c_rules.specs.Known.{Known, as_value}
 use Rattle.c_rules.specs.Expressions.{expr, place_of}
 use Rattle.c_rules.specs.Initializers as rules
 use Rattle.c_rules.specs.Elaborated as elaborated
-use Rattle.c_rules.specs.NameTables.{scope_of}
-use Rattle.c_rules.specs.Finding.{each_in}
-use Rattle.c_rules.proofs.Findings.{seen-known}
-use Rattle.c_operators.specs.Operands.{OperandStands, operand_in}
-use Rattle.c_check.specs.Named.{named_in}
-use Rattle.c_types.specs.FirstValues.{Holds, scalar_found}
+use Rattle.c_types_state.specs.NameTables.{scope_of}
+use Rattle.c_types_state.specs.Finding.{each_in}
+use Rattle.c_types_state.proofs.Findings.{seen-known}
+use Rattle.c_types_operands.specs.Operands.{OperandStands, operand_in}
+use Rattle.c_types_expressions.specs.Named.{named_in}
+use Rattle.c_types.specs.FirstValues.{HoldsFirst, scalar_found}
 use Rattle.c_types.proofs.Covering.{covers-same, covers-then, covers-passes}
 use Rattle.c_types.proofs.Firsts.{on_ok}
 use Rattle.c_types.proofs.scalars.value_first.Goals as goal
@@ -88,4 +88,4 @@ returns-in-Some-clause-held c =
     ∙ (λ i. elaborated.scalar_held scope steps c.args.index (c.shape.ensures.means i) part.known)
     ∙ scalar-held scope steps c.args.index s.checker.table c.shape.result tree c.in_default.not-Array
     ∙ (λ i. elaborated.value_held scope steps c.args.index (sym c.shape.ensures.means i) tree) in
-    subst (λ held. OnOk c.scalar_first.result (Holds held c.args.target.now c.scalar_first.new.target)) whole c.scalar_first.ensures.held
+    subst (λ held. OnOk c.scalar_first.result (HoldsFirst held c.args.target.now c.scalar_first.new.target)) whole c.scalar_first.ensures.held

@@ -1,10 +1,9 @@
 use Rattle.std.proofs.Common.{Some, not, refl, sym, ap, subst, ◌∙◌}
 use Rattle.c_syntax.specs.Views.{name_tree}
-use Rattle.c_typed.specs.Table.{Interned}
-use Rattle.c_rules.specs.Names.{contains}
-use Rattle.c_rules.specs.NameTables.{State}
-use Rattle.c_rules.specs.Checkers.{names_of}
-use Rattle.c_check.proofs.ParameterNames.{contains_names, names-added}
+use Rattle.c_typed.specs.Names.{contains}
+use Rattle.c_types_state.specs.NameTables.{State}
+use Rattle.c_types_state.specs.Checkers.{names_of}
+use Rattle.c_types_expressions.proofs.ParameterNames.{contains_names, names-added}
 use Rattle.c_types.specs.declared.structures.Members.{Members}
 use Rattle.c_types.specs.Outside.{defs_in, AreHeld}
 use Rattle.c_types.proofs.DeclaredMembers.{clash-noted, held-more}

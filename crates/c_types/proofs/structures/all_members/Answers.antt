@@ -1,6 +1,6 @@
 use Rattle.std.proofs.Common.{◌+◌, map, drop, refl}
 use Rattle.c_syntax.specs.Views.{member_tree}
-use Rattle.c_rules.specs.NameTables.{scope_of}
+use Rattle.c_types_state.specs.NameTables.{scope_of}
 use Rattle.c_types.specs.Outside.{defs_in}
 use Rattle.c_types.proofs.DeclaredMembers.{trees-next, trees-end, held-none, defs-none, held-stays, listed-start, listed-step, listed-more, listed-end}
 use Rattle.c_types.proofs.structures.all_members.Goals as goal

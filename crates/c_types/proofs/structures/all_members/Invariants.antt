@@ -1,6 +1,6 @@
 use Rattle.std.proofs.Common.{◌≡◌, map, drop}
 use Rattle.c_syntax.specs.Views.{member_tree}
-use Rattle.c_rules.specs.NameTables.{scope_of}
+use Rattle.c_types_state.specs.NameTables.{scope_of}
 use Rattle.c_types.specs.Outside.{defs_in, AreHeld}
 use Rattle.c_types.proofs.DeclaredMembers.{Listed}
 use Rattle.c_types.proofs.structures.all_members.Given as goal

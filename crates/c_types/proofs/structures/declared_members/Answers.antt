@@ -1,18 +1,18 @@
-use Rattle.std.proofs.Common.{None, option_map, Bor, map, drop, ◌+◌, refl, sym, ap, subst, ◌∙◌}
+use Rattle.std.proofs.Common.{option_map, Bor, map, drop, ◌+◌, refl, sym, ap, subst, ◌∙◌}
 use Rattle.c_syntax.specs.declared.name.Name.{Name}
 use Rattle.c_syntax.specs.Views.{name_tree, declarator_tree}
 use Rattle.c_typed.specs.Table.{type_in}
 use Rattle.c_typed.proofs.Grown.{grows_refl, grows_trans}
 use Rattle.c_rules.specs.Expressions.{Required, declared_type, name_place}
-use Rattle.c_rules.specs.Finding.{IsType, each_in}
-use Rattle.c_rules.specs.NameTables.{scope_of}
-use Rattle.c_check.specs.declared.pass.Pass.{Pass}
-use Rattle.c_check.specs.Named.{named_in_declarator}
-use Rattle.c_check.specs.Passes.{Passes}
+use Rattle.c_types_state.specs.Finding.{IsType, each_in}
+use Rattle.c_types_state.specs.NameTables.{scope_of}
+use Rattle.c_types_expressions.specs.declared.pass.Pass.{Pass}
+use Rattle.c_types_expressions.specs.Named.{named_in_declarator}
+use Rattle.c_types_expressions.specs.Passes.{Passes}
 use Rattle.c_types.specs.declared.structures.Members.{Members}
-use Rattle.c_types.specs.Outside.{defs_in, AreHeld}
+use Rattle.c_types.specs.Outside.{defs_in}
 use Rattle.c_types.proofs.VariableNumbers.{option-none}
-use Rattle.c_types.proofs.DeclaredMembers.{trees-next, trees-end, base-stays, held-stays, defs-stay, own-covers, Steps, steps-named, steps-unnamed, declared-start, declared-more, declared-end}
+use Rattle.c_types.proofs.DeclaredMembers.{trees-next, trees-end, base-stays, held-stays, own-covers, Steps, steps-named, steps-unnamed, declared-start, declared-more, declared-end}
 use Rattle.c_types.proofs.structures.declared_members.Goals.{in-Some+in_ok-add_member, in_default}
 use Rattle.c_types.proofs.structures.declared_members.Goals as goal
 

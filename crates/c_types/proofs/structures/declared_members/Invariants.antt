@@ -1,8 +1,8 @@
 use Rattle.std.proofs.Common.{◌≡◌, map, drop}
 use Rattle.c_syntax.specs.Views.{declarator_tree}
 use Rattle.c_typed.specs.Table.{Grows, type_in}
-use Rattle.c_rules.specs.Finding.{each_in}
-use Rattle.c_rules.specs.NameTables.{scope_of}
+use Rattle.c_types_state.specs.Finding.{each_in}
+use Rattle.c_types_state.specs.NameTables.{scope_of}
 use Rattle.c_types.specs.Outside.{defs_in, AreHeld}
 use Rattle.c_types.proofs.DeclaredMembers.{Declared}
 use Rattle.c_types.proofs.structures.declared_members.Given as goal

@@ -1,6 +1,6 @@
 use Rattle.c_syntax.specs.Views.{expr_tree}
-use Rattle.c_rules.specs.Finding.{ExprStands, expr_in}
-use Rattle.c_check.proofs.Giving.{stands-now}
+use Rattle.c_types_state.specs.Finding.{ExprStands, expr_in}
+use Rattle.c_types_expressions.proofs.Giving.{stands-now}
 use Rattle.c_types.proofs.Valued.{passes-constant, passes-no_constant}
 use Rattle.c_types.proofs.values.constant_of.Goals as goal
 

@@ -1,16 +1,16 @@
 use Rattle.std.proofs.Common.{subst}
 use Rattle.std.proofs.lemmas.Result.{IfOk-weaker}
-use Rattle.run_theory.specs.declared.ends.Pos.{Pos}
+use Rattle.text_place.specs.declared.place.Pos.{Pos}
 use Rattle.c_syntax.specs.Views.{expr_tree}
 use Rattle.c_rules.specs.Known.{given, value_rule}
 use Rattle.c_rules.specs.Expressions.{expr}
-use Rattle.c_rules.specs.Finding.{ExprStands, expr_in}
-use Rattle.c_rules.specs.NameTables.{scope_of}
-use Rattle.c_operators.specs.Operands.{IsOperand}
-use Rattle.c_check.specs.Named.{named_in}
-use Rattle.c_check.specs.Passes.{Passes}
-use Rattle.c_check.proofs.Giving.{stands-now}
-use Rattle.c_check.proofs.Passing.{passes-one, with_checker}
+use Rattle.c_types_state.specs.Finding.{ExprStands, expr_in}
+use Rattle.c_types_state.specs.NameTables.{scope_of}
+use Rattle.c_types_operands.specs.Operands.{IsOperand}
+use Rattle.c_types_expressions.specs.Named.{named_in}
+use Rattle.c_types_expressions.specs.Passes.{Passes}
+use Rattle.c_types_expressions.proofs.Giving.{stands-now}
+use Rattle.c_types_expressions.proofs.Passing.{passes-one, with_checker}
 use Rattle.c_types.proofs.values.value.Goals as goal
 
 pub as_value-requires : goal.as_value-requires

@@ -7,7 +7,7 @@ invariant-loop-buf g l = record {
   front : IsFront (g.F.Files.contents l.initial.files l.name) l.bytes.items;
   near : vec_len l.bytes ≤ l.limit;
   room : 0 < vec_len l.buf;
-  counted : (other : List ℕ) → g.F.Files.faults l.initial.files other ≤ g.F.Files.faults l.files other;
+  faultless : (other : List ℕ) → g.F.Files.faults l.files other ≡ g.F.Files.faults l.initial.files other;
   kept : (other : List ℕ) → g.F.Files.contents l.files other ≡ g.F.Files.contents l.initial.files other;
 }
 

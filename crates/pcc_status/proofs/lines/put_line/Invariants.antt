@@ -1,4 +1,4 @@
-use Rattle.std.proofs.Common.{◌≤◌, ◌++◌, codes, drop}
+use Rattle.std.proofs.Common.{◌≡◌, ◌++◌, codes, drop}
 use Rattle.pcc_outside.proofs.Writing.{AddsBefore}
 use Rattle.pcc_status.specs.Said.{line_of}
 use Rattle.pcc_status.proofs.lines.put_line.Given as goal
@@ -6,5 +6,5 @@ use Rattle.pcc_status.proofs.lines.put_line.Given as goal
 abbrev pub invariant-loop-piece : goal.invariant-loop-piece
 invariant-loop-piece g l = record {
   before : AddsBefore (g.E.Sink.written l.fn.err) (codes "poolcc: " ++ line_of l.pieces) (line_of (drop l.piece-index l.pieces)) (g.E.Sink.written l.err);
-  counted : g.E.Sink.faults l.fn.err ≤ g.E.Sink.faults l.err;
+  faultless : g.E.Sink.faults l.err ≡ g.E.Sink.faults l.fn.err;
 }

@@ -2,7 +2,7 @@ use Rattle.std.proofs.Common.{[], ◌∙◌, sym, ap}
 use Rattle.std.specs.Prelude.{Some}
 use Rattle.std.proofs.lemmas.List.{append-nil}
 use Rattle.c_typed.specs.DefinitionViews.{program_of}
-use Rattle.c_meaning.specs.First.{reference}
+use Rattle.ref_semantics.specs.First.{reference}
 use Rattle.poolcc.proofs.Referring.{does}
 use Rattle.poolcc.proofs.reference.ref_program.Goals as goal
 

@@ -1,5 +1,5 @@
 use Rattle.std.proofs.Common.{sym, subst}
-use Rattle.c_meaning.specs.First.{reference}
+use Rattle.ref_semantics.specs.First.{reference}
 use Rattle.pcc_status.specs.declared.status.Status.{Status}
 use Rattle.poolcc.specs.Ref.{ProgramGives, RefGives}
 use Rattle.poolcc.proofs.Referring.{ref_gives}

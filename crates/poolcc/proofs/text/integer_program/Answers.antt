@@ -1,5 +1,5 @@
 use Rattle.std.proofs.Common.{Bool, Option, None, sym, ap, ◌∙◌}
-use Rattle.run_theory.specs.declared.ends.Pos.{Pos}
+use Rattle.text_place.specs.declared.place.Pos.{Pos}
 use Rattle.c_syntax.specs.Views.{program_tree}
 use Rattle.c_rules.specs.Elaborated as elaborated
 use Rattle.tac_build.specs.Inside.{is_integer_program}

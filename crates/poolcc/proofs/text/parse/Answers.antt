@@ -1,5 +1,5 @@
 use Rattle.std.proofs.Common.{Err, sym, ap, ◌∙◌, subst}
-use Rattle.run_theory.specs.Places.{first_place}
+use Rattle.text_place.specs.Places.{first_place}
 use Rattle.c_token.specs.Leaves.{leaves_of}
 use Rattle.c_lexer.specs.Tokens.{Divides}
 use Rattle.c_syntax.specs.Views.{program_tree}

@@ -4,7 +4,7 @@ use Rattle.pcc_status.specs.declared.status.Status.TheVariants as S
 use Rattle.pcc_status.specs.declared.status.Refusal.TheVariants as R
 use Rattle.poolcc.specs.Compiled.{image_run}
 use Rattle.c_rules.specs.Elaborated as elaborated
-use Rattle.c_meaning.specs.First as meaning
+use Rattle.ref_semantics.specs.First as meaning
 use Rattle.poolcc.specs.Command.{Names, machine_limits}
 use Rattle.poolcc.specs.Complete.{RunsUnlessMemory, IsToldUnlessMemory, IsBuiltUnlessMemory, IsBadUnlessMemory}
 use Rattle.poolcc.specs.Exec.{ExecGives}

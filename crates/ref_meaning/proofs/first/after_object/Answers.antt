@@ -1,8 +1,8 @@
 use Rattle.std.proofs.Common.{refl, sym, ap}
-use Rattle.c_meaning.specs.Values.{Place, PointerValue}
-use Rattle.c_meaning.specs.Store.{give, member_at}
-use Rattle.c_meaning.specs.Pointers.{accessed}
-use Rattle.c_steps.specs.Parts.{Comes}
+use Rattle.ref_semantics.specs.Values.{Place, PointerValue}
+use Rattle.ref_semantics.specs.Store.{give, member_at}
+use Rattle.ref_semantics.specs.Pointers.{accessed}
+use Rattle.ref_steps.specs.Parts.{Comes}
 use Rattle.ref_store.specs.Views.{place_in, scalar_in}
 use Rattle.ref_meaning.specs.Doing.{next_in}
 use Rattle.ref_meaning.specs.Nexts.{place_next}

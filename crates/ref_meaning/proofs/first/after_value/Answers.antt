@@ -4,11 +4,11 @@ use Rattle.std.proofs.lemmas.Int.{ints}
 use Rattle.c_num.specs.declared.BinOp.TheVariants as B
 use Rattle.c_num.specs.Conversion.{convert_to}
 use Rattle.c_typed.specs.Table.{type_in}
-use Rattle.c_meaning.specs.Values.{Place, IntegerValue, PointerValue}
-use Rattle.c_meaning.specs.Store.{give, decayed}
-use Rattle.c_meaning.specs.Pointers.{read, repointed, tested}
-use Rattle.c_meaning.specs.Meaning.{arithmetic}
-use Rattle.c_steps.specs.Parts.{Comes, comes, step_integer, step_pointer}
+use Rattle.ref_semantics.specs.Values.{Place, IntegerValue, PointerValue}
+use Rattle.ref_semantics.specs.Store.{give, decayed}
+use Rattle.ref_semantics.specs.Pointers.{read, repointed, tested}
+use Rattle.ref_semantics.specs.Meaning.{arithmetic}
+use Rattle.ref_steps.specs.Parts.{Comes, comes, step_integer, step_pointer}
 use Rattle.ref_store.specs.declared.value.Scalar.TheVariants as M
 use Rattle.ref_store.specs.Views.{place_in, scalar_in}
 use Rattle.ref_meaning.specs.declared.first.Next.TheVariants as X

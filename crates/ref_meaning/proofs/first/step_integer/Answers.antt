@@ -1,5 +1,5 @@
 use Rattle.std.proofs.Common.{Ok, Err}
-use Rattle.c_steps.specs.Parts.{step_integer}
+use Rattle.ref_steps.specs.Parts.{step_integer}
 use Rattle.ref_store.specs.Views.{place_in, scalar_in}
 use Rattle.ref_meaning.proofs.Both.{gives-handed}
 use Rattle.ref_meaning.proofs.Stepping.{writes-comes, writes-stops, integer-gives, integer-stops, integer-unread}

@@ -1,5 +1,5 @@
 use Rattle.std.proofs.Common.{if◌then◌else◌, Ok, Err, neg_ℤ, pos}
-use Rattle.c_steps.specs.Parts.{step_pointer}
+use Rattle.ref_steps.specs.Parts.{step_pointer}
 use Rattle.ref_store.specs.Views.{place_in, scalar_in}
 use Rattle.ref_meaning.proofs.Both.{gives-handed}
 use Rattle.ref_meaning.proofs.Stepping.{writes-comes, writes-stops, pointer-gives, pointer-stops, pointer-unread}

@@ -4,8 +4,8 @@ use Rattle.c_num.specs.Conversion.{convert_to}
 use Rattle.c_num.specs.Arith.{IsRightOperand, outcome_of}
 use Rattle.c_num.proofs.Words.{value_fits}
 use Rattle.c_typed.specs.Table.{empty}
-use Rattle.c_meaning.specs.Values.{integer_of}
-use Rattle.c_meaning.specs.Meaning.{arithmetic, right_of}
+use Rattle.ref_semantics.specs.Values.{integer_of}
+use Rattle.ref_semantics.specs.Meaning.{arithmetic, right_of}
 use Rattle.ref_store.specs.Views.{scalar_in}
 use Rattle.ref_store.specs.Holding.{IsUndefined}
 use Rattle.ref_meaning.proofs.Both.{shifts-right, other-right, no_shift, right-fits, comes-arithmetic, undefined-arithmetic}

@@ -1,8 +1,8 @@
 use Rattle.std.proofs.Common.{refl, sym, ap, ◌∙◌}
 use Rattle.c_typed.proofs.Grown.{void_stands}
-use Rattle.c_meaning.specs.Values.{first_of_row, object_place, whole_row}
-use Rattle.c_meaning.specs.Meaning.{literal_type}
-use Rattle.c_meaning.specs.First.{stepped}
+use Rattle.ref_semantics.specs.Values.{first_of_row, object_place, whole_row}
+use Rattle.ref_semantics.specs.Meaning.{literal_type}
+use Rattle.ref_semantics.specs.First.{stepped}
 use Rattle.ref_store.proofs.first.within_literal.Goals as goal
 
 pub returns-in-Member-clause-means : goal.returns-in-Member-clause-means

@@ -1,5 +1,5 @@
 use Rattle.std.proofs.Common.{sym, ap, ◌∙◌}
-use Rattle.c_meaning.specs.Pointers.{is_past}
+use Rattle.ref_semantics.specs.Pointers.{is_past}
 use Rattle.ref_store.specs.Views.{scalar_in}
 use Rattle.ref_store.proofs.pointer.is_past.Goals as goal
 

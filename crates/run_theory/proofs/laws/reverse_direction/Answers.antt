@@ -2,4 +2,4 @@ use Rattle.run_theory.proofs.Simulations.{explains}
 use Rattle.run_theory.proofs.laws.reverse_direction.Goals as goal
 
 pub returns : goal.returns
-returns c = explains
+returns g c = λ by appends. explains by appends

@@ -2,4 +2,4 @@ use Rattle.run_theory.proofs.Simulations.{follows}
 use Rattle.run_theory.proofs.laws.simulation_follows.Goals as goal
 
 pub returns : goal.returns
-returns c = follows
+returns g c = λ by appends. follows by appends

@@ -8,7 +8,7 @@ use Rattle.c_typed.specs.Views.{value_in}
 use Rattle.c_typed.specs.StatementViews.{optional_value_in, stmt_in, StmtStands, block_in, BlockStands, switch_in, SwitchStands}
 use Rattle.c_typed.proofs.StatementsStay.{stmt_in-block, stmt_in-switch}
 use Rattle.tac_build.specs.Inside.{word_type, is_inside, is_condition, is_stmt, is_block, is_switch}
-use Rattle.tac_build.proofs.StatementRows.{block-items, switch-items}
+use Rattle.c_typed.proofs.StatementItems.{block-items, switch-items}
 use Rattle.tac_build.proofs.inside_statements.+statements.Goals as goal
 
 pub is_stmt-is_block-requires : goal.is_stmt-is_block-requires

@@ -1,11 +1,11 @@
-use Rattle.std.proofs.Common.{◌≡◌, ℕ, ◌<◌, ◌==◌, arith, length, List, [], ◌∷◌, ◌++◌, map, Option, Some, None, Bor, is_ok, if◌then◌else◌, refl, sym, ap, subst, ◌∙◌}
+use Rattle.std.proofs.Common.{◌≡◌, ◌==◌, arith, length, List, [], ◌∷◌, ◌++◌, map, None, is_ok, if◌then◌else◌, refl, sym, ap, subst, ◌∙◌}
 use Rattle.std.specs.Option.{option_copied}
 use Rattle.c_typed.specs.declared.definition.GlobalDef.{GlobalDef}
 use Rattle.c_typed.specs.declared.definition.First.{First}
 use Rattle.c_typed.specs.Typed as typed
 use Rattle.c_typed.specs.Table.{type_in}
 use Rattle.c_typed.specs.DefinitionViews.{global_in, all_first, GlobalsStand}
-use Rattle.c_rules.specs.LocalTables.{number_in}
+use Rattle.c_types_state.specs.LocalTables.{number_in}
 use Rattle.c_rules.specs.Elaborated.{with_global}
 use Rattle.c_types.specs.Globals.{global_number}
 use Rattle.c_types.proofs.VariableNumbers.{number-below, numbers-set, stand-set, globals-set, globals-stay, no-number, numbers-pushed, globals-pushed, stand-pushed, none-not, none-is, option-none}

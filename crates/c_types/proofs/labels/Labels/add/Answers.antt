@@ -1,4 +1,4 @@
-use Rattle.std.proofs.Common.{◌≡◌, not, List, Option, Some, ℤ, sym, ap, subst, ◌∙◌, rules, to_z, of_z, FitsSigned}
+use Rattle.std.proofs.Common.{not, List, Option, Some, ℤ, sym, ap, subst, ◌∙◌, rules, to_z, of_z, FitsSigned}
 use Rattle.std.specs.Int.{w128}
 use Rattle.std.proofs.lemmas.Int.{to_z-of_z}
 use Rattle.c_rules.specs.Statements.{repeats, with_label}

@@ -37,6 +37,8 @@ returns-in_default g c =
       does = λ function h. does_from_performs code function c.args.instr old heap result new heap' (c.perform_inside.ensures function h) _ _;
       read_cause = λ e. absurd (no_read_fault code some c.args.instr old heap result new heap' (c.perform_inside.ensures some refl) e);
       write_cause = λ e. absurd (no_write_fault code some c.args.instr old heap result new heap' (c.perform_inside.ensures some refl) e);
+      read_faultless = λ _. refl;
+      write_faultless = λ _. refl;
       reads_counted = omega arith;
       writes_counted = omega arith;
     }

@@ -1,8 +1,9 @@
 use Rattle.std.proofs.Common.{◌≡◌, ◌+◌, ◌-◌, suc, refl, sym, ◌∙◌, arith}
+use Rattle.machine.specs.declared.ends.RunEnd.TheVariants as ends
 use Rattle.machine.specs.declared.ends.Step.TheVariants.{On, Over}
 use Rattle.machine.specs.Run.{state_at}
 use Rattle.machine.specs.Loaded.{ready_of}
-use Rattle.machine.proofs.Running.{same_ready, spent_before, still_kept, stands_first, stands_next, gives_over, gives_spent, as_steps}
+use Rattle.machine.proofs.Running.{no_end, same_end, same_ready, spent_before, still_kept, stands_first, stands_next, gives_over, gives_spent, as_steps}
 use Rattle.machine.proofs.loaded.Machine.go_on.Goals as goal
 
 pub loop-turn-init : goal.loop-turn-init
@@ -10,8 +11,8 @@ loop-turn-init g c = record {
   loaded = c.requires.loaded;
   kept = record { code = refl; limits = refl; last = refl };
   spent = omega arith;
-  reads_counted = omega arith;
-  writes_counted = omega arith;
+  read_faultless = refl;
+  write_faultless = refl;
   stands = λ history left base trace told wrote. stands_first (ready_of c.args.self.now).code (state_at (ready_of c.args.self.now) history left trace) base _ _ (told, wrote);
 }
 
@@ -29,8 +30,8 @@ loop-turn-preserved g c = record {
   loaded = c.step.ensures.loaded;
   kept = still_kept (ready_of c.args.self.now) (ready_of c.loop-turn.self) (ready_of c.step.new.self) c.step.ensures.same _ c.loop-turn.invariant.kept;
   spent = omega (arith, c.loop-turn.invariant.spent, spent_before (ready_of c.args.self.now) (ready_of c.loop-turn.self) (ready_of c.step.new.self) c.step.ensures.same);
-  reads_counted = omega (arith, c.step.ensures.reads_counted, c.loop-turn.invariant.reads_counted);
-  writes_counted = omega (arith, c.step.ensures.writes_counted, c.loop-turn.invariant.writes_counted);
+  read_faultless = c.step.ensures.read_faultless (no_end c.step.result _ c.in-On.is) ∙ c.loop-turn.invariant.read_faultless;
+  write_faultless = c.step.ensures.write_faultless (no_end c.step.result _ c.in-On.is) ∙ c.loop-turn.invariant.write_faultless;
   stands = λ history left base trace told wrote.
       let from = ready_of c.args.self.now in
       let now = ready_of c.loop-turn.self in
@@ -100,3 +101,15 @@ returns-clause-more g c = omega (arith, c.loop-turn.invariant.spent)
 
 pub returns-clause-within : goal.returns-clause-within
 returns-clause-within g c = omega (arith, c.loop-turn.invariant.spent)
+
+pub returns-then-is_final-clause-read_faultless : goal.returns-then-is_final-clause-read_faultless
+returns-then-is_final-clause-read_faultless g c = λ other. c.step.ensures.read_faultless (λ e. other (same_end c.step.result c.in-Over.end ends.ReadFault c.in-Over.is e)) ∙ c.loop-turn.invariant.read_faultless
+
+pub returns-then-is_final-clause-write_faultless : goal.returns-then-is_final-clause-write_faultless
+returns-then-is_final-clause-write_faultless g c = λ other. c.step.ensures.write_faultless (λ e. other (same_end c.step.result c.in-Over.end ends.WriteFault c.in-Over.is e)) ∙ c.loop-turn.invariant.write_faultless
+
+pub returns-else-is_final-clause-read_faultless : goal.returns-else-is_final-clause-read_faultless
+returns-else-is_final-clause-read_faultless g c = λ other. c.step.ensures.read_faultless (λ e. other (same_end c.step.result c.in-Over.end ends.ReadFault c.in-Over.is e)) ∙ c.loop-turn.invariant.read_faultless
+
+pub returns-else-is_final-clause-write_faultless : goal.returns-else-is_final-clause-write_faultless
+returns-else-is_final-clause-write_faultless g c = λ other. c.step.ensures.write_faultless (λ e. other (same_end c.step.result c.in-Over.end ends.WriteFault c.in-Over.is e)) ∙ c.loop-turn.invariant.write_faultless

@@ -1,9 +1,9 @@
 use Rattle.std.proofs.Common.{◌≡◌, length, arith, sym, ap, subst, ◌∙◌}
 use Rattle.std.specs.Vec.{vec_len}
-use Rattle.c_meaning.specs.Store.{Eval, give}
-use Rattle.c_meaning.specs.Library.{library}
-use Rattle.c_steps.specs.Steps as steps
-use Rattle.c_steps.specs.Steps.{Config, ScalarGiven}
+use Rattle.ref_semantics.specs.Store.{Eval, give}
+use Rattle.ref_semantics.specs.Library.{library}
+use Rattle.ref_steps.specs.Steps as steps
+use Rattle.ref_steps.specs.Steps.{Config, ScalarGiven}
 use Rattle.ref_meaning.specs.Views.{table_of, around_run, functions_of, operands_of, newest, config_in}
 use Rattle.ref_meaning.specs.Holding.{IsCall}
 use Rattle.ref_meaning.specs.Doing.{acting}

@@ -1,6 +1,6 @@
 use Rattle.std.proofs.Common.{◌∷◌, [], ◌++◌, ◌<◌, ◌≤◌, if◌then◌else◌, reverse, refl, sym, ap, subst, ◌∙◌}
 use Rattle.std.proofs.lemmas.List.{reverse-append}
-use Rattle.c_meaning.specs.Meaning.{greatest_depth}
+use Rattle.ref_semantics.specs.Meaning.{greatest_depth}
 use Rattle.ref_meaning.specs.declared.control.Frame.{Frame}
 use Rattle.ref_meaning.specs.declared.control.Node.TheVariants as N
 use Rattle.ref_meaning.specs.declared.control.Stage.TheVariants as S

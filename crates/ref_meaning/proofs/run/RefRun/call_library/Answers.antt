@@ -1,6 +1,6 @@
 use Rattle.std.proofs.Common.{◌≡◌, List, None, sym, subst}
-use Rattle.c_meaning.specs.Values.{Scalar}
-use Rattle.c_meaning.specs.Library.{library}
+use Rattle.ref_semantics.specs.Values.{Scalar}
+use Rattle.ref_semantics.specs.Library.{library}
 use Rattle.ref_store.specs.Views.{scalar_in}
 use Rattle.ref_meaning.specs.Views.{table_of, around_run, operands_of, newest}
 use Rattle.ref_meaning.specs.Calling.{Evaluates, only_of}

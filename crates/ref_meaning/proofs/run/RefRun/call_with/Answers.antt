@@ -1,8 +1,8 @@
 use Rattle.std.proofs.Common.{◌∷◌, [], Ok, FitsSigned, to_z, of_z, to_z-of_z, rules, refl, sym, subst, ◌∙◌}
 use Rattle.std.specs.Int.{w128}
 use Rattle.c_typed.specs.declared.typed.LibraryFunction.{LibraryFunction}
-use Rattle.c_meaning.specs.Values.{NullValue}
-use Rattle.c_meaning.specs.Library.{library, allocated, natural_of, written}
+use Rattle.ref_semantics.specs.Values.{NullValue}
+use Rattle.ref_semantics.specs.Library.{library, allocated, natural_of, written}
 use Rattle.ref_store.specs.Views.{scalar_in}
 use Rattle.ref_store.specs.declared.value.Scalar.TheVariants as M
 use Rattle.ref_meaning.specs.Views.{table_of, around_run}

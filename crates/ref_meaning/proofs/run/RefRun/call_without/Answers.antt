@@ -1,9 +1,9 @@
 use Rattle.std.proofs.Common.{Ok, FitsSigned, to_z, of_z, to_z-of_z, rules, arith, sym, subst}
 use Rattle.std.specs.Int.{w128}
 use Rattle.c_typed.specs.declared.typed.LibraryFunction.{LibraryFunction}
-use Rattle.c_meaning.specs.Values.{Scalar}
-use Rattle.c_meaning.specs.Store.{Eval}
-use Rattle.c_meaning.specs.Library.{library}
+use Rattle.ref_semantics.specs.Values.{Scalar}
+use Rattle.ref_semantics.specs.Store.{Eval}
+use Rattle.ref_semantics.specs.Library.{library}
 use Rattle.ref_store.specs.declared.value.Scalar.TheVariants as M
 use Rattle.ref_meaning.specs.Views.{around_run}
 use Rattle.ref_meaning.specs.Calling.{Evaluates}

@@ -1,5 +1,5 @@
 use Rattle.std.proofs.Common.{sym, subst}
-use Rattle.c_steps.specs.Steps.{ScalarGiven}
+use Rattle.ref_steps.specs.Steps.{ScalarGiven}
 use Rattle.ref_store.specs.Views.{scalar_in}
 use Rattle.ref_meaning.specs.Views.{part_in, waiting}
 use Rattle.ref_meaning.specs.Doing.{taking}

@@ -2,10 +2,10 @@ use Rattle.std.proofs.Common.{◌∷◌, None, Some, true, false, FitsSigned, to
 use Rattle.std.specs.Int.{w128}
 use Rattle.c_typed.specs.declared.statement.Stmt.TheVariants as M
 use Rattle.c_typed.specs.StatementViews.{stmt_in, StmtStands}
-use Rattle.c_meaning.specs.Store.{give}
-use Rattle.c_steps.specs.Parts.{StmtPart}
-use Rattle.c_steps.specs.Steps as steps
-use Rattle.c_steps.specs.Steps.{ScalarGiven}
+use Rattle.ref_semantics.specs.Store.{give}
+use Rattle.ref_steps.specs.Parts.{StmtPart}
+use Rattle.ref_steps.specs.Steps as steps
+use Rattle.ref_steps.specs.Steps.{ScalarGiven}
 use Rattle.ref_store.specs.Views.{scalar_in}
 use Rattle.ref_meaning.specs.declared.control.Frame as memory_frame
 use Rattle.ref_meaning.specs.declared.control.Given.TheVariants as G

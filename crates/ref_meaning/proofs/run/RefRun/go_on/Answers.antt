@@ -2,7 +2,7 @@ use Rattle.std.proofs.Common.{Some, Err, sym, ap, subst, ◌∙◌, ◌+◌, ◌
 use Rattle.pcc_outside.proofs.Faults.{Rose-after}
 use Rattle.ref_meaning.specs.declared.run.RefEnd.{RefEnd}
 use Rattle.ref_meaning.specs.declared.run.RefEnd.TheVariants as E
-use Rattle.ref_meaning.specs.Running.{Answers}
+use Rattle.ref_meaning.specs.Running.{RunAnswers}
 use Rattle.ref_meaning.proofs.Going.{goes-first, ends-over, answers-end, spent-all, needs-unit, left-split, answers-halted, halted-read, halted-written, halted-unless, goes-further, respent, breaks-off, same-final, no-final, kept-halted, needed-over, needed-halted, spent-within}
 use Rattle.ref_meaning.proofs.run.RefRun.go_on.Goals as goal
 
@@ -19,7 +19,7 @@ loop-init g c = record {
 pub returns-in-Some-clause-answers : goal.returns-in-Some-clause-answers
 returns-in-Some-clause-answers g c = λ written behaviour base rest stands told out.
     let goes = c.loop.invariant.goes written behaviour base rest stands told out in
-    subst (λ (e : RefEnd). Answers c.args.self.now c.loop.self behaviour base rest c.args.steps e (g.I.Source.left c.loop.input) (g.O.Sink.written c.loop.out)) (sym c.end_of.ensures)
+    subst (λ (e : RefEnd). RunAnswers c.args.self.now c.loop.self behaviour base rest c.args.steps e (g.I.Source.left c.loop.input) (g.O.Sink.written c.loop.out)) (sym c.end_of.ensures)
     (answers-end c.args.self.now c.loop.self behaviour base rest c.args.steps _ _ c.in-Some.end
     (ends-over c.args.self.now c.loop.self behaviour base rest c.args.steps c.loop.left _ _ c.in-Some.end goes (sym c.end.ensures ∙ c.in-Some.is)))
 
@@ -86,7 +86,7 @@ pub returns-in-Err-clause-answers : goal.returns-in-Err-clause-answers
 returns-in-Err-clause-answers g c = λ written behaviour base rest stands told out.
     let goes = c.loop.invariant.goes written behaviour base rest stands told out in
     let split = left-split c.loop.left c.from-unit.result _ c.from-unit.ensures c.if-unit-left.false in
-    subst (λ (e : RefEnd). Answers c.args.self.now c.stop.new.self behaviour base rest c.args.steps e (g.I.Source.left c.act.new.input) (g.O.Sink.written c.act.new.out)) (sym c.stop.ensures.answer)
+    subst (λ (e : RefEnd). RunAnswers c.args.self.now c.stop.new.self behaviour base rest c.args.steps e (g.I.Source.left c.act.new.input) (g.O.Sink.written c.act.new.out)) (sym c.stop.ensures.answer)
     (answers-halted (Unit {0}) c.args.self.now c.loop.self c.act.new.self c.stop.new.self behaviour base rest c.args.steps c.loop.left (c.loop.left - c.from-unit.result) _ _ _ _ c.takes_unit.result c.in-Err.halt
     goes c.in-Err.ensures.kept c.in-Err.ensures.acts (sym c.takes_unit.ensures) split c.stop.ensures.halted)
 

@@ -1,9 +1,9 @@
 use Rattle.std.proofs.Common.{sym, ap, subst, ◌∙◌}
-use Rattle.c_meaning.specs.Pointers.{truth}
-use Rattle.c_meaning.specs.Store.{give}
-use Rattle.c_meaning.specs.Meaning.{is_true}
-use Rattle.c_steps.specs.Steps as steps
-use Rattle.c_steps.specs.Steps.{ScalarGiven, WayGiven}
+use Rattle.ref_semantics.specs.Pointers.{truth}
+use Rattle.ref_semantics.specs.Store.{give}
+use Rattle.ref_semantics.specs.Meaning.{is_true}
+use Rattle.ref_steps.specs.Steps as steps
+use Rattle.ref_steps.specs.Steps.{ScalarGiven, WayGiven}
 use Rattle.ref_store.specs.Views.{scalar_in}
 use Rattle.ref_meaning.specs.declared.control.Given.TheVariants as G
 use Rattle.ref_meaning.specs.declared.control.Stage.TheVariants as S

@@ -2,14 +2,14 @@ use Rattle.std.proofs.Common.{Some, sym, ap, subst, ◌∙◌, refl, is_some}
 use Rattle.std.proofs.lemmas.Bool.{false≢true}
 use Rattle.ref_meaning.specs.declared.run.RefEnd.{RefEnd}
 use Rattle.ref_meaning.specs.declared.run.RefEnd.TheVariants as E
-use Rattle.ref_meaning.specs.Running.{Answers, answer_of}
+use Rattle.ref_meaning.specs.Running.{RunAnswers, answer_of}
 use Rattle.ref_meaning.proofs.Going.{goes-first, ends-over, answers-end, same-final, same-end, no-final, needed-over}
 use Rattle.ref_meaning.proofs.run.RefRun.run.Goals as goal
 
 pub returns-in-Some-clause-answers : goal.returns-in-Some-clause-answers
 returns-in-Some-clause-answers g c = λ written behaviour base rest stands told out.
     let goes = goes-first c.args.self.now behaviour written base rest c.args.steps _ _ stands told out in
-    subst (λ (e : RefEnd). Answers c.args.self.now c.args.self.now behaviour base rest c.args.steps e (g.I.Source.left c.args.input.now) (g.O.Sink.written c.args.out.now)) (sym c.end_of.ensures)
+    subst (λ (e : RefEnd). RunAnswers c.args.self.now c.args.self.now behaviour base rest c.args.steps e (g.I.Source.left c.args.input.now) (g.O.Sink.written c.args.out.now)) (sym c.end_of.ensures)
     (answers-end c.args.self.now c.args.self.now behaviour base rest c.args.steps _ _ c.in-Some.end
     (ends-over c.args.self.now c.args.self.now behaviour base rest c.args.steps c.args.steps _ _ c.in-Some.end goes (sym c.end.ensures ∙ c.in-Some.is)))
 

@@ -2,7 +2,7 @@ use Rattle.std.proofs.Common.{arith, [], true, false, codes, sym, subst, ◌∙�
 use Rattle.run_theory.specs.declared.ends.UbKind.TheVariants as Ub
 use Rattle.run_theory.specs.Runs as Runs
 use Rattle.c_typed.specs.DefinitionViews.{function_in}
-use Rattle.c_meaning.specs.First.{main_type}
+use Rattle.ref_semantics.specs.First.{main_type}
 use Rattle.ref_meaning.specs.Views.{table_of}
 use Rattle.ref_meaning.specs.Moving.{Moves, IsOver}
 use Rattle.ref_meaning.proofs.Making.{number-within, called-is, called-stands, called-type-stands, type-differs, type-fits, in-table, acting-start}

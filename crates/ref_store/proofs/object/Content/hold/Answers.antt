@@ -1,5 +1,5 @@
 use Rattle.std.proofs.Common.{Result, Ok, Err, OnErr, Some, sym, subst}
-use Rattle.c_meaning.specs.Store.{holding}
+use Rattle.ref_semantics.specs.Store.{holding}
 use Rattle.ref_store.specs.declared.object.Content as memory_content
 use Rattle.ref_store.specs.Views.{scalar_in}
 use Rattle.ref_store.specs.Holding.{ContentIs}

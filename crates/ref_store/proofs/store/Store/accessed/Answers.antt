@@ -1,7 +1,7 @@
 use Rattle.std.proofs.Common.{sym, ap, subst, ◌∙◌}
-use Rattle.c_meaning.specs.Values.{Place, is_end}
-use Rattle.c_meaning.specs.Pointers.{accessed}
-use Rattle.ref_store.specs.Holding.{Does}
+use Rattle.ref_semantics.specs.Values.{Place, is_end}
+use Rattle.ref_semantics.specs.Pointers.{accessed}
+use Rattle.ref_store.specs.Holding.{EvaluatesTo}
 use Rattle.ref_store.specs.Views.{scalar_in}
 use Rattle.ref_store.proofs.Giving.{comes-same}
 use Rattle.ref_store.proofs.Pointing.{accessed-dead, accessed-null, accessed-end, accessed-there}
@@ -33,4 +33,4 @@ returns-clause-gives c = λ around base state at.
     let does = accessed-there c.args.here p state
     (sym (c.is_dead_pointer.ensures around base state at) ∙ c.if-is_dead_pointer.false) (sym (c.is_null.ensures table) ∙ c.if-is_null.false)
     (ap is_end is ∙ (sym (c.is_end.ensures table) ∙ c.if-is_end.false)) in
-    comes-same around store base (accessed c.args.here p) state _ (subst (λ (q : Place). Does (accessed c.args.here p) state q state) is does) at
+    comes-same around store base (accessed c.args.here p) state _ (subst (λ (q : Place). EvaluatesTo (accessed c.args.here p) state q state) is does) at

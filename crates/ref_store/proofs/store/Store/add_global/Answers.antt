@@ -1,7 +1,7 @@
 use Rattle.std.proofs.Common.{◌≡◌, Some, None, true, false, not, refl, sym, ap, subst, ◌∙◌}
 use Rattle.c_typed.specs.Table.{Stands, type_in}
-use Rattle.c_meaning.specs.Values as V
-use Rattle.c_meaning.specs.Store.{is_dead}
+use Rattle.ref_semantics.specs.Values as V
+use Rattle.ref_semantics.specs.Store.{is_dead}
 use Rattle.ref_store.specs.declared.value.Name.TheVariants as N
 use Rattle.ref_store.specs.declared.object.Content.TheVariants as C
 use Rattle.ref_store.specs.declared.store.Store.{Store}
@@ -30,7 +30,7 @@ returns-clause-added c = λ around base state at.
     (λ offset. subst (λ memory. HeldIs table memory None) (sym (is_new.held offset)) refl) in
     let new : Store = record store { objects = c.insert.new.self } in
     let changes : Changes name (Some (C.Elements made)) store.objects new.objects = c.in_ok-insert.ensures.updates.0 in
-    subst (λ n. At around new base (record state { objects = with_new (V.Outer n) content state.objects })) c.as_slice.ensures (at_new around store base state name content new (Some (C.Elements made)) changes is none at)
+    subst (λ n. At around new base (record state { objects = with_new (V.GlobalObject n) content state.objects })) c.as_slice.ensures (at_new around store base state name content new (Some (C.Elements made)) changes is none at)
 
 pub returns-then-is_some-clause-added : goal.returns-then-is_some-clause-added
 returns-then-is_some-clause-added c = λ around base state at.
@@ -40,4 +40,4 @@ returns-then-is_some-clause-added c = λ around base state at.
     let content = unfilled (Some (type_in table c.args.global.now.c_type)) in
     let there : is_dead (state.objects (name_of name)) ≡ false =
     looked_dead table store.objects name c.get.result (state.objects (name_of name)) c.get.ensures.value (at.objects name) ∙ ap not (sym c.is_some.ensures ∙ c.if-is_some.true) in
-    subst (λ n. At around store base (record state { objects = with_new (V.Outer n) content state.objects })) c.as_slice.ensures (at_left around store base state name content there at)
+    subst (λ n. At around store base (record state { objects = with_new (V.GlobalObject n) content state.objects })) c.as_slice.ensures (at_left around store base state name content there at)

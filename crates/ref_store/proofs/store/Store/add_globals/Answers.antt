@@ -1,8 +1,8 @@
 use Rattle.std.proofs.Common.{◌≡◌, ◌<◌, ◌∷◌, ◌++◌, [], length, get_or, take, map, Some, sym, ap, subst, ◌∙◌}
 use Rattle.c_typed.specs.Table.{Interned, Stands, type_in}
 use Rattle.c_typed.specs.DefinitionViews.{program_of, global_in}
-use Rattle.c_meaning.specs.Values.{Outer}
-use Rattle.c_meaning.specs.First.{around_of, first_state}
+use Rattle.ref_semantics.specs.Values.{GlobalObject}
+use Rattle.ref_semantics.specs.First.{around_of, first_state}
 use Rattle.ref_store.specs.Beginning.{unfilled}
 use Rattle.ref_store.specs.Firsts.{Has, with_new, unfilled_of}
 use Rattle.ref_store.proofs.FirstObjects.{global_stands, mapped_more, unfilled_global}
@@ -33,12 +33,12 @@ loop-global-preserved c =
     let types = ap (λ t. t.now) c.loop-global.invariant.types ∙ c.requires.types in
     let had = map (global_in known) (take n globals) in
     let new = c.add_global.new.self in
-    let added : Has program new (with_new (Outer global.name) (unfilled (Some (type_in known global.c_type))) (unfilled_of had [])) =
-    subst (λ (t : Interned). Has program new (with_new (Outer global.name) (unfilled (Some (type_in t global.c_type))) (unfilled_of had []))) types
+    let added : Has program new (with_new (GlobalObject global.name) (unfilled (Some (type_in known global.c_type))) (unfilled_of had [])) =
+    subst (λ (t : Interned). Has program new (with_new (GlobalObject global.name) (unfilled (Some (type_in t global.c_type))) (unfilled_of had []))) types
     (c.in_ok-add_global.ensures.added (around_of program) 0 (record (first_state program [] 0) { objects = unfilled_of had [] }) c.loop-global.invariant.has) in
     record {
       types = c.in_ok-add_global.ensures.types ∙ c.loop-global.invariant.types;
       has = subst (λ l. Has program new (unfilled_of l [])) (mapped_more (global_in known) globals n global within at)
-          (at_same (around_of program) new 0 (record (first_state program [] 0) { objects = with_new (Outer global.name) (unfilled (Some (type_in known global.c_type))) (unfilled_of had []) })
+          (at_same (around_of program) new 0 (record (first_state program [] 0) { objects = with_new (GlobalObject global.name) (unfilled (Some (type_in known global.c_type))) (unfilled_of had []) })
           (unfilled_of (had ++ global_in known global ∷ []) []) (unfilled_global had (global_in known global)) added);
     }

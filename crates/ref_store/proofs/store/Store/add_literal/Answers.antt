@@ -2,8 +2,8 @@ use Rattle.std.proofs.Common.{◌≡◌, Some, true, false, suc, length, not, sy
 use Rattle.c_num.specs.declared.IntType.TheVariants as I
 use Rattle.c_typed.specs.Types.{Integer}
 use Rattle.c_typed.specs.DefinitionViews.{literal_of}
-use Rattle.c_meaning.specs.Store.{is_dead}
-use Rattle.c_meaning.specs.First.{literal_content, characters}
+use Rattle.ref_semantics.specs.Store.{is_dead}
+use Rattle.ref_semantics.specs.First.{literal_content, characters}
 use Rattle.ref_store.specs.declared.value.Name.TheVariants as N
 use Rattle.ref_store.specs.declared.object.Content.TheVariants as C
 use Rattle.ref_store.specs.declared.store.Store.{Store}

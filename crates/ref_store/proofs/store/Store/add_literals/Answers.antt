@@ -1,7 +1,7 @@
 use Rattle.std.proofs.Common.{◌≡◌, ◌<◌, ◌∷◌, ◌++◌, [], length, get_or, take, map, Some, ap, subst, ◌∙◌}
 use Rattle.c_typed.specs.DefinitionViews.{program_of, literal_of}
-use Rattle.c_meaning.specs.Values.{Text}
-use Rattle.c_meaning.specs.First.{around_of, first_state, literal_content}
+use Rattle.ref_semantics.specs.Values.{LiteralObject}
+use Rattle.ref_semantics.specs.First.{around_of, first_state, literal_content}
 use Rattle.ref_store.specs.Firsts.{Has, with_new, unfilled_of}
 use Rattle.ref_store.proofs.FirstObjects.{mapped_more, unfilled_literal}
 use Rattle.ref_store.proofs.FirstStore.{at_same}
@@ -23,6 +23,6 @@ loop-literal-preserved c =
     record {
       types = c.in_ok-add_literal.ensures.types ∙ c.loop-literal.invariant.types;
       has = subst (λ l. Has program new (unfilled_of globals l)) (mapped_more literal_of literals n literal within at)
-          (at_same (around_of program) new 0 (record (first_state program [] 0) { objects = with_new (Text literal.place) (literal_content (Some (literal_of literal))) (unfilled_of globals had) })
+          (at_same (around_of program) new 0 (record (first_state program [] 0) { objects = with_new (LiteralObject literal.place) (literal_content (Some (literal_of literal))) (unfilled_of globals had) })
           (unfilled_of globals (had ++ literal_of literal ∷ [])) (unfilled_literal globals had (literal_of literal)) added);
     }

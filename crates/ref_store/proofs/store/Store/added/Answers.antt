@@ -1,21 +1,25 @@
-use Rattle.std.proofs.Common.{◌≡◌, true, if◌then◌else◌, ℤ, pos, neg_ℤ, ◌<ℤ◌, ◌≤ℤ◌, nat_abs, Fits, FitsSigned, w64, to_z-of_z, rules, sym, ap, subst, ◌∙◌}
+use Rattle.std.proofs.Common.{◌≡◌, true, if◌then◌else◌, ℤ, pos, neg_ℤ, ◌<ℤ◌, ◌≤ℤ◌, nat_abs, Fits, FitsSigned, w64, to_z-of_z, rules, refl, sym, ap, subst, ◌∙◌}
 use Rattle.std.specs.Int.{w128}
-use Rattle.std.proofs.lemmas.Bool.{false≢true}
-use Rattle.c_typed.specs.Table.{empty}
-use Rattle.c_meaning.specs.Values.{PointerValue, at_index}
-use Rattle.c_meaning.specs.Store.{is_null_pointer}
-use Rattle.c_meaning.specs.Pointers.{added}
+use Rattle.ref_semantics.specs.Values.{PointerValue, place_of, at_index}
+use Rattle.ref_semantics.specs.Pointers.{added}
 use Rattle.ref_store.specs.Views.{place_in, scalar_in}
-use Rattle.ref_store.specs.Holding.{Does, IsMoved}
+use Rattle.ref_store.specs.Holding.{EvaluatesTo, IsMoved}
 use Rattle.ref_store.proofs.Giving.{comes-same}
-use Rattle.ref_store.proofs.Pointing.{index-exact, lt-true, lt-false, is_outside, outside-negative, outside-above, outside-not_above, outside-null, fits-cast, not-true, not-false, added-dead, added-outside, added-null, added-there}
+use Rattle.ref_store.proofs.Pointing.{index-exact, lt-true, lt-false, is_outside, outside-negative, outside-above, outside-not_above, fits-cast, added-dead, added-outside, added-null, added-there}
 use Rattle.ref_store.proofs.store.Store.added.Goals as goal
-use Rattle.ref_store.proofs.store.Store.added.Goals.{then-index-from, else-index-from, then-index-lt0-via-then-index-lt0, then-index-lt0-via-else-index-lt0+then-is_above}
+use Rattle.ref_store.proofs.store.Store.added.Goals.{then-index-lt0-via-then-index-lt0, then-index-lt0-via-else-index-lt0+then-index-from}
 
 pub returns-then-is_dead_pointer-clause-gives : goal.returns-then-is_dead_pointer-clause-gives
 returns-then-is_dead_pointer-clause-gives c = λ around base state at.
     added-dead c.args.here (scalar_in c.args.self.now.types.now c.args.pointer) (if c.args.is_minus then neg_ℤ c.args.number else c.args.number) state
     (sym (c.is_dead_pointer.ensures around base state at) ∙ c.if-is_dead_pointer.true)
+
+pub returns-then-is_null-clause-gives : goal.returns-then-is_null-clause-gives
+returns-then-is_null-clause-gives c = λ around base state at.
+    let table = c.args.self.now.types.now in
+    let p = scalar_in table c.args.pointer in
+    let z = if c.args.is_minus then neg_ℤ c.args.number else c.args.number in
+    added-null c.args.here p z state (place_of p) refl (sym (c.is_dead_pointer.ensures around base state at) ∙ c.if-is_dead_pointer.false) (sym (c.is_null.ensures table) ∙ c.if-is_null.true)
 
 pub returns-then-index-lt0-clause-gives : goal.returns-then-index-lt0-clause-gives
 returns-then-index-lt0-clause-gives c = λ around base state at.
@@ -26,34 +30,14 @@ returns-then-index-lt0-clause-gives c = λ around base state at.
     let m = c.moved-index.result in
     let moved : IsMoved place.index z m = subst (λ (x : ℤ). IsMoved place.index (if c.args.is_minus then neg_ℤ x else x) m) (to_z-of_z c.ranges.number) c.moved-index.ensures in
     let fits : FitsSigned w128 m = record { sfits = c.moved-index.type_inv } in
-    let from : FitsSigned w128 c.from.result = record { sfits = c.from.type_inv } in
     let zero : FitsSigned w128 (pos 0) = search rules in
-    let outside : is_outside place z (is_null_pointer p) ≡ true =
+    let outside : is_outside place z ≡ true =
     elim c.then-index-lt0.branch [
-      | then-index-lt0-via-then-index-lt0 w ↦ outside-negative place z m (is_null_pointer p) moved (lt-true m (pos 0) fits zero w.if-index-lt0.true)
-      | then-index-lt0-via-else-index-lt0+then-is_above w ↦ elim c.if-index-from.branch [
-        | then-index-from v ↦
-            outside-above place z m (is_null_pointer p) moved
-            (subst (λ (x : ℤ). x <ℤ m) c.from.ensures (lt-true c.from.result m from fits v.if-index-from.true))
-            (sym (v.is_null.ensures table) ∙ not-true v.is_null.result (sym v.is_above-is ∙ w.if-is_above.true))
-        | else-index-from v ↦ absurd (false≢true (sym v.if-index-from.false ∙ (sym v.is_above-is ∙ w.if-is_above.true)))
-      ]
+      | then-index-lt0-via-then-index-lt0 w ↦ outside-negative place z m moved (lt-true m (pos 0) fits zero w.if-index-lt0.true)
+      | then-index-lt0-via-else-index-lt0+then-index-from w ↦
+          outside-above place z m moved (subst (λ (x : ℤ). x <ℤ m) w.from.ensures (lt-true w.from.result m (record { sfits = w.from.type_inv }) fits w.if-index-from.true))
     ] in
-    added-outside c.args.here p z state place (c.place-place.ensures.means table) (sym (c.is_dead_pointer.ensures around base state at) ∙ c.if-is_dead_pointer.false) outside
-
-pub returns-then-is_null-clause-gives : goal.returns-then-is_null-clause-gives
-returns-then-is_null-clause-gives c = λ around base state at.
-    let table = c.args.self.now.types.now in
-    let p = scalar_in table c.args.pointer in
-    let place = place_in table c.place-place.result in
-    let z = if c.args.is_minus then neg_ℤ c.args.number else c.args.number in
-    let m = c.moved-index.result in
-    let moved : IsMoved place.index z m = subst (λ (x : ℤ). IsMoved place.index (if c.args.is_minus then neg_ℤ x else x) m) (to_z-of_z c.ranges.number) c.moved-index.ensures in
-    let fits : FitsSigned w128 m = record { sfits = c.moved-index.type_inv } in
-    let zero : FitsSigned w128 (pos 0) = search rules in
-    let null = sym (c.is_null-2.ensures table) ∙ c.if-is_null.true in
-    let outside = outside-null place z m (is_null_pointer p) moved (lt-false m (pos 0) fits zero c.if-index-lt0.false) null in
-    added-null c.args.here p z state place (c.place-place.ensures.means table) (sym (c.is_dead_pointer.ensures around base state at) ∙ c.if-is_dead_pointer.false) outside null
+    added-outside c.args.here p z state place (c.place-place.ensures.means table) (sym (c.is_dead_pointer.ensures around base state at) ∙ c.if-is_dead_pointer.false) (sym (c.is_null.ensures table) ∙ c.if-is_null.false) outside
 
 pub overflow_cast-result : goal.overflow_cast-result
 overflow_cast-result c =
@@ -63,11 +47,7 @@ overflow_cast-result c =
     let fits : FitsSigned w128 m = record { sfits = c.moved-index.type_inv } in
     let from : FitsSigned w128 c.from.result = record { sfits = c.from.type_inv } in
     let zero : FitsSigned w128 (pos 0) = search rules in
-    let below : m ≤ℤ pos row.count = subst (λ (x : ℤ). m ≤ℤ x) c.from.ensures (elim c.if-index-from.branch [
-      | then-index-from v ↦
-          absurd (false≢true (sym c.if-is_null.false ∙ (c.is_null-2.ensures empty ∙ (sym (v.is_null.ensures empty) ∙ not-false v.is_null.result (sym v.is_above-is ∙ c.if-is_above.false)))))
-      | else-index-from v ↦ lt-false c.from.result m from fits v.if-index-from.false
-    ]) in
+    let below : m ≤ℤ pos row.count = subst (λ (x : ℤ). m ≤ℤ x) c.from.ensures (lt-false c.from.result m from fits c.if-index-from.false) in
     fits-cast m row.count fits (lt-false m (pos 0) fits zero c.if-index-lt0.false) below small.fits
 
 pub returns-clause-gives : goal.returns-clause-gives
@@ -83,14 +63,9 @@ returns-clause-gives c = λ around base state at.
     let fits : FitsSigned w128 m = record { sfits = c.moved-index.type_inv } in
     let from : FitsSigned w128 c.from.result = record { sfits = c.from.type_inv } in
     let zero : FitsSigned w128 (pos 0) = search rules in
-    let null = sym (c.is_null-2.ensures table) ∙ c.if-is_null.false in
-    let below : m ≤ℤ pos place.row.count = subst (λ (x : ℤ). m ≤ℤ x) c.from.ensures (elim c.if-index-from.branch [
-      | then-index-from v ↦
-          absurd (false≢true (sym null ∙ (sym (v.is_null.ensures table) ∙ not-false v.is_null.result (sym v.is_above-is ∙ c.if-is_above.false))))
-      | else-index-from v ↦ lt-false c.from.result m from fits v.if-index-from.false
-    ]) in
+    let below : m ≤ℤ pos place.row.count = subst (λ (x : ℤ). m ≤ℤ x) c.from.ensures (lt-false c.from.result m from fits c.if-index-from.false) in
     let least = lt-false m (pos 0) fits zero c.if-index-lt0.false in
-    let outside = outside-not_above place z m (is_null_pointer p) moved small.fits least below in
-    let does = added-there c.args.here p z state place (c.place-place.ensures.means table) (sym (c.is_dead_pointer.ensures around base state at) ∙ c.if-is_dead_pointer.false) outside null in
+    let outside = outside-not_above place z m moved small.fits least below in
+    let does = added-there c.args.here p z state place (c.place-place.ensures.means table) (sym (c.is_dead_pointer.ensures around base state at) ∙ c.if-is_dead_pointer.false) (sym (c.is_null.ensures table) ∙ c.if-is_null.false) outside in
     let index = sym (index-exact place.index place.row.count z m moved small.fits least below) ∙ ap nat_abs (sym (to_z-of_z fits)) in
-    comes-same around store base (added c.args.here p z) state _ (subst (λ n. Does (added c.args.here p z) state (PointerValue (at_index place n)) state) index does) at
+    comes-same around store base (added c.args.here p z) state _ (subst (λ n. EvaluatesTo (added c.args.here p z) state (PointerValue (at_index place n)) state) index does) at

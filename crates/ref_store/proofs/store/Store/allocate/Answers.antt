@@ -1,8 +1,8 @@
 use Rattle.std.proofs.Common.{◌≡◌, ℕ, zero, suc, ◌<◌, false, true≢false, ◌++◌, [], ◌∷◌, Some, ℤ, pos, negsuc, nat_abs, int_le, refl, sym, ap, subst, ◌∙◌, add-one, to_z-of_z, arith}
 use Rattle.run_theory.specs.Runs.{Allocated}
-use Rattle.c_meaning.specs.Values.{Heap, Raw, RawPointer}
-use Rattle.c_meaning.specs.Store.{Around, State, Then, with_content}
-use Rattle.c_meaning.specs.Library.{allocated, natural_of}
+use Rattle.ref_semantics.specs.Values.{Heap, Raw, RawPointer}
+use Rattle.ref_semantics.specs.Store.{TypeEnvironment, State, Then, with_content}
+use Rattle.ref_semantics.specs.Library.{allocated, natural_of}
 use Rattle.ref_store.specs.declared.value.Name.TheVariants as N
 use Rattle.ref_store.specs.declared.object.Content.TheVariants as C
 use Rattle.ref_store.specs.declared.store.Store.{Store}
@@ -10,7 +10,7 @@ use Rattle.ref_store.specs.Holding.{At, Comes, left, raw}
 use Rattle.ref_store.proofs.Updating.{Changes, all_changed, unheard}
 use Rattle.ref_store.proofs.store.Store.allocate.Goals as goal
 
-allocates : (around : Around) (store new : Store) (base : ℕ) (state : State) (size next : ℕ) → 0 < size → next ≡ suc store.next_heap
+allocates : (around : TypeEnvironment) (store new : Store) (base : ℕ) (state : State) (size next : ℕ) → 0 < size → next ≡ suc store.next_heap
     → Changes (N.Heap store.next_heap) (Some (C.Raw size)) store.objects new.objects → At around store base state
     → Comes around (record store { objects = new.objects; next_heap = next }) base (allocated size) state (RawPointer store.next_heap)
 allocates around store new base state zero next some more changes at = absurd (omega arith)
@@ -31,7 +31,7 @@ allocates around store new base state (suc size) next some more changes at = rec
     after : ℕ → State
     after number = record state { objects = with_content (Heap number) (Raw (suc size)) state.objects; trace = state.trace ++ (Allocated number (suc size) ∷ []); next_heap = suc number }
 
-allocates_for : (around : Around) (store new : Store) (base : ℕ) (state : State) (wanted size next : ℕ) → wanted ≡ size → 0 < size → next ≡ suc store.next_heap
+allocates_for : (around : TypeEnvironment) (store new : Store) (base : ℕ) (state : State) (wanted size next : ℕ) → wanted ≡ size → 0 < size → next ≡ suc store.next_heap
     → Changes (N.Heap store.next_heap) (Some (C.Raw size)) store.objects new.objects → At around store base state
     → Comes around (record store { objects = new.objects; next_heap = next }) base (allocated wanted) state (RawPointer store.next_heap)
 allocates_for around store new base state wanted size next same some more changes at =

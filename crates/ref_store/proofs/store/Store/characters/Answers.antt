@@ -2,8 +2,8 @@ use Rattle.std.proofs.Common.{◌≡◌, ◌+◌, ◌==◌, if◌then◌else◌,
 use Rattle.std.specs.Int.{w128}
 use Rattle.c_num.specs.declared.IntType.TheVariants as I
 use Rattle.c_num.specs.Conversion.{convert_to}
-use Rattle.c_meaning.specs.First.{characters}
-use Rattle.c_meaning.specs.Values as V
+use Rattle.ref_semantics.specs.First.{characters}
+use Rattle.ref_semantics.specs.Values as V
 use Rattle.c_typed.proofs.Grown.{integer_stands}
 use Rattle.indexmap.specs.IndexMap.{get}
 use Rattle.ref_store.specs.Holding.{HeldIs}

@@ -1,6 +1,6 @@
 use Rattle.std.proofs.Common.{◌≡◌, ℕ, suc, true, nat_eq, take, length}
 use Rattle.indexmap.specs.IndexMap.{get}
-use Rattle.c_meaning.specs.First.{characters}
+use Rattle.ref_semantics.specs.First.{characters}
 use Rattle.ref_store.specs.Holding.{HeldIs}
 use Rattle.ref_store.proofs.store.Store.characters.Given as goal
 

@@ -1,6 +1,6 @@
 use Rattle.std.proofs.Common.{◌≡◌, ◌∙◌, sym, ap, pos}
-use Rattle.c_meaning.specs.Values.{Place}
-use Rattle.c_meaning.specs.Pointers.{truth, truth_of_equality}
+use Rattle.ref_semantics.specs.Values.{Place}
+use Rattle.ref_semantics.specs.Pointers.{truth, truth_of_equality}
 use Rattle.ref_store.specs.Views.{scalar_in}
 use Rattle.ref_store.proofs.Comparing.{or-first, or-second, or-neither, compared-dead, equality-beside, order-beside, equality-comes, order-comes, truth-of-unlike, truth-of-like, compared-as}
 use Rattle.ref_store.proofs.Wanting.{out_where, handed_on}
@@ -39,12 +39,12 @@ returns-then-is_equality-clause-gives c = λ around base state at.
 pub returns-then-is_equality-clause-stands : goal.returns-then-is_equality-clause-stands
 returns-then-is_equality-clause-stands c = c.truth.ensures.stands c.args.self.now.types.now
 
-pub returns-then-not-is_one_row-clause-gives : goal.returns-then-not-is_one_row-clause-gives
-returns-then-not-is_one_row-clause-gives c = λ around base state at.
+pub returns-then-not-are_in_one_row-clause-gives : goal.returns-then-not-are_in_one_row-clause-gives
+returns-then-not-are_in_one_row-clause-gives c = λ around base state at.
     let table = c.args.self.now.types.now in
     order-beside around c.args.relation c.args.here (scalar_in table c.args.a) (scalar_in table c.args.b) state
     (or-neither _ _ (c.if-is_dead_pointer.ensures around base state at) (c.if-is_dead_pointer-2.ensures around base state at))
-    c.if-is_equality.ensures c.if-not-is_one_row.ensures
+    c.if-is_equality.ensures (c.if-not-are_in_one_row.ensures around base state at)
 
 pub returns-clause-gives : goal.returns-clause-gives
 returns-clause-gives c = λ around base state at.
@@ -53,7 +53,7 @@ returns-clause-gives c = λ around base state at.
     let index_b = sym (ap (λ (p : Place). pos p.index) (c.place-2.ensures.means table)) ∙ sym c.from-b.ensures in
     order-comes around c.args.self.now base c.args.relation c.args.here (scalar_in table c.args.a) (scalar_in table c.args.b) state _
     (or-neither _ _ (c.if-is_dead_pointer.ensures around base state at) (c.if-is_dead_pointer-2.ensures around base state at))
-    c.if-is_equality.ensures c.if-not-is_one_row.ensures at
+    c.if-is_equality.ensures (c.if-not-are_in_one_row.ensures around base state at) at
     (ap truth (compared-as c.args.relation _ _ c.from-a.result c.from-b.result c.compare.result c.from-a.type_inv c.from-b.type_inv index_a index_b c.compare.ensures.value) ∙ sym (c.truth-2.ensures.means table))
 
 pub returns-clause-stands : goal.returns-clause-stands

@@ -1,10 +1,10 @@
 use Rattle.std.proofs.Common.{ℤ, pos, ◌<ℤ◌, ◌≤ℤ◌, nat_abs, Fits, FitsSigned, w64, to_z-of_z, arith, rules, sym, ap, subst, ◌∙◌}
 use Rattle.std.specs.Int.{w128}
 use Rattle.std.proofs.lemmas.Int.{ints}
-use Rattle.c_meaning.specs.Values.{at_index}
-use Rattle.c_meaning.specs.Pointers.{element}
+use Rattle.ref_semantics.specs.Values.{at_index}
+use Rattle.ref_semantics.specs.Pointers.{element}
 use Rattle.ref_store.specs.Views.{place_in, scalar_in}
-use Rattle.ref_store.specs.Holding.{Does, IsMoved}
+use Rattle.ref_store.specs.Holding.{EvaluatesTo, IsMoved}
 use Rattle.ref_store.proofs.Giving.{comes-same}
 use Rattle.ref_store.proofs.Pointing.{index-exact, negative, not_negative, index-at_least, index-below, index-negative, lt-true, lt-false, le-true, le-false, element-dead, element-null, element-over, element-before, element-there}
 use Rattle.ref_store.proofs.store.Store.element.Goals as goal
@@ -64,4 +64,4 @@ returns-clause-gives c = λ around base state at.
     (sym (c.is_dead_pointer.ensures around base state at) ∙ c.if-is_dead_pointer.false) (sym (c.is_null.ensures table) ∙ c.if-is_null.false)
     (index-below place.index place.row.count z m moved small.fits least under) (not_negative place.index place.row.count z m moved least) in
     let index = sym (index-exact place.index place.row.count z m moved small.fits least (omega (arith, ints))) ∙ ap nat_abs (sym (to_z-of_z fits)) in
-    comes-same around store base (element c.args.here p z) state _ (subst (λ n. Does (element c.args.here p z) state (at_index place n) state) index does) at
+    comes-same around store base (element c.args.here p z) state _ (subst (λ n. EvaluatesTo (element c.args.here p z) state (at_index place n) state) index does) at

@@ -2,7 +2,7 @@ use Rattle.std.proofs.Common.{◌≡◌, ◌<◌, ◌≤◌, ◌∷◌, ◌++◌
 use Rattle.std.specs.List.{list_any}
 use Rattle.std.specs.Map.{lookup}
 use Rattle.byte_string.specs.declared.ByteString.{ByteString}
-use Rattle.c_rules.specs.Names.{contains}
+use Rattle.c_typed.specs.Names.{contains}
 use Rattle.ref_store.specs.Views.{name_of, same_memory}
 use Rattle.ref_store.specs.Holding.{ContentIs, dead}
 use Rattle.ref_store.proofs.FirstObjects.{mapped_more, unfilled_none}

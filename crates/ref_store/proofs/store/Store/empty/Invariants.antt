@@ -1,6 +1,6 @@
 use Rattle.std.proofs.Common.{◌≡◌, ℕ, List, take, map, bytes_eq}
 use Rattle.std.specs.List.{list_any}
-use Rattle.c_rules.specs.Names.{contains}
+use Rattle.c_typed.specs.Names.{contains}
 use Rattle.ref_store.proofs.store.Store.empty.Given as goal
 
 abbrev pub invariant-loop-tag : goal.invariant-loop-tag

@@ -2,8 +2,8 @@ use Rattle.std.proofs.Common.{◌≡◌, ◌<◌, length, get_or, take, nat_eq, 
 use Rattle.indexmap.specs.IndexMap.{get}
 use Rattle.c_typed.specs.Table.{type_in}
 use Rattle.c_typed.specs.DefinitionViews.{program_of, all_first}
-use Rattle.c_meaning.specs.Values.{Heap, object_place, first_of_row}
-use Rattle.c_meaning.specs.First.{first_held}
+use Rattle.ref_semantics.specs.Values.{Heap, object_place, first_of_row}
+use Rattle.ref_semantics.specs.First.{first_held}
 use Rattle.ref_store.specs.Views.{place_in, row_in}
 use Rattle.ref_store.specs.Holding.{HeldIs}
 use Rattle.ref_store.proofs.FirstValues.{given_step}

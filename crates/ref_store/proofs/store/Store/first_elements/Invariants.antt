@@ -1,7 +1,7 @@
 use Rattle.std.proofs.Common.{◌≡◌, true, take}
 use Rattle.c_typed.specs.Table.{type_in}
 use Rattle.c_typed.specs.DefinitionViews.{program_of, all_first}
-use Rattle.c_meaning.specs.First.{first_held}
+use Rattle.ref_semantics.specs.First.{first_held}
 use Rattle.ref_store.specs.Holding.{AllHeld}
 use Rattle.ref_store.proofs.store.Store.first_elements.Given as goal
 

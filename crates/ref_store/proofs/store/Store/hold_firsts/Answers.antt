@@ -2,9 +2,9 @@ use Rattle.std.proofs.Common.{◌≡◌, ◌<◌, ◌+◌, ◌-◌, true, ◌++�
 use Rattle.std.proofs.lemmas.List.{drop_all, length_push}
 use Rattle.c_typed.specs.Table.{Interned, Stands, type_in}
 use Rattle.c_typed.specs.DefinitionViews.{program_of, global_in, all_first}
-use Rattle.c_meaning.specs.Values.{Outer, Content, Elements}
-use Rattle.c_meaning.specs.Store.{with_content}
-use Rattle.c_meaning.specs.First.{around_of, first_state, first_held, first_objects}
+use Rattle.ref_semantics.specs.Values.{GlobalObject, Content, Elements}
+use Rattle.ref_semantics.specs.Store.{with_content}
+use Rattle.ref_semantics.specs.First.{around_of, first_state, first_held, first_objects}
 use Rattle.ref_store.specs.Beginning.{unfilled_objects}
 use Rattle.ref_store.specs.Firsts.{Has, AreFirsts, filled}
 use Rattle.ref_store.proofs.FirstObjects.{filled_all, filled_step, firsts_pop, first_content, global_stands}
@@ -49,7 +49,7 @@ loop-elements-preserved c =
       within = omega (arith, within);
       firsts = subst (λ t. AreFirsts program t globals made) (ap (λ t. t.now) (sym c.in_ok-hold_global.ensures.types)) rest.0;
       has = subst (Has program new)
-          ((λ i. with_content (Outer global.name) (content (types i)) (filled program (map (global_in known) (drop (count i) globals)) (unfilled_objects program)))
+          ((λ i. with_content (GlobalObject global.name) (content (types i)) (filled program (map (global_in known) (drop (count i) globals)) (unfilled_objects program)))
           ∙ filled_step program known globals (length made) global (unfilled_objects program) within at)
           held;
     }

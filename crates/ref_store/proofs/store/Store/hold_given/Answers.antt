@@ -1,6 +1,6 @@
 use Rattle.std.proofs.Common.{◌≡◌, ℕ, OnOk, sym, ap, subst, ◌∙◌}
 use Rattle.c_typed.specs.DefinitionViews.{program_of, first_of, held_of}
-use Rattle.c_meaning.specs.First.{around_of, walked}
+use Rattle.ref_semantics.specs.First.{around_of, walked}
 use Rattle.ref_store.specs.Views.{place_in, scalar_in}
 use Rattle.ref_store.specs.Holding.{AllHeld}
 use Rattle.ref_store.specs.Firsts.{with_first, with_text, with_given}

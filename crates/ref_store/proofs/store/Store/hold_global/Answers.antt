@@ -1,6 +1,6 @@
 use Rattle.std.proofs.Common.{Some, subst}
-use Rattle.c_meaning.specs.Values as V
-use Rattle.c_meaning.specs.Store.{with_content}
+use Rattle.ref_semantics.specs.Values as V
+use Rattle.ref_semantics.specs.Store.{with_content}
 use Rattle.ref_store.specs.declared.value.Name.TheVariants as N
 use Rattle.ref_store.specs.declared.object.Content.TheVariants as C
 use Rattle.ref_store.specs.declared.store.Store.{Store}
@@ -15,5 +15,5 @@ returns-clause-held c = λ around base state content is at.
     let made = c.args.elements in
     let new : Store = record store { objects = c.insert.new.self } in
     let changes : Changes name (Some (C.Elements made)) store.objects new.objects = c.in_ok-insert.ensures.updates.0 in
-    subst (λ n. At around new base (record state { objects = with_content (V.Outer n) content state.objects })) c.as_slice.ensures
+    subst (λ n. At around new base (record state { objects = with_content (V.GlobalObject n) content state.objects })) c.as_slice.ensures
     (at_changed around store base state new name (Some (C.Elements made)) content state.trace changes is at)

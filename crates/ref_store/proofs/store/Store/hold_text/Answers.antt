@@ -2,7 +2,7 @@ use Rattle.std.proofs.Common.{◌≡◌, ◌+◌, get_or, take, nat_eq, pos, to_
 use Rattle.std.specs.Int.{w128}
 use Rattle.indexmap.specs.IndexMap.{get}
 use Rattle.c_num.specs.Conversion.{convert_to}
-use Rattle.c_meaning.specs.Values.{IntegerValue, at_index}
+use Rattle.ref_semantics.specs.Values.{IntegerValue, at_index}
 use Rattle.ref_store.specs.Views.{place_in}
 use Rattle.ref_store.specs.Holding.{HeldIs}
 use Rattle.ref_store.specs.Firsts.{with_first, with_text}

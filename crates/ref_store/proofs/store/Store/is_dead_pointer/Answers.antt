@@ -1,5 +1,5 @@
 use Rattle.std.proofs.Common.{sym, ap, ◌∙◌}
-use Rattle.c_meaning.specs.Store.{is_dead_pointer}
+use Rattle.ref_semantics.specs.Store.{is_dead_pointer}
 use Rattle.ref_store.specs.Views.{scalar_in}
 use Rattle.ref_store.proofs.store.Store.is_dead_pointer.Goals as goal
 

@@ -1,13 +1,13 @@
 use Rattle.std.proofs.Common.{◌≡◌, ℕ, not, ◌||◌, ◌==◌, sym, ap, subst, ◌∙◌}
-use Rattle.c_meaning.specs.Values.{Place, Heap, PointerValue, place_of}
-use Rattle.c_meaning.specs.Store.{Around, Objects, is_dead, is_dead_pointer, offset_of}
-use Rattle.c_meaning.specs.Library.{is_heap, is_unfreeable}
+use Rattle.ref_semantics.specs.Values.{Place, Heap, PointerValue, place_of}
+use Rattle.ref_semantics.specs.Store.{TypeEnvironment, Objects, is_dead, is_dead_pointer, offset_of}
+use Rattle.ref_semantics.specs.Library.{is_heap, is_unfreeable}
 use Rattle.ref_store.specs.Views.{name_of, place_in, scalar_in}
 use Rattle.ref_store.specs.Wanting.{Overflows}
 use Rattle.ref_store.proofs.Wanting.{errors}
 use Rattle.ref_store.proofs.store.Store.is_unfreeable.Goals as goal
 
-of_allocation : (around : Around) (objects : Objects) (place : Place) (number : ℕ) → place.name ≡ Heap number → is_unfreeable around objects (PointerValue place) ≡ is_dead (objects place.name) || not (offset_of around place == 0)
+of_allocation : (around : TypeEnvironment) (objects : Objects) (place : Place) (number : ℕ) → place.name ≡ Heap number → is_unfreeable around objects (PointerValue place) ≡ is_dead (objects place.name) || not (offset_of around place == 0)
 of_allocation around objects place number heap = ap (λ name. not (is_heap name) || (is_dead (objects place.name) || not (offset_of around place == 0))) heap
 
 pub returns-then-is_dead-clause-found : goal.returns-then-is_dead-clause-found

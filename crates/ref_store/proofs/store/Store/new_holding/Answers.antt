@@ -4,9 +4,9 @@ use Rattle.run_theory.specs.Runs.{output_of}
 use Rattle.c_typed.specs.Types.{CType}
 use Rattle.c_typed.specs.Table.{Stands, type_in}
 use Rattle.c_typed.specs.declared.c_type.CType as memory_type
-use Rattle.c_meaning.specs.Values.{Name, Own, Scalar, Content, Elements, same_name}
-use Rattle.c_meaning.specs.Store.{Around, Objects, State, Outcome, Then, continue_with, give, happened, store_content, premise, unless, is_dead, size_of, holding, with_content, with_scalar}
-use Rattle.c_meaning.specs.Meaning.{Way, Onward}
+use Rattle.ref_semantics.specs.Values.{Name, LocalObject, Scalar, Content, Elements, same_name}
+use Rattle.ref_semantics.specs.Store.{TypeEnvironment, Objects, State, Outcome, Then, continue_with, give, emit, store_content, premise, unless, is_dead, size_of, holding, with_content, with_scalar}
+use Rattle.ref_semantics.specs.Meaning.{Completion, Normal}
 use Rattle.ref_store.specs.declared.value.Name.TheVariants as N
 use Rattle.ref_store.specs.declared.value.Scalar as memory_scalar
 use Rattle.ref_store.specs.declared.object.Content.TheVariants as C
@@ -29,11 +29,11 @@ twice name last first objects = λ i other. by (same_name name other) (objects o
 itself : (number : ℕ) → (number == number) ≡ true
 itself number = eq-eqb number number refl
 
-stored_at_once : (around : Around) (c_type : CType) (value : Scalar) (state : State) → new_local_of around c_type value state ≡ Then Onward (living state state.next_local c_type (with_scalar 0 value (λ offset. None)) (state.trace ++ []))
+stored_at_once : (around : TypeEnvironment) (c_type : CType) (value : Scalar) (state : State) → new_local_of around c_type value state ≡ Then Normal (living state state.next_local c_type (with_scalar 0 value (λ offset. None)) (state.trace ++ []))
 stored_at_once around c_type value state =
-    ap (λ b. stored (if b then fresh else state.objects (Own state.next_local)) (0 + 0 * size_of around c_type)) (itself state.next_local)
+    ap (λ b. stored (if b then fresh else state.objects (LocalObject state.next_local)) (0 + 0 * size_of around c_type)) (itself state.next_local)
     ∙ (ap (stored fresh) (zero-add (0 * size_of around c_type) ∙ zero-mul (size_of around c_type))
-    ∙ ap (λ objects. Then Onward (record begun { objects = objects; trace = state.trace ++ [] })) (twice (Own state.next_local) (Elements false c_type 1 (with_scalar 0 value (λ offset. None))) fresh state.objects))
+    ∙ ap (λ objects. Then Normal (record begun { objects = objects; trace = state.trace ++ [] })) (twice (LocalObject state.next_local) (Elements false c_type 1 (with_scalar 0 value (λ offset. None))) fresh state.objects))
   where
     fresh : Content
     fresh = Elements false c_type 1 (λ offset. None)
@@ -41,18 +41,18 @@ stored_at_once around c_type value state =
     begun : State
     begun = living state state.next_local c_type (λ offset. None) state.trace
 
-    stored : Content → ℕ → Outcome Way
-    stored content offset = continue_with (λ done. give Onward)
-        (unless (record { line = 1; column = 1 }) (premise (is_dead content) Ub.U06 ∷ []) (store_content (Own state.next_local) (holding offset value content) (happened [] (give value))) begun)
+    stored : Content → ℕ → Outcome Completion
+    stored content offset = continue_with (λ done. give Normal)
+        (unless (record { line = 1; column = 1 }) (premise (is_dead content) Ub.U06 ∷ []) (store_content (LocalObject state.next_local) (holding offset value content) (emit [] (give value))) begun)
 
-begins : (around : Around) (store new : Store) (base : ℕ) (state : State) (row : memory_elements.Elements) (c_type : memory_type.CType) (value : memory_scalar.Scalar) → base ≤ length store.locals.items
+begins : (around : TypeEnvironment) (store new : Store) (base : ℕ) (state : State) (row : memory_elements.Elements) (c_type : memory_type.CType) (value : memory_scalar.Scalar) → base ≤ length store.locals.items
     → row.is_static ≡ false → row.c_type ≡ c_type → row.count ≡ 1 → Stands store.types.now c_type → AllHeld store.types.now row.held (with_scalar 0 (scalar_in store.types.now value) (λ offset. None))
     → new.next_local ≡ suc store.next_local → new.locals.items ≡ store.locals.items ++ (store.next_local ∷ []) → Changes (N.Own store.next_local) (Some (C.Elements row)) store.objects new.objects
     → At around store base state
-    → Comes around (record store { objects = new.objects; locals = new.locals; next_local = new.next_local }) base (new_local_of around (type_in store.types.now c_type) (scalar_in store.types.now value)) state Onward
+    → Comes around (record store { objects = new.objects; locals = new.locals; next_local = new.next_local }) base (new_local_of around (type_in store.types.now c_type) (scalar_in store.types.now value)) state Normal
 begins around store new base state row c_type value within is_static typed one stands all next locals changes at = record {
   after = after store.next_local;
-  does = λ units input. stored_at_once around (type_in store.types.now c_type) (scalar_in store.types.now value) (left units input state) ∙ ap (λ number. Then Onward (left units input (after number))) at.next_local;
+  does = λ units input. stored_at_once around (type_in store.types.now c_type) (scalar_in store.types.now value) (left units input state) ∙ ap (λ number. Then Normal (left units input (after number))) at.next_local;
   at = at_living around store new base state row c_type (with_scalar 0 (scalar_in store.types.now value) (λ offset. None)) (state.trace ++ []) within is_static typed one stands all next locals changes at;
   quiet = ap output_of (append-nil state.trace);
 }

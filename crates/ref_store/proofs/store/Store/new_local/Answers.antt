@@ -1,9 +1,9 @@
 use Rattle.std.proofs.Common.{◌≡◌, ℕ, suc, ◌≤◌, false, [], ◌∷◌, ◌++◌, length, None, Some, refl, sym, ap, ◌∙◌, add-one}
 use Rattle.c_typed.specs.Table.{Stands, type_in}
 use Rattle.c_typed.specs.declared.c_type.CType as memory_type
-use Rattle.c_meaning.specs.Values.{Own, object_place}
-use Rattle.c_meaning.specs.Store.{Around, State, Then}
-use Rattle.c_meaning.specs.Meaning.{new_local}
+use Rattle.ref_semantics.specs.Values.{LocalObject, object_place}
+use Rattle.ref_semantics.specs.Store.{TypeEnvironment, State, Then}
+use Rattle.ref_semantics.specs.Meaning.{new_local}
 use Rattle.ref_store.specs.declared.value.Name.TheVariants as N
 use Rattle.ref_store.specs.declared.value.Place as memory_place
 use Rattle.ref_store.specs.declared.object.Content.TheVariants as C
@@ -15,14 +15,14 @@ use Rattle.ref_store.proofs.Updating.{Changes, none_held}
 use Rattle.ref_store.proofs.Locals.{living, at_living, pushed}
 use Rattle.ref_store.proofs.store.Store.new_local.Goals as goal
 
-begins : (around : Around) (store new : Store) (base : ℕ) (state : State) (row : memory_elements.Elements) (c_type : memory_type.CType) (place : memory_place.Place) → base ≤ length store.locals.items
+begins : (around : TypeEnvironment) (store new : Store) (base : ℕ) (state : State) (row : memory_elements.Elements) (c_type : memory_type.CType) (place : memory_place.Place) → base ≤ length store.locals.items
     → row.is_static ≡ false → row.c_type ≡ c_type → row.count ≡ 1 → Stands store.types.now c_type → AllHeld store.types.now row.held (λ offset. None)
     → new.next_local ≡ suc store.next_local → new.locals.items ≡ store.locals.items ++ (store.next_local ∷ []) → Changes (N.Own store.next_local) (Some (C.Elements row)) store.objects new.objects
     → place ≡ record { name = N.Own store.next_local; row = record { start = 0; c_type = row.c_type; count = row.count }; index = 0 }
     → At around store base state → Comes around (record store { objects = new.objects; locals = new.locals; next_local = new.next_local }) base (new_local (type_in store.types.now c_type)) state (place_in store.types.now place)
 begins around store new base state row c_type place within is_static typed one stands none next locals changes first at = record {
   after = after store.next_local;
-  does = λ units input. ap (λ number. Then (object_place (Own number) (type_in store.types.now c_type)) (left units input (after number))) at.next_local ∙ ap (λ p. Then p (left units input (after store.next_local))) (sym same);
+  does = λ units input. ap (λ number. Then (object_place (LocalObject number) (type_in store.types.now c_type)) (left units input (after number))) at.next_local ∙ ap (λ p. Then p (left units input (after store.next_local))) (sym same);
   at = at_living around store new base state row c_type (λ offset. None) state.trace within is_static typed one stands none next locals changes at;
   quiet = refl;
 }
@@ -30,8 +30,8 @@ begins around store new base state row c_type place within is_static typed one s
     after : ℕ → State
     after number = living state number (type_in store.types.now c_type) (λ offset. None) state.trace
 
-    same : place_in store.types.now place ≡ object_place (Own store.next_local) (type_in store.types.now c_type)
-    same = ap (place_in store.types.now) first ∙ (λ i. record { name = Own store.next_local; row = record { start = 0; c_type = type_in store.types.now (typed i); count = one i }; index = 0 })
+    same : place_in store.types.now place ≡ object_place (LocalObject store.next_local) (type_in store.types.now c_type)
+    same = ap (place_in store.types.now) first ∙ (λ i. record { name = LocalObject store.next_local; row = record { start = 0; c_type = type_in store.types.now (typed i); count = one i }; index = 0 })
 
 pub returns-clause-made : goal.returns-clause-made
 returns-clause-made c = λ around base state within at.

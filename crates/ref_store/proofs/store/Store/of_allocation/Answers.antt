@@ -2,14 +2,14 @@ use Rattle.std.proofs.Common.{◌/◌, ◌%◌, ◌==◌, false, List, Some, Non
 use Rattle.c_typed.specs.Types.{same_type}
 use Rattle.c_typed.specs.Layouts.{StructDef, layout_of}
 use Rattle.c_typed.specs.Table.{Stands, type_in}
-use Rattle.c_meaning.specs.Values.{Heap, Scalar, Elements, PointerValue, first_of_row}
-use Rattle.c_meaning.specs.Store.{with_content}
+use Rattle.ref_semantics.specs.Values.{Heap, Scalar, Elements, PointerValue, first_of_row}
+use Rattle.ref_semantics.specs.Store.{with_content}
 use Rattle.ref_store.specs.declared.value.Name.TheVariants as N
 use Rattle.ref_store.specs.declared.value.Row.{Row}
 use Rattle.ref_store.specs.declared.value.Place.{Place}
 use Rattle.ref_store.specs.declared.object.Content.TheVariants as C
 use Rattle.ref_store.specs.Views.{place_in}
-use Rattle.ref_store.specs.Holding.{Does}
+use Rattle.ref_store.specs.Holding.{EvaluatesTo}
 use Rattle.ref_store.proofs.Giving.{comes-same}
 use Rattle.ref_store.proofs.Updating.{at_changed, none_held}
 use Rattle.ref_store.proofs.Allocations.{parts-some, parts-none, found_told, fresh, typed, typed-dead, typed-other, typed-same, typed-odd, typed-fresh}
@@ -56,7 +56,7 @@ returns-in-Some-Elements-clause-gives c = λ around base state at.
     (ap (λ (r : Row). same_type (type_in table r.c_type) target) (sym c.row-row.ensures) ∙ (sym c.same.ensures ∙ c.if-not-same.false)) in
     let row = ap (λ (r : Row). PointerValue (first_of_row (Heap number) (record { start = r.start; c_type = target; count = r.count }))) (sym c.row-row.ensures) in
     let is = row ∙ ap (λ (p : Place). PointerValue (place_in table p)) (sym c.first.ensures) in
-    comes-same around store base (typed around c.args.here target number) state _ (subst (λ (v : Scalar). Does (typed around c.args.here target number) state v state) is does) at
+    comes-same around store base (typed around c.args.here target number) state _ (subst (λ (v : Scalar). EvaluatesTo (typed around c.args.here target number) state v state) is does) at
 
 pub returns-in_default-clause-gives : goal.returns-in_default-clause-gives
 returns-in_default-clause-gives c = λ around base state at.
@@ -92,7 +92,7 @@ returns-clause-gives c = λ around base state at.
     let is = row ∙ ap (λ (p : Place). PointerValue (place_in table p)) (sym c.first-2.ensures) in
     record {
       after = after;
-      does = subst (λ (v : Scalar). Does (typed around c.args.here target number) state v after) is does;
+      does = subst (λ (v : Scalar). EvaluatesTo (typed around c.args.here target number) state v after) is does;
       at = at_changed around store base state (record store { objects = c.insert.new.self }) (N.Heap number) (Some (C.Elements made)) content state.trace c.in_ok-insert.ensures.updates.0 holds at;
       quiet = refl;
     }

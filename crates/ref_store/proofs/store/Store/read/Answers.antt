@@ -1,5 +1,5 @@
 use Rattle.std.proofs.Common.{None, Some, subst}
-use Rattle.c_meaning.specs.Store.{scalar_at}
+use Rattle.ref_semantics.specs.Store.{scalar_at}
 use Rattle.ref_store.specs.Views.{name_of, place_in, scalar_in}
 use Rattle.ref_store.specs.Holding.{HeldIs}
 use Rattle.ref_store.proofs.Found.{found_is}

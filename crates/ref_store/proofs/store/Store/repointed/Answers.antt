@@ -1,6 +1,6 @@
 use Rattle.std.proofs.Common.{sym, ap, ◌∙◌}
 use Rattle.c_typed.specs.Table.{type_in}
-use Rattle.c_meaning.specs.Pointers.{repointed, retyped}
+use Rattle.ref_semantics.specs.Pointers.{repointed, retyped}
 use Rattle.ref_store.specs.Views.{place_in, scalar_in}
 use Rattle.ref_store.specs.Holding.{left}
 use Rattle.ref_store.proofs.Giving.{comes-same}

@@ -2,7 +2,7 @@ use Rattle.std.proofs.Common.{Some, None, refl, sym, ap, subst, ◌∙◌}
 use Rattle.c_typed.specs.Table.{Stands}
 use Rattle.c_typed.specs.DefinitionViews.{program_of}
 use Rattle.c_typed.proofs.Grown.{void_stands}
-use Rattle.c_meaning.specs.Values.{first_of_row}
+use Rattle.ref_semantics.specs.Values.{first_of_row}
 use Rattle.ref_store.specs.Views.{name_of, place_in}
 use Rattle.ref_store.specs.Beginning.{unfilled_objects}
 use Rattle.ref_store.proofs.FirstStore.{looked, found_row, missing_row}

@@ -1,6 +1,6 @@
 use Rattle.std.proofs.Common.{IfErr, sym, subst}
-use Rattle.c_meaning.specs.Values.{at_index}
-use Rattle.c_meaning.specs.First.{stepped}
+use Rattle.ref_semantics.specs.Values.{at_index}
+use Rattle.ref_semantics.specs.First.{stepped}
 use Rattle.ref_store.specs.Views.{place_in}
 use Rattle.ref_store.specs.Wanting.{OutOnly, Overflows}
 use Rattle.ref_store.proofs.Wanting.{out_where, if_error, decayed_overflows}

@@ -1,7 +1,7 @@
 use Rattle.std.proofs.Common.{not, sym, ap, subst, ◌∙◌}
-use Rattle.c_meaning.specs.Values.{Scalar}
-use Rattle.c_meaning.specs.Pointers.{tested, truth}
-use Rattle.ref_store.specs.Holding.{Does}
+use Rattle.ref_semantics.specs.Values.{Scalar}
+use Rattle.ref_semantics.specs.Pointers.{tested, truth}
+use Rattle.ref_store.specs.Holding.{EvaluatesTo}
 use Rattle.ref_store.specs.Views.{scalar_in}
 use Rattle.ref_store.proofs.Giving.{comes-same}
 use Rattle.ref_store.proofs.Pointing.{tested-dead, tested-there}
@@ -18,7 +18,7 @@ returns-clause-gives c = λ around base state at.
     let p = scalar_in table c.args.value in
     let does = tested-there c.args.here p state (sym (c.is_dead_pointer.ensures around base state at) ∙ c.if-is_dead_pointer.false) in
     let is = ap (λ b. truth (not b)) (sym (c.is_null.ensures table)) ∙ sym (c.truth.ensures.means table) in
-    comes-same around store base (tested c.args.here p) state _ (subst (λ (v : Scalar). Does (tested c.args.here p) state v state) is does) at
+    comes-same around store base (tested c.args.here p) state _ (subst (λ (v : Scalar). EvaluatesTo (tested c.args.here p) state v state) is does) at
 
 pub returns-clause-stands : goal.returns-clause-stands
 returns-clause-stands c = c.truth.ensures.stands c.args.self.now.types.now

@@ -1,7 +1,7 @@
 use Rattle.std.proofs.Common.{◌+◌, drop, inl, inr, ap, sym, subst, ◌∙◌}
 use Rattle.std.proofs.lemmas.List.{drop_more}
 use Rattle.c_typed.specs.declared.part.Part.TheVariants as Parts
-use Rattle.c_meaning.specs.First.{walked}
+use Rattle.ref_semantics.specs.First.{walked}
 use Rattle.ref_store.specs.Views.{place_in}
 use Rattle.ref_store.specs.Wanting.{WalkOverflows}
 use Rattle.ref_store.proofs.Wanting.{out_so, handed_on}

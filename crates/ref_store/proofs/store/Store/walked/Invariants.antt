@@ -1,7 +1,7 @@
 use Rattle.std.proofs.Common.{◌≡◌, drop}
 use Rattle.c_typed.specs.Table.{structs_in}
-use Rattle.c_meaning.specs.Store.{Around}
-use Rattle.c_meaning.specs.First as rules
+use Rattle.ref_semantics.specs.Store.{TypeEnvironment}
+use Rattle.ref_semantics.specs.First as rules
 use Rattle.ref_store.specs.Views.{place_in, PlaceStands}
 use Rattle.ref_store.specs.Wanting.{WalkOverflows}
 use Rattle.ref_store.proofs.store.Store.walked.Given as goal
@@ -9,8 +9,8 @@ use Rattle.ref_store.proofs.store.Store.walked.Given as goal
 abbrev pub invariant-loop-part : goal.invariant-loop-part
 invariant-loop-part l = record {
   stands : PlaceStands l.self.types.now l.reached;
-  found : (around : Around) → around.structs ≡ structs_in l.self.types.now
+  found : (around : TypeEnvironment) → around.structs ≡ structs_in l.self.types.now
       → rules.walked around (place_in l.self.types.now l.fn.place) l.parts l.index ≡ rules.walked around (place_in l.self.types.now l.reached) (drop l.part-index l.parts) l.index;
-  want : (around : Around) → around.structs ≡ structs_in l.self.types.now
+  want : (around : TypeEnvironment) → around.structs ≡ structs_in l.self.types.now
       → WalkOverflows around (place_in l.self.types.now l.reached) (drop l.part-index l.parts) → WalkOverflows around (place_in l.self.types.now l.fn.place) l.parts;
 }

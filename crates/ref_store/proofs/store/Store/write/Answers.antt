@@ -1,12 +1,12 @@
 use Rattle.std.proofs.Common.{◌≡◌, ℕ, true, false, true≢false, ◌++◌, [], Option, Some, None, Result, Ok, Err, IsErrAnd, IsSome, refl, sym, subst, ◌∙◌}
 use Rattle.indexmap.specs.IndexMap.{IndexMap, get, get_by}
-use Rattle.run_theory.specs.declared.ends.Pos.{Pos}
+use Rattle.text_place.specs.declared.place.Pos.{Pos}
 use Rattle.run_theory.specs.declared.ends.UbKind.TheVariants as Ub
 use Rattle.run_theory.specs.Runs.{Stored}
 use Rattle.c_typed.specs.Table.{Interned}
-use Rattle.c_meaning.specs.Values as V
-use Rattle.c_meaning.specs.Store.{Around, State, Eval, give, happened, with_content, store_content, is_dead, offset_of, holding}
-use Rattle.c_meaning.specs.Pointers.{access, write}
+use Rattle.ref_semantics.specs.Values as V
+use Rattle.ref_semantics.specs.Store.{TypeEnvironment, State, Eval, give, emit, with_content, store_content, is_dead, offset_of, holding}
+use Rattle.ref_semantics.specs.Pointers.{access, write}
 use Rattle.ref_store.specs.declared.value.Name.{Name}
 use Rattle.ref_store.specs.declared.value.Place.{Place}
 use Rattle.ref_store.specs.declared.value.Scalar.{Scalar}
@@ -16,7 +16,7 @@ use Rattle.ref_store.specs.declared.object.Content as memory_content
 use Rattle.ref_store.specs.declared.store.Store.{Store}
 use Rattle.ref_store.specs.contracts.value.NamePartialEq.TheImpl.{eq-value}
 use Rattle.ref_store.specs.Views.{name_of, same_memory, place_in, scalar_in}
-use Rattle.ref_store.specs.Holding.{At, Comes, ContentIs, dead, Gives, IsUndefined, left}
+use Rattle.ref_store.specs.Holding.{At, Comes, ContentIs, dead, CallGives, IsUndefined, left}
 use Rattle.ref_store.proofs.Giving.{unless-fails, unless-holds, undefined-here}
 use Rattle.ref_store.proofs.Names.{get_name}
 use Rattle.ref_store.proofs.Updating.{Changes, at_changed, at_kept, unheard}
@@ -24,14 +24,14 @@ use Rattle.ref_store.proofs.Writing.{quiet_access}
 use Rattle.ref_store.proofs.Wanting.{out_where, errors}
 use Rattle.ref_store.proofs.store.Store.write.Goals as goal
 
-abbrev stores : Around → V.Place → V.Scalar → V.Content → Eval V.Scalar
-stores around place value content = store_content place.name (holding (offset_of around place) value content) (happened (access Stored place.name) (give value))
+abbrev stores : TypeEnvironment → V.Place → V.Scalar → V.Content → Eval V.Scalar
+stores around place value content = store_content place.name (holding (offset_of around place) value content) (emit (access Stored place.name) (give value))
 
-is_undefined : (around : Around) (here : Pos) (place : V.Place) (value : V.Scalar) (state : State) → is_dead (state.objects place.name) ≡ true → IsUndefined (write around here place value) state Ub.U06 here
+is_undefined : (around : TypeEnvironment) (here : Pos) (place : V.Place) (value : V.Scalar) (state : State) → is_dead (state.objects place.name) ≡ true → IsUndefined (write around here place value) state Ub.U06 here
 is_undefined around here place value state fails =
     undefined-here (write around here place value) state Ub.U06 here (λ units input. unless-fails here (is_dead (state.objects place.name)) Ub.U06 [] (stores around place value (state.objects place.name)) (left units input state) fails)
 
-comes : (around : Around) (here : Pos) (store new : Store) (base : ℕ) (state : State) (place : Place) (value : Scalar) (memory : memory_content.Content) → is_dead (state.objects (name_of place.name)) ≡ false
+comes : (around : TypeEnvironment) (here : Pos) (store new : Store) (base : ℕ) (state : State) (place : Place) (value : Scalar) (memory : memory_content.Content) → is_dead (state.objects (name_of place.name)) ≡ false
     → Changes place.name (Some memory) store.objects new.objects
     → ContentIs store.types.now (Some memory) (holding (offset_of around (place_in store.types.now place)) (scalar_in store.types.now value) (state.objects (name_of place.name))) → At around store base state
     → Comes around (record store { objects = new.objects }) base (write around here (place_in store.types.now place) (scalar_in store.types.now value)) state (scalar_in store.types.now value)
@@ -56,10 +56,10 @@ there table map name memory content found is = subst (λ m. ContentIs table m co
 alive_is_there : (table : Interned) (content : V.Content) → is_dead content ≡ false → ContentIs table None content → ⊥
 alive_is_there table content alive dead = absurd (true≢false alive)
 
-memory_out : {A B : Type 0} (around : Around) (old new : Store) (base : ℕ) (view : B → A) (eval : Eval A) (result : Result B Stop) → IsErrAnd result (λ e. e ≡ T.OutOfMemory)
-    → ((state : State) → At around old base state → At around new base state) → Gives around old new base view eval result
+memory_out : {A B : Type 0} (around : TypeEnvironment) (old new : Store) (base : ℕ) (view : B → A) (eval : Eval A) (result : Result B Stop) → IsErrAnd result (λ e. e ≡ T.OutOfMemory)
+    → ((state : State) → At around old base state → At around new base state) → CallGives around old new base view eval result
 memory_out around old new base view eval (Ok value) out kept = absurd out
-memory_out around old new base view eval (Err stop) out kept = subst (λ e. Gives around old new base view eval (Err e)) (sym out) kept
+memory_out around old new base view eval (Err stop) out kept = subst (λ e. CallGives around old new base view eval (Err e)) (sym out) kept
 
 pub returns-then-is_dead-clause-gives : goal.returns-then-is_dead-clause-gives
 returns-then-is_dead-clause-gives c = λ around base state at.

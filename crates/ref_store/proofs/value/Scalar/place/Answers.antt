@@ -1,6 +1,6 @@
 use Rattle.std.proofs.Common.{sym, subst, ◌∙◌, ap}
 use Rattle.c_typed.specs.Table.{Stands}
-use Rattle.c_meaning.specs.Values.{Heap, first_of_row, place_of}
+use Rattle.ref_semantics.specs.Values.{Heap, first_of_row, place_of}
 use Rattle.ref_store.specs.Views.{place_in, scalar_in}
 use Rattle.ref_store.proofs.Scalars.{void_stands, nothing_means, no_place}
 use Rattle.ref_store.proofs.value.Scalar.place.Goals as goal

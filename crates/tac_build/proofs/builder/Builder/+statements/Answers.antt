@@ -16,7 +16,7 @@ use Rattle.tac_build.specs.Growing.{ways_of}
 use Rattle.tac_build.proofs.Points.{grows_on, grows_filled}
 use Rattle.tac_build.proofs.Standing.{stmt_stands}
 use Rattle.tac_build.proofs.Forms.{filled_stand}
-use Rattle.tac_build.proofs.StatementRows.{block-items, switch-items}
+use Rattle.c_typed.proofs.StatementItems.{block-items, switch-items}
 use Rattle.tac_build.proofs.Items.{block_item, switch_item}
 use Rattle.tac_build.proofs.Scopes.{left, local_before, local_more, stmt_before, stmt_more}
 use Rattle.tac_build.proofs.Cases.{places_more, places_push, default_more, case_more, switch_stmt_more, switch_all, default_or_is}

@@ -1,0 +1,28 @@
+use run_theory::{TrapKind, UbKind};
+use std::test::Fail;
+use text_place::Pos;
+
+// In `a`, newline, tab, `b` the `b` stands at 2:2.
+#[test]
+fn counts_lines_and_columns(rt: HostRuntime) {
+    let start = Pos::start();
+    let second = start.after(b'a');
+    let below = second.after(b'\n');
+    let last = below.after(b'\t');
+    assert_eq!(rt; (start.line, start.column), (1, 1));
+    assert_eq!(rt; (second.line, second.column), (1, 2));
+    assert_eq!(rt; (below.line, below.column), (2, 1));
+    assert_eq!(rt; (last.line, last.column), (2, 2));
+    assert!(rt; second < below);
+}
+
+#[test]
+fn prints_ends(rt: HostRuntime) -> Result<(), Fail> {
+    let place = Pos {
+        line: 12,
+        column: 5,
+    };
+    let text = format!(in rt.alloc(); "{} at {place}, {}", UbKind::U06, TrapKind::StackFull)?;
+    assert_eq!(rt; text.as_str(), "U06 at 12:5, StackFull");
+    Ok(())
+}

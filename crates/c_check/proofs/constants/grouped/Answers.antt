@@ -1,8 +1,0 @@
-use Rattle.std.proofs.Common.{subst}
-use Rattle.c_rules.specs.Finding.{ExprStands, AllStand}
-use Rattle.c_check.proofs.constants.grouped.Goals as goal
-
-pub returns-clause-stands : goal.returns-clause-stands
-returns-clause-stands c = λ table h.
-    let known = subst (AllStand ExprStands table) c.in-Some.is h in
-    (known.0, c.in_ok-grouped_typed.ensures.stands table known.1, known.2)

@@ -1,5 +1,0 @@
-use Rattle.c_check.proofs.Deriving.{operand-known}
-use Rattle.c_check.proofs.forms.call_of.Goals as goal
-
-pub returns : goal.returns
-returns c = operand-known c.in_ok-call.ensures c.into_known.ensures.stands c.into_known.ensures.known

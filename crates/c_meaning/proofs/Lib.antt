@@ -1,4 +1,0 @@
-mod Answers
-pub mod Shrinking
-pub mod ShrinkingSteps
-pub mod ShrinkingTrees

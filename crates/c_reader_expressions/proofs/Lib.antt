@@ -1,0 +1,4 @@
+pub mod ExprRows
+pub mod DeclaratorRows
+pub mod OperandRows
+pub mod TermRows

@@ -1,0 +1,102 @@
+// What goes on behind an expression and has no expression of its own.
+
+ghost use Rattle.std.specs.Prelude.{◌≡◌, ◌+◌, ◌<◌, ◌≤◌, ℕ, length, IfOk};
+ghost use Rattle.c_grammar.specs.Forms as forms;
+ghost use Rattle.c_token.specs.Leaves.{leaves_of};
+ghost use Rattle.c_syntax.specs.Views.{expr_tree};
+ghost use Rattle.c_reader_expressions.specs.Steps.{Extends};
+
+use crate::operand::{Operand, boxed};
+use c_grammar::Kind;
+use c_reader_tokens::{SyntaxErr, pass, pass_name, room_behind};
+use c_syntax::Expr;
+use c_token::Token;
+use std::alloc::Global;
+
+/// Reads `.` and the name of a member.
+pub(crate) fn read_member<'a>(
+    alloc: Global,
+    left: Operand<'a>,
+    room: u32,
+) -> Result<Operand<'a>, SyntaxErr>
+    ensures gives { Extends forms.Member (expr_tree left.entry.expr.value) left.entry.height left.entry.level (leaves_of left.entry.rest.now) room result }
+    ensures shorter { IfOk result (λ read. length read.rest.now < length left.entry.rest.now) }
+{
+    room_behind(left.rest, 1, left.height, room)?;
+    let operator = pass(left.rest, Kind::Dot)?;
+    let member = pass_name(alloc, operator.rest)?;
+    let expr = Expr::Member {
+        object: left.expr,
+        member: member.name,
+    };
+    Ok(Operand {
+        expr: boxed(alloc, expr)?,
+        level: 1,
+        height: left.height + 1,
+        rest: member.rest,
+    })
+}
+
+/// Reads `->` and the name of a member.
+pub(crate) fn read_pointer_member<'a>(
+    alloc: Global,
+    left: Operand<'a>,
+    room: u32,
+) -> Result<Operand<'a>, SyntaxErr>
+    ensures gives { Extends forms.PointerMember (expr_tree left.entry.expr.value) left.entry.height left.entry.level (leaves_of left.entry.rest.now) room result }
+    ensures shorter { IfOk result (λ read. length read.rest.now < length left.entry.rest.now) }
+{
+    room_behind(left.rest, 1, left.height, room)?;
+    let operator = pass(left.rest, Kind::Arrow)?;
+    let member = pass_name(alloc, operator.rest)?;
+    let expr = Expr::PointerMember {
+        pointer: left.expr,
+        member: member.name,
+    };
+    Ok(Operand {
+        expr: boxed(alloc, expr)?,
+        level: 1,
+        height: left.height + 1,
+        rest: member.rest,
+    })
+}
+
+/// Reads `++` behind its operand.
+pub(crate) fn read_post_increment<'a>(
+    alloc: Global,
+    left: Operand<'a>,
+    room: u32,
+) -> Result<Operand<'a>, SyntaxErr>
+    ensures gives { Extends forms.PostIncrement (expr_tree left.entry.expr.value) left.entry.height left.entry.level (leaves_of left.entry.rest.now) room result }
+    ensures shorter { IfOk result (λ read. length read.rest.now < length left.entry.rest.now) }
+{
+    room_behind(left.rest, 1, left.height, room)?;
+    let operator = pass(left.rest, Kind::PlusPlus)?;
+    let expr = Expr::PostIncrement { operand: left.expr };
+    Ok(Operand {
+        expr: boxed(alloc, expr)?,
+        level: 1,
+        height: left.height + 1,
+        rest: operator.rest,
+    })
+}
+
+/// Reads `--` behind its operand.
+pub(crate) fn read_post_decrement<'a>(
+    alloc: Global,
+    left: Operand<'a>,
+    room: u32,
+) -> Result<Operand<'a>, SyntaxErr>
+    ensures gives { Extends forms.PostDecrement (expr_tree left.entry.expr.value) left.entry.height left.entry.level (leaves_of left.entry.rest.now) room result }
+    ensures shorter { IfOk result (λ read. length read.rest.now < length left.entry.rest.now) }
+{
+    room_behind(left.rest, 1, left.height, room)?;
+    let operator = pass(left.rest, Kind::MinusMinus)?;
+    let expr = Expr::PostDecrement { operand: left.expr };
+    Ok(Operand {
+        expr: boxed(alloc, expr)?,
+        level: 1,
+        height: left.height + 1,
+        rest: operator.rest,
+    })
+}

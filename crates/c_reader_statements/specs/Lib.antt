@@ -1,0 +1,4 @@
+pub mod RowForms
+pub mod Lists
+pub mod StmtForms
+pub mod StmtLists

@@ -1,0 +1,5 @@
+mod Arguments
+mod Assigned
+mod Calling
+mod Passing
+mod LibraryTypes

@@ -1,0 +1,7 @@
+mod Totals
+mod Weights
+mod SmallSizes
+mod FirstAbove
+mod LimitOrder
+mod NoLocals
+mod ParameterRows

@@ -1,0 +1,5 @@
+pub mod IntegerOperands
+pub mod ReadValues
+pub mod Steps
+pub mod OperandsStay
+mod TargetRules

@@ -1,0 +1,73 @@
+// Operands in memory.
+
+ghost use Rattle.std.specs.Prelude.{◌≡◌};
+ghost use Rattle.c_typed.specs.Types as T;
+ghost use Rattle.c_typed.specs.Table.{Interned, Stands, type_in};
+ghost use Rattle.c_typed.specs.Views.{value_in, ValueStands};
+ghost use Rattle.c_rules.specs.Known.{value_of_type, integer_value};
+ghost use Rattle.c_types_state.specs.Finding.{IsExpr};
+
+use crate::constants::is_zero;
+use c_num::IntType;
+use c_rules::Constness;
+use c_typed::{CType, Value};
+use c_types_state::{Address, Known, TypedExpr};
+
+/// A value, and what is known of it.
+#[derive(Drop)]
+pub struct Operand {
+    pub c_type: CType,
+    pub value: Box<Value>,
+    pub constness: Constness,
+    /// Whether it is a null pointer constant.
+    pub is_null: bool,
+    pub address: Address,
+}
+
+impl Operand {
+    ghost use Rattle.c_types_operands.specs.Operands.{IsOperand, OperandStands, operand_in};
+
+    /// A value of a type, of which nothing else is known.
+    pub fn of_type(c_type: CType, value: Box<Value>) -> Operand
+        ensures { (table : Interned) → Stands table c_type → ValueStands table value.value → IsOperand table result (value_of_type (type_in table c_type) (value_in table value.value)) }
+    {
+        Operand {
+            c_type,
+            value,
+            constness: Constness::NotConstant,
+            is_null: false,
+            address: Address::Unknown,
+        }
+    }
+
+    /// A value of an integer type. A constant zero is a null pointer constant (C17 6.3.2.3 paragraph 3).
+    pub fn integer(int_type: IntType, constness: Constness, value: Box<Value>) -> Operand
+        ensures { (table : Interned) → ValueStands table value.value → IsOperand table result (integer_value (T.Integer int_type) constness (value_in table value.value)) }
+    {
+        Operand {
+            constness,
+            is_null: is_zero(constness),
+            ..Operand::of_type(CType::integer(int_type), value)
+        }
+    }
+
+    /// Its value alone.
+    pub fn into_value(self) -> Box<Value>
+        ensures { result ≡ self.value }
+    {
+        self.value
+    }
+
+    /// The same, as an expression.
+    pub fn into_known(self) -> Known
+        ensures { (table : Interned) → OperandStands table self → IsExpr table result (operand_in table self) }
+    {
+        Known {
+            c_type: self.c_type,
+            typed: TypedExpr::Value(self.value),
+            constness: self.constness,
+            is_null: self.is_null,
+            address: self.address,
+        }
+    }
+}

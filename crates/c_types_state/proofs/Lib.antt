@@ -1,0 +1,7 @@
+mod Growing
+pub mod Named
+mod LocalTables
+pub mod Noted
+pub mod Findings
+mod Listing
+mod LiteralsAdded

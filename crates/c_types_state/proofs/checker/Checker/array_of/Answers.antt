@@ -1,0 +1,17 @@
+use Rattle.c_typed.specs.Types as T
+use Rattle.c_typed.specs.Table.{type_in}
+use Rattle.c_types_state.specs.Checkers.{state_of}
+use Rattle.c_types_state.proofs.Growing.{StateStands, names_stay, type_found}
+use Rattle.c_types_state.proofs.checker.Checker.array_of.Goals as goal
+
+pub invariant_of-self-2 : goal.invariant_of-self-2
+invariant_of-self-2 c =
+    let had = c.self.inside in
+    names_stay had.types c.array_of.new.self c.in_ok-array_of.ensures.ok.grows had.file.entries had.locals c.self.invariant
+
+pub returns-clause-made : goal.returns-clause-made
+returns-clause-made c =
+    let had = c.self.inside in
+    let state = state_of had.types had.tags.entries had.completed.keys had.defined.keys had.file.entries had.locals had.least in
+    let stand : StateStands state = record { file = c.self.invariant.file; inner = c.self.invariant.inner; outer = c.self.invariant.outer } in
+    type_found state c.args.self.now c.self.view_is stand c.array_of.new.self c.in_ok-array_of.field-0 (λ t. T.Array (type_in t c.args.element) c.args.length) c.in_ok-array_of.ensures.ok

@@ -1,0 +1,6 @@
+pub mod Finding
+pub mod NameTables
+pub mod LocalTables
+pub mod Checkers
+pub mod Staying
+pub mod Lists

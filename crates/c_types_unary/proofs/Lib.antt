@@ -1,0 +1,6 @@
+mod MemberRules
+mod ObjectRules
+mod OperandSteps
+mod PointedMembers
+mod Prefixes
+mod SteppedObjects

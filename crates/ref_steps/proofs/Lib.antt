@@ -1,0 +1,16 @@
+pub mod Binding
+pub mod Expressions
+pub mod Entering
+pub mod Calling
+pub mod Searching
+pub mod Looping
+pub mod Performing
+pub mod Agreeing
+pub mod Budgets
+pub mod BudgetSteps
+pub mod Regular
+pub mod RegularSteps
+pub mod RegularTrees
+pub mod BudgetRuns
+pub mod Spans
+pub mod Spending

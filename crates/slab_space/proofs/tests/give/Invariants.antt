@@ -1,6 +1,0 @@
-use Rattle.std.proofs.Common.{◌≡◌, ℕ, ◌<◌, ◌≤◌, Some}
-use Rattle.slab_space.specs.Runs.{owner_at}
-use Rattle.slab_space.proofs.tests.give.Given as goal
-
-abbrev pub invariant-loop-slab : goal.invariant-loop-slab
-invariant-loop-slab g l = (k : ℕ) → l.first ≤ k → k < l.slab → owner_at l.space.owners k ≡ Some l.first

@@ -1,6 +1,0 @@
-use Rattle.c_typed.specs.Table.{empty}
-use Rattle.c_typed.proofs.StatementsStay.{StmtStands-switch}
-use Rattle.tac_build.proofs.lowering.tests.cases.Goals as goal
-
-pub returns : goal.returns
-returns c = StmtStands-switch empty c.get.result c.in_ok-items.items c.get.ensures (rw (c.in_ok-items.ensures.items) (c.in_ok-put.ensures, (c.in_ok-put-2.ensures, (tt, (tt, tt)))))

@@ -1,0 +1,381 @@
+// Small programs and the points that stand for them, by hand. The end of `main` is at the points 0 and 1.
+
+ghost use Rattle.std.specs.Prelude.{IfOk};
+ghost use Rattle.c_typed.specs.Table.{empty};
+ghost use Rattle.c_typed.specs.Views.{ValueStands};
+ghost use Rattle.c_typed.specs.StatementViews.{OptionalStands, LocalStands, StmtStands, BlockStands};
+ghost use Rattle.c_typed.specs.DefinitionViews.{ProgramStands};
+
+use c_num::{BinOp, IntType, Relation};
+use c_typed::{
+    BlockItem, ByteString, CType, ForStart, FunctionDef, LibraryFunction, LocalDef, Object,
+    Program, Stepping, Stmt, SwitchItem, TypeTable, Value,
+};
+use std::alloc::{AllocError, Global};
+use std::test::Fail;
+use tac_build::lower;
+use tac_ir::{Op, PointId, Register};
+use text_place::Pos;
+
+const HERE: Pos = Pos { line: 1, column: 1 };
+
+fn constant(to: usize, value: i128, next: usize) -> Op {
+    Op::Constant {
+        to: Register(to),
+        value,
+        next: PointId(next),
+    }
+}
+
+fn copy(from: usize, to: usize, next: usize) -> Op {
+    Op::Copy {
+        from: Register(from),
+        to: Register(to),
+        next: PointId(next),
+    }
+}
+
+fn convert(int_type: IntType, from: usize, to: usize, next: usize) -> Op {
+    Op::Convert {
+        int_type,
+        from: Register(from),
+        to: Register(to),
+        next: PointId(next),
+    }
+}
+
+fn arithmetic(operator: BinOp, left: usize, right: usize, next: usize) -> Op {
+    Op::Arithmetic {
+        operator,
+        int_type: IntType::Int,
+        left: Register(left),
+        right: Register(right),
+        to: Register(left),
+        next: PointId(next),
+    }
+}
+
+fn compare(relation: Relation, left: usize, right: usize, to: usize, next: usize) -> Op {
+    Op::Compare {
+        relation,
+        int_type: IntType::Long,
+        left: Register(left),
+        right: Register(right),
+        to: Register(to),
+        next: PointId(next),
+    }
+}
+
+fn branch(int_type: IntType, condition: usize, nonzero: usize, zero: usize) -> Op {
+    Op::Branch {
+        int_type,
+        condition: Register(condition),
+        nonzero: PointId(nonzero),
+        zero: PointId(zero),
+    }
+}
+
+fn get_char(to: usize, next: usize) -> Op {
+    Op::GetChar {
+        to: Register(to),
+        next: PointId(next),
+    }
+}
+
+fn put_char(from: usize, next: usize) -> Op {
+    Op::PutChar {
+        from: Register(from),
+        to: Register(from),
+        next: PointId(next),
+    }
+}
+
+fn returned(from: usize) -> Op {
+    Op::Return {
+        from: Register(from),
+    }
+}
+
+fn read(alloc: Global, number: usize) -> Result<Value, AllocError>
+    ensures { IfOk result (ValueStands empty) }
+{
+    Ok(Value::Read {
+        place: HERE,
+        object: Box::new(alloc, Object::Local(number))?,
+    })
+}
+
+fn assigned(alloc: Global, number: usize, value: Value) -> Result<Value, AllocError>
+    requires { ValueStands empty value }
+    ensures { IfOk result (ValueStands empty) }
+{
+    Ok(Value::Assign {
+        place: HERE,
+        object: Box::new(alloc, Object::Local(number))?,
+        value: Box::new(alloc, value)?,
+    })
+}
+
+fn result_of(alloc: Global, op: BinOp, left: Value, right: Value) -> Result<Value, AllocError>
+    requires left { ValueStands empty left }
+    requires right { ValueStands empty right }
+    ensures { IfOk result (ValueStands empty) }
+{
+    Ok(Value::Arithmetic {
+        op,
+        place: HERE,
+        int_type: IntType::Int,
+        left: Box::new(alloc, left)?,
+        right: Box::new(alloc, right)?,
+    })
+}
+
+fn get(alloc: Global) -> Value
+    ensures { ValueStands empty result }
+{
+    Value::LibraryCall {
+        function: LibraryFunction::GetChar,
+        groups: 0,
+        place: HERE,
+        arguments: Vec::new(alloc),
+    }
+}
+
+fn put(alloc: Global, value: Value) -> Result<Stmt, AllocError>
+    requires { ValueStands empty value }
+    ensures { IfOk result (StmtStands empty) }
+{
+    Ok(Stmt::Expression(Value::LibraryCall {
+        function: LibraryFunction::PutChar,
+        groups: 0,
+        place: HERE,
+        arguments: vec![in alloc; value]?,
+    }))
+}
+
+/// A local of type `int`.
+fn int_local(first: Option<Value>) -> LocalDef
+    requires { OptionalStands empty first }
+    ensures { LocalStands empty result }
+{
+    LocalDef {
+        c_type: CType::integer(IntType::Int),
+        first,
+    }
+}
+
+/// A program of one function with this body.
+fn program_of(alloc: Global, body: Vec<BlockItem>) -> Result<Program, AllocError>
+    requires { BlockStands empty body.items }
+    ensures { IfOk result ProgramStands }
+{
+    let main = FunctionDef {
+        name: ByteString::from_slice(alloc, b"main")?,
+        c_type: CType::integer(IntType::Int),
+        parameters: Vec::new(alloc),
+        returned: CType::integer(IntType::Int),
+        body,
+    };
+    Ok(Program {
+        types: TypeTable::new(alloc),
+        completed: Vec::new(alloc),
+        globals: Vec::new(alloc),
+        literals: Vec::new(alloc),
+        functions: vec![in alloc; main]?,
+    })
+}
+
+/// Whether lowering a block gives these points, this entry and so many registers.
+fn gives(
+    alloc: Global,
+    body: Vec<BlockItem>,
+    points: &[Op],
+    entry: usize,
+    registers: usize,
+) -> Result<bool, AllocError>
+    requires { BlockStands empty body.items }
+{
+    let tac = lower(alloc, &program_of(alloc, body)?)?;
+    let main = &tac.main;
+    Ok(
+        main.points.as_slice() == points
+            && main.entry == PointId(entry)
+            && main.registers == registers,
+    )
+}
+
+/// `{ putchar(getchar()); ; return -1; }`
+#[test]
+fn calls_and_an_empty_statement(rt: HostRuntime) -> Result<(), Fail> {
+    let alloc = rt.alloc();
+    let negative = Value::Minus {
+        place: HERE,
+        int_type: IntType::Int,
+        operand: Box::new(alloc, Value::Constant(1))?,
+    };
+    let body = vec![in alloc;
+        BlockItem::Statement(put(alloc, get(alloc))?),
+        BlockItem::Statement(Stmt::Empty),
+        BlockItem::Statement(Stmt::Return(Some(negative))),
+    ]?;
+    let points = [
+        returned(0),
+        constant(0, 0, 0),
+        returned(0),
+        arithmetic(BinOp::Sub, 0, 1, 2),
+        constant(1, 1, 3),
+        constant(0, 0, 4),
+        put_char(0, 5),
+        get_char(0, 6),
+    ];
+    assert!(rt; gives(alloc, body, &points, 7, 2)?);
+    Ok(())
+}
+
+/// `{ int x = (char)200; int y; y = x - 3 * x; return (y); }`
+#[test]
+fn variables_and_operands(rt: HostRuntime) -> Result<(), Fail> {
+    let alloc = rt.alloc();
+    let character = Value::Converted {
+        int_type: IntType::Char,
+        value: Box::new(alloc, Value::Constant(200))?,
+    };
+    let product = result_of(alloc, BinOp::Mul, Value::Constant(3), read(alloc, 0)?)?;
+    let difference = result_of(alloc, BinOp::Sub, read(alloc, 0)?, product)?;
+    let sum = assigned(alloc, 1, difference)?;
+    let y = Value::Grouped(Box::new(alloc, read(alloc, 1)?)?);
+    let body = vec![in alloc;
+        BlockItem::Local(int_local(Some(Value::Cast(Box::new(alloc, character)?)))),
+        BlockItem::Local(int_local(None)),
+        BlockItem::Statement(Stmt::Expression(sum)),
+        BlockItem::Statement(Stmt::Return(Some(y))),
+    ]?;
+    let points = [
+        returned(0),
+        constant(0, 0, 0),
+        returned(2),
+        copy(1, 2, 2),
+        copy(2, 1, 3),
+        arithmetic(BinOp::Sub, 2, 3, 4),
+        arithmetic(BinOp::Mul, 3, 4, 5),
+        copy(0, 4, 6),
+        constant(3, 3, 7),
+        copy(0, 2, 8),
+        copy(1, 0, 9),
+        convert(IntType::Char, 1, 1, 10),
+        constant(1, 200, 11),
+    ];
+    assert!(rt; gives(alloc, body, &points, 12, 5)?);
+    Ok(())
+}
+
+/// `for (int i = 0; i < 3; i++) { if (i) continue; break; }`
+fn counting(alloc: Global) -> Result<Stmt, AllocError>
+    ensures { IfOk result (StmtStands empty) }
+{
+    let condition = Value::Compare {
+        relation: Relation::Lt,
+        left: Box::new(alloc, read(alloc, 0)?)?,
+        right: Box::new(alloc, Value::Constant(3))?,
+    };
+    let step = Value::StepInteger {
+        stepping: Stepping::PostIncrement,
+        place: HERE,
+        int_type: IntType::Int,
+        object: Box::new(alloc, Object::Local(0))?,
+    };
+    let again = Stmt::If {
+        condition: read(alloc, 0)?,
+        then: Box::new(alloc, Stmt::Continue)?,
+    };
+    let items = vec![in alloc;
+        BlockItem::Statement(again),
+        BlockItem::Statement(Stmt::Break),
+    ]?;
+    Ok(Stmt::For {
+        start: ForStart::Locals(vec![in alloc; int_local(Some(Value::Constant(0)))]?),
+        condition: Some(condition),
+        step: Some(step),
+        body: Box::new(alloc, Stmt::Block(items))?,
+    })
+}
+
+#[test]
+fn loop_with_its_ways(rt: HostRuntime) -> Result<(), Fail> {
+    let alloc = rt.alloc();
+    let body = vec![in alloc; BlockItem::Statement(counting(alloc)?)]?;
+    let points = [
+        returned(0),
+        constant(0, 0, 0),
+        branch(IntType::Long, 1, 13, 1),
+        compare(Relation::Lt, 1, 2, 1, 2),
+        constant(2, 3, 3),
+        copy(0, 1, 4),
+        copy(2, 0, 5),
+        copy(0, 1, 6),
+        convert(IntType::Int, 2, 2, 7),
+        arithmetic(BinOp::Add, 2, 3, 8),
+        constant(3, 1, 9),
+        convert(IntType::Int, 0, 2, 10),
+        branch(IntType::Long, 1, 11, 1),
+        copy(0, 1, 12),
+        copy(1, 0, 5),
+        constant(1, 0, 14),
+    ];
+    assert!(rt; gives(alloc, body, &points, 15, 4)?);
+    Ok(())
+}
+
+/// `switch (getchar()) { case 65: putchar(66); case 67: putchar(68); break; default: return 2; }`
+fn cases(alloc: Global) -> Result<Stmt, AllocError>
+    ensures { IfOk result (StmtStands empty) }
+{
+    let items = vec![in alloc;
+        SwitchItem::Case(65),
+        SwitchItem::Statement(put(alloc, Value::Constant(66))?),
+        SwitchItem::Case(67),
+        SwitchItem::Statement(put(alloc, Value::Constant(68))?),
+        SwitchItem::Statement(Stmt::Break),
+        SwitchItem::Default,
+        SwitchItem::Statement(Stmt::Return(Some(Value::Constant(2)))),
+    ]?;
+    Ok(Stmt::Switch {
+        value: get(alloc),
+        items,
+    })
+}
+
+#[test]
+fn switch_that_falls_through(rt: HostRuntime) -> Result<(), Fail> {
+    let alloc = rt.alloc();
+    let body = vec![in alloc; BlockItem::Statement(cases(alloc)?)]?;
+    let points = [
+        returned(0),
+        constant(0, 0, 0),
+        returned(0),
+        constant(0, 2, 2),
+        put_char(0, 1),
+        constant(0, 68, 4),
+        put_char(0, 5),
+        constant(0, 66, 6),
+        branch(IntType::Int, 1, 5, 3),
+        compare(Relation::Eq, 0, 1, 1, 8),
+        constant(1, 67, 9),
+        branch(IntType::Int, 1, 7, 10),
+        compare(Relation::Eq, 0, 1, 1, 11),
+        constant(1, 65, 12),
+        get_char(0, 13),
+    ];
+    assert!(rt; gives(alloc, body, &points, 14, 2)?);
+    Ok(())
+}
+
+/// A local that isn't in scope, which no accepted program has.
+#[test]
+fn local_out_of_scope(rt: HostRuntime) -> Result<(), Fail> {
+    let alloc = rt.alloc();
+    let body = vec![in alloc; BlockItem::Statement(Stmt::Return(Some(read(alloc, 0)?)))]?;
+    let refused = lower(alloc, &program_of(alloc, body)?).is_err();
+    assert!(rt; refused);
+    Ok(())
+}

@@ -1,0 +1,2 @@
+-- What is proved of places in a text.
+pub mod Places
