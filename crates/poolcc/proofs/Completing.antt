@@ -51,6 +51,20 @@ pub said_trap : (status answer : Status) (kind : TrapKind) (old new : Option (Li
 said_trap status answer kind old new before after (inl said) e = sym said.stays ∙ e
 said_trap status answer kind old new before after (inr cut) e = absurd (no_trap status kind (sym e ∙ cut.becomes))
 
+failed_line-cases : (status : Status) → (after_failed_line status ≡ S.ReadFault) ⊎ (after_failed_line status ≡ S.WriteFault)
+failed_line-cases S.ReadFault = inl refl
+failed_line-cases status = inr refl
+
+-- a line that failed never tells of want of memory
+no_memory : (answer : Status) → answer ≡ S.OutOfMemory → (answer ≡ S.ReadFault) ⊎ (answer ≡ S.WriteFault) → ⊥
+no_memory answer e (inl read) = absurd cc
+no_memory answer e (inr written) = absurd cc
+
+-- where want of memory is told of, its line was written, and no write of it failed
+pub said_memory : (status answer : Status) (old new : Option (List ℕ)) (before after : ℕ) → Said status answer old new before after → answer ≡ S.OutOfMemory → (status ≡ S.OutOfMemory) × (after ≡ before)
+said_memory status answer old new before after (inl said) e = (sym said.stays ∙ e, said.faultless)
+said_memory status answer old new before after (inr cut) e = absurd (no_memory (after_failed_line status) (sym cut.becomes ∙ e) (failed_line-cases status))
+
 module _ (text : List ℕ) (limits : MachineLimits) (steps : ℕ) (left base : List ℕ) (left' written' : Option (List ℕ)) where
   over : (form : Form) (final : Final) (made : ℕ) (heap : Heap) → Compiles text limits form → HaltsAt (code_of form) (first_of_run form left) base steps final made heap left' written' → (status : Status) → ((trace : Trace) → status ≡ told (Over final trace)) → RunsAs text limits steps left base status written'
   over form final made heap compiles halts status is =

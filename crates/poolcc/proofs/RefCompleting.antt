@@ -1,44 +1,54 @@
 -- What follows from the answer of `ref` where nothing outside fails.
 use Rattle.std.proofs.Common.{◌≡◌, ℕ, ◌≤◌, ◌⊎◌, inl, inr, ◌++◌, List, Option, Some, length, sym, ap, ◌∙◌, refl, subst, arith}
-use Rattle.run_theory.specs.Runs.{Answer, Final, Ended, DepthReached, Undefined, Over, output_of, trace_of}
+use Rattle.run_theory.specs.Runs.{Trace, Final, Ended, DepthReached, Undefined, Over, output_of, trace_of}
 use Rattle.c_syntax.specs.Trees
 use Rattle.c_rules.specs.Elaborated.{typed_of}
-use Rattle.ref_semantics.specs.First.{reference}
 use Rattle.pcc_status.specs.declared.status.Refusal.{Refusal}
 use Rattle.pcc_status.specs.declared.status.Status.{Status}
 use Rattle.pcc_status.specs.declared.status.Status.TheVariants as S
 use Rattle.ref_meaning.specs.declared.run.RefEnd.{RefEnd}
 use Rattle.ref_meaning.specs.declared.run.RefEnd.TheVariants as E
+use Rattle.ref_meaning.specs.Running.{Reached, behaviour_of}
 use Rattle.poolcc.specs.Compiled.{IsAccepted}
-use Rattle.poolcc.specs.Complete.{told, IsToldOf, IsToldUnlessMemory}
+use Rattle.poolcc.specs.Complete.{told, IsReachedAs, IsReachedUnlessMemory}
 use Rattle.poolcc.specs.Exec.{source_limit}
-use Rattle.poolcc.specs.Ref.{Ends, ProgramGives, RunsMeaning, RefGives}
+use Rattle.poolcc.specs.Ref.{Ends, IsSpent, ProgramGives, RunsMeaning, RefGives}
 use Rattle.poolcc.specs.Refused.{IsRefused, IsLate}
 use Rattle.poolcc.proofs.Refusals.{one_refusal, accepted_not_refused}
 
-over : (final : Final) (base : List ℕ) (written' : Option (List ℕ)) (answer : Answer) (status : Status) → ((trace : _) → status ≡ told (Over final trace)) → Ends final base written' answer → IsToldOf answer base status written'
-over final base written' answer status is ends = record {
-  ends = is ends.trace ∙ ap told (sym ends.is);
-  output = ends.out ∙ ap (λ a. Some (base ++ output_of (trace_of a))) (sym ends.is);
+over : (final : Final) (base : List ℕ) (left' written' : Option (List ℕ)) (there : Reached) (status : Status) → ((trace : Trace) → status ≡ told (Over final trace)) → Ends final base left' written' there → IsReachedAs there base status left' written'
+over final base left' written' there status is ends = record {
+  told_of = record {
+    ends = is ends.trace ∙ ap (λ (r : Reached). told r.answer) (sym ends.is);
+    output = ends.out ∙ ap (λ (r : Reached). Some (base ++ output_of (trace_of r.answer))) (sym ends.is);
+  };
+  unread = ends.told ∙ ap (λ (r : Reached). Some r.unread) (sym ends.is);
+}
+
+spent : (base : List ℕ) (left' written' : Option (List ℕ)) (there : Reached) → IsSpent base left' written' there → IsReachedAs there base S.StepsSpent left' written'
+spent base left' written' there all = record {
+  told_of = record {
+    ends = ap (λ (r : Reached). told r.answer) (sym all.is);
+    output = all.out ∙ ap (λ (r : Reached). Some (base ++ output_of (trace_of r.answer))) (sym all.is);
+  };
+  unread = all.told ∙ ap (λ (r : Reached). Some r.unread) (sym all.is);
 }
 
 module _ (text : List ℕ) (steps : ℕ) (left base : List ℕ) (left' written' : Option (List ℕ)) (short : length text ≤ source_limit) where
   module _ (program : Trees.ProgramTree) (accepted : IsAccepted text program) where
-    abbrev answer : Answer
-    answer = reference (typed_of program) left steps
+    abbrev there : Reached
+    there = behaviour_of (typed_of program) left steps
 
     -- what it did is what this program does, since the text reads as no other
-    given : (end : RefEnd) → RunsMeaning text steps left base end written' → ProgramGives answer base end written'
-    given end does = subst (λ other. ProgramGives (reference (typed_of other) left steps) base end written') (accepted.reads.only does.program does.accepted.reads.reads) does.gives
+    given : (end : RefEnd) → RunsMeaning text steps left base end left' written' → ProgramGives there base end left' written'
+    given end does = subst (λ other. ProgramGives (behaviour_of (typed_of other) left steps) base end left' written') (accepted.reads.only does.program does.accepted.reads.reads) does.gives
 
     -- an answer of ref that is no fault is the program's, or memory ran out
-    pub ref_completed : (status : Status) → RefGives text steps left base status left' written' → (status ≡ S.ReadFault → ⊥) → (status ≡ S.WriteFault → ⊥) → IsToldUnlessMemory answer base status written'
-    ref_completed (S.Program status) gives read write = inr (over (Ended status) base written' answer (S.Program status) (λ trace. refl) (given (E.Ended status) gives))
-    ref_completed S.Depth gives read write = inr (over DepthReached base written' answer S.Depth (λ trace. refl) (given E.Depth gives))
-    ref_completed (S.Undefined kind place) gives read write = inr (over (Undefined kind place) base written' answer (S.Undefined kind place) (λ trace. refl) (given (E.Undefined kind place) gives))
-    ref_completed S.StepsSpent gives read write =
-        let spent = given E.StepsSpent gives in
-        inr (record { ends = ap told (sym spent.is); output = spent.out ∙ ap (λ a. Some (base ++ output_of (trace_of a))) (sym spent.is) })
+    pub ref_completed : (status : Status) → RefGives text steps left base status left' written' → (status ≡ S.ReadFault → ⊥) → (status ≡ S.WriteFault → ⊥) → IsReachedUnlessMemory there base status left' written'
+    ref_completed (S.Program status) gives read write = inr (over (Ended status) base left' written' there (S.Program status) (λ trace. refl) (given (E.Ended status) gives))
+    ref_completed S.Depth gives read write = inr (over DepthReached base left' written' there S.Depth (λ trace. refl) (given E.Depth gives))
+    ref_completed (S.Undefined kind place) gives read write = inr (over (Undefined kind place) base left' written' there (S.Undefined kind place) (λ trace. refl) (given (E.Undefined kind place) gives))
+    ref_completed S.StepsSpent gives read write = inr (spent base left' written' there (given E.StepsSpent gives))
     ref_completed (S.Refused refusal) gives read write = absurd (accepted_not_refused text program refusal accepted gives.1 gives.2)
     ref_completed S.SourceTooLong gives read write = let long = gives.0 in absurd (omega arith)
     ref_completed S.ReadFault gives read write = absurd (read refl)
@@ -53,7 +63,7 @@ module _ (text : List ℕ) (steps : ℕ) (left base : List ℕ) (left' written' 
     ref_completed (S.Usage kind) gives read write = absurd gives
 
   module _ (refusal : Refusal) (refused : IsRefused text refusal) (at_once : IsLate refusal → ⊥) where
-    not_run : {end : RefEnd} → RunsMeaning text steps left base end written' → ⊥
+    not_run : {end : RefEnd} → RunsMeaning text steps left base end left' written' → ⊥
     not_run does = accepted_not_refused text does.program refusal does.accepted refused at_once
 
     -- a text that is refused at once gets that answer, or memory ran out

@@ -6,6 +6,7 @@ use Rattle.image_form.specs.Form.{Form}
 use Rattle.image_form.specs.Faults.{IsBadAt}
 use Rattle.pcc_status.specs.declared.status.Status.{Status}
 use Rattle.pcc_status.specs.declared.status.Status.TheVariants as S
+use Rattle.ref_meaning.specs.Running.{Reached}
 use Rattle.poolcc.specs.Compiled.{image_run, Compiles}
 
 -- the answer of a run as a command tells it: a run that is going has spent its steps
@@ -34,6 +35,15 @@ pub record IsToldOf (answer : Answer) (base : List ℕ) (status : Status) (writt
 -- that, or memory ran out
 abbrev pub IsToldUnlessMemory : Answer → List ℕ → Status → Option (List ℕ) → Type 0
 IsToldUnlessMemory answer base status written = (status ≡ S.OutOfMemory) ⊎ IsToldOf answer base status written
+
+-- The status, the output behind the base, and what is left of the input are those of where the program comes to.
+pub record IsReachedAs (there : Reached) (base : List ℕ) (status : Status) (left written : Option (List ℕ)) : Type 0 where
+  pub told_of : IsToldOf there.answer base status written
+  pub unread : left ≡ Some there.unread
+
+-- that, or memory ran out
+abbrev pub IsReachedUnlessMemory : Reached → List ℕ → Status → Option (List ℕ) → Option (List ℕ) → Type 0
+IsReachedUnlessMemory there base status left written = (status ≡ S.OutOfMemory) ⊎ IsReachedAs there base status left written
 
 -- that, or memory ran out
 abbrev pub RunsUnlessMemory : List ℕ → MachineLimits → ℕ → List ℕ → List ℕ → Status → Option (List ℕ) → Type 0

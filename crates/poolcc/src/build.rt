@@ -26,6 +26,7 @@ pub fn build_file<F: Files, O: Sink>(
     ensures missing { F.contents files.old file.now ≡ Missing → ((result ≡ Status.ReadFault) ⊎ (result ≡ Status.OutOfMemory)) × (O.written out.new ≡ O.written out.old) }
     ensures read_cause { result ≡ Status.ReadFault → Rose (F.faults files.old file.now) (F.faults files.new file.now) }
     ensures write_cause { result ≡ Status.WriteFault → Rose (O.faults out.old) (O.faults out.new) }
+    ensures memory_cause { result ≡ Status.OutOfMemory → ((other : List ℕ) → F.faults files.new other ≡ F.faults files.old other) × (O.faults out.new ≡ O.faults out.old) }
     ensures long_cause { result ≡ Status.SourceTooLong → source_limit < F.reach files.new file.now }
     ensures no_image { result ≢ Status.ImageTooLong }
     ensures well_formed { IsUsage result → ⊥ }
@@ -47,6 +48,7 @@ fn build_text<O: Sink>(alloc: Global, text: &[u8], limits: MachineLimits, out: &
     ensures gives { (base : List ℕ) → O.written out.old ≡ Some base → BuildGives text.now limits base result (O.written out.new) }
     ensures no_fault { result ≢ Status.ReadFault }
     ensures write_cause { result ≡ Status.WriteFault → Rose (O.faults out.old) (O.faults out.new) }
+    ensures memory_cause { result ≡ Status.OutOfMemory → O.faults out.new ≡ O.faults out.old }
     ensures short { result ≢ Status.SourceTooLong }
     ensures no_image { result ≢ Status.ImageTooLong }
     ensures well_formed { IsUsage result → ⊥ }

@@ -33,6 +33,7 @@ pub fn exec<F: Files, I: Source, O: Sink>(
     ensures missing { F.contents files.old file.now ≡ Missing → ((result ≡ Status.ReadFault) ⊎ (result ≡ Status.OutOfMemory)) × (I.left input.new ≡ I.left input.old) × (O.written out.new ≡ O.written out.old) }
     ensures read_cause { result ≡ Status.ReadFault → Rose (F.faults files.old file.now) (F.faults files.new file.now) ⊎ Rose (I.faults input.old) (I.faults input.new) }
     ensures write_cause { result ≡ Status.WriteFault → Rose (O.faults out.old) (O.faults out.new) }
+    ensures memory_cause { result ≡ Status.OutOfMemory → ((other : List ℕ) → F.faults files.new other ≡ F.faults files.old other) × (I.faults input.new ≡ I.faults input.old) × (O.faults out.new ≡ O.faults out.old) }
     ensures long_cause { result ≡ Status.SourceTooLong → source_limit < F.reach files.new file.now }
     ensures no_image { result ≢ Status.ImageTooLong }
     ensures well_formed { IsUsage result → ⊥ }
@@ -63,6 +64,7 @@ fn run_text<I: Source, O: Sink>(
         → ExecGives text.now limits steps left base result (I.left input.new) (O.written out.new) }
     ensures read_cause { result ≡ Status.ReadFault → Rose (I.faults input.old) (I.faults input.new) }
     ensures write_cause { result ≡ Status.WriteFault → Rose (O.faults out.old) (O.faults out.new) }
+    ensures memory_cause { result ≡ Status.OutOfMemory → (I.faults input.new ≡ I.faults input.old) × (O.faults out.new ≡ O.faults out.old) }
     ensures short { result ≢ Status.SourceTooLong }
     ensures no_image { result ≢ Status.ImageTooLong }
     ensures well_formed { IsUsage result → ⊥ }
@@ -89,6 +91,7 @@ pub(crate) fn run_image<I: Source, O: Sink>(
         → RunsImageTo (form_of image.now) left base steps result (I.left input.new) (O.written out.new) }
     ensures read_cause { result ≡ RunEnd.ReadFault → Rose (I.faults input.old) (I.faults input.new) }
     ensures write_cause { result ≡ RunEnd.WriteFault → Rose (O.faults out.old) (O.faults out.new) }
+    ensures memory_cause { result ≡ RunEnd.OutOfMemory → (I.faults input.new ≡ I.faults input.old) × (O.faults out.new ≡ O.faults out.old) }
     ensures reads_counted { I.faults input.old ≤ I.faults input.new }
     ensures writes_counted { O.faults out.old ≤ O.faults out.new }
 {

@@ -28,6 +28,7 @@ pub fn run_file<F: Files, I: Source, O: Sink>(
     ensures missing { F.contents files.old file.now ≡ Missing → ((result ≡ Status.ReadFault) ⊎ (result ≡ Status.OutOfMemory)) × (I.left input.new ≡ I.left input.old) × (O.written out.new ≡ O.written out.old) }
     ensures read_cause { result ≡ Status.ReadFault → Rose (F.faults files.old file.now) (F.faults files.new file.now) ⊎ Rose (I.faults input.old) (I.faults input.new) }
     ensures write_cause { result ≡ Status.WriteFault → Rose (O.faults out.old) (O.faults out.new) }
+    ensures memory_cause { result ≡ Status.OutOfMemory → ((other : List ℕ) → F.faults files.new other ≡ F.faults files.old other) × (I.faults input.new ≡ I.faults input.old) × (O.faults out.new ≡ O.faults out.old) }
     ensures long_cause { result ≡ Status.ImageTooLong → image_limit < F.reach files.new file.now }
     ensures no_source { result ≢ Status.SourceTooLong }
     ensures well_formed { IsUsage result → ⊥ }
@@ -56,6 +57,7 @@ fn run_bytes<I: Source, O: Sink>(
         → ImageGives bytes.now steps left base result (I.left input.new) (O.written out.new) }
     ensures read_cause { result ≡ Status.ReadFault → Rose (I.faults input.old) (I.faults input.new) }
     ensures write_cause { result ≡ Status.WriteFault → Rose (O.faults out.old) (O.faults out.new) }
+    ensures memory_cause { result ≡ Status.OutOfMemory → (I.faults input.new ≡ I.faults input.old) × (O.faults out.new ≡ O.faults out.old) }
     ensures short { result ≢ Status.ImageTooLong }
     ensures no_source { result ≢ Status.SourceTooLong }
     ensures well_formed { IsUsage result → ⊥ }

@@ -3,7 +3,7 @@
 ghost use Rattle.std.specs.Prelude.{◌≡◌, ◌≢◌, ℕ, ◌<◌, ◌≤◌, ◌⊎◌, List, Some, length};
 ghost use Rattle.pcc_outside.specs.Outside.{Rose, Missing, Holds};
 ghost use Rattle.c_typed.specs.DefinitionViews.{program_of, ProgramStands};
-ghost use Rattle.ref_semantics.specs.First.{reference};
+ghost use Rattle.ref_meaning.specs.Running.{behaviour_of};
 ghost use Rattle.poolcc.specs.Exec.{IsUsage, source_limit};
 ghost use Rattle.poolcc.specs.Ref.{RefGives, ProgramGives};
 ghost use Rattle.poolcc.specs.Seen.{end_seen};
@@ -30,6 +30,7 @@ pub fn ref_file<F: Files, I: Source, O: Sink>(
     ensures missing { F.contents files.old file.now ≡ Missing → ((result ≡ Status.ReadFault) ⊎ (result ≡ Status.OutOfMemory)) × (I.left input.new ≡ I.left input.old) × (O.written out.new ≡ O.written out.old) }
     ensures read_cause { result ≡ Status.ReadFault → Rose (F.faults files.old file.now) (F.faults files.new file.now) ⊎ Rose (I.faults input.old) (I.faults input.new) }
     ensures write_cause { result ≡ Status.WriteFault → Rose (O.faults out.old) (O.faults out.new) }
+    ensures memory_cause { result ≡ Status.OutOfMemory → ((other : List ℕ) → F.faults files.new other ≡ F.faults files.old other) × (I.faults input.new ≡ I.faults input.old) × (O.faults out.new ≡ O.faults out.old) }
     ensures long_cause { result ≡ Status.SourceTooLong → source_limit < F.reach files.new file.now }
     ensures no_image { result ≢ Status.ImageTooLong }
     ensures well_formed { IsUsage result → ⊥ }
@@ -58,6 +59,7 @@ fn ref_text<I: Source, O: Sink>(
         → RefGives text.now steps left base result (I.left input.new) (O.written out.new) }
     ensures read_cause { result ≡ Status.ReadFault → Rose (I.faults input.old) (I.faults input.new) }
     ensures write_cause { result ≡ Status.WriteFault → Rose (O.faults out.old) (O.faults out.new) }
+    ensures memory_cause { result ≡ Status.OutOfMemory → (I.faults input.new ≡ I.faults input.old) × (O.faults out.new ≡ O.faults out.old) }
     ensures short { result ≢ Status.SourceTooLong }
     ensures no_image { result ≢ Status.ImageTooLong }
     ensures well_formed { IsUsage result → ⊥ }
@@ -80,9 +82,10 @@ fn ref_program<I: Source, O: Sink>(
     out: &mut O,
 ) -> RefEnd
     requires { ProgramStands program.now }
-    ensures gives { (left base : List ℕ) → I.left input.old ≡ Some left → O.written out.old ≡ Some base → ProgramGives (reference (program_of program.now) left steps) base result (O.written out.new) }
+    ensures gives { (left base : List ℕ) → I.left input.old ≡ Some left → O.written out.old ≡ Some base → ProgramGives (behaviour_of (program_of program.now) left steps) base result (I.left input.new) (O.written out.new) }
     ensures read_cause { result ≡ RefEnd.ReadFault → Rose (I.faults input.old) (I.faults input.new) }
     ensures write_cause { result ≡ RefEnd.WriteFault → Rose (O.faults out.old) (O.faults out.new) }
+    ensures memory_cause { result ≡ RefEnd.OutOfMemory → (I.faults input.new ≡ I.faults input.old) × (O.faults out.new ≡ O.faults out.old) }
     ensures reads_counted { I.faults input.old ≤ I.faults input.new }
     ensures writes_counted { O.faults out.old ≤ O.faults out.new }
 {

@@ -21,8 +21,9 @@ ghost use Rattle.poolcc.specs.Compiled.{IsAccepted, IsInteger, image_run};
 ghost use Rattle.c_syntax.specs.Trees.{ProgramTree};
 ghost use Rattle.c_rules.specs.Elaborated.{typed_of};
 ghost use Rattle.ref_semantics.specs.First.{reference};
+ghost use Rattle.ref_meaning.specs.Running.{behaviour_of};
 ghost use Rattle.poolcc.specs.Answering.{IsAnswer};
-ghost use Rattle.poolcc.specs.Complete.{RunsUnlessMemory, IsToldUnlessMemory, IsBuiltUnlessMemory, IsBadUnlessMemory};
+ghost use Rattle.poolcc.specs.Complete.{RunsUnlessMemory, IsToldUnlessMemory, IsReachedUnlessMemory, IsBuiltUnlessMemory, IsBadUnlessMemory};
 ghost use Rattle.poolcc.specs.Exec.{source_limit};
 ghost use Rattle.poolcc.specs.ImageRun.{image_limit};
 ghost use Rattle.image_form.specs.Form.{Form, ImageOf, IsImageBytes};
@@ -56,6 +57,7 @@ pub fn poolcc<F: Files, I: Source, O: Sink, E: Sink>(
     ensures words_cause { result ≡ Status.Usage UsageKind.Words → line_of (map string_bytes words.now) ≡ NoLine }
     ensures read_cause { result ≡ Status.ReadFault → (file : List ℕ) × Names (line_of (map string_bytes words.now)) file × (Rose (F.faults files.old file) (F.faults files.new file) ⊎ Rose (I.faults input.old) (I.faults input.new)) }
     ensures write_cause { result ≡ Status.WriteFault → Rose (O.faults out.old) (O.faults out.new) ⊎ Rose (E.faults err.old) (E.faults err.new) }
+    ensures memory_cause { result ≡ Status.OutOfMemory → ((other : List ℕ) → F.faults files.new other ≡ F.faults files.old other) × (I.faults input.new ≡ I.faults input.old) × (O.faults out.new ≡ O.faults out.old) × (E.faults err.new ≡ E.faults err.old) }
     ensures long_cause { result ≡ Status.SourceTooLong → (file : List ℕ) × Names (line_of (map string_bytes words.now)) file × (source_limit < F.reach files.new file) }
     ensures image_long_cause { result ≡ Status.ImageTooLong → (file : List ℕ) × Names (line_of (map string_bytes words.now)) file × (image_limit < F.reach files.new file) }
     ensures trapped_cause { (kind : TrapKind) (file : List ℕ) (limits : SaidLimits) (steps : ℕ) (text left base : List ℕ) → result ≡ Status.Trapped kind → line_of (map string_bytes words.now) ≡ Exec file limits steps
@@ -80,12 +82,12 @@ pub fn poolcc<F: Files, I: Source, O: Sink, E: Sink>(
         → (Rose (F.faults files.old file) (F.faults files.new file) → ⊥) → (Rose (I.faults input.old) (I.faults input.new) → ⊥) → (Rose (O.faults out.old) (O.faults out.new) → ⊥) → (Rose (E.faults err.old) (E.faults err.new) → ⊥)
         → IsRefused text refusal → (result ≡ Status.OutOfMemory) ⊎ (result ≡ Status.Refused refusal) }
 
-    // Where the text of `ref` is accepted and nothing outside fails, the answer and the output are those of its program with so
-    // many units, or memory ran out; where it is refused at once, the answer is that refusal.
+    // Where the text of `ref` is accepted and nothing outside fails, the answer, the output and what is left of the input are those
+    // of its program with so many units, or memory ran out; where it is refused at once, the answer is that refusal.
     ensures ref_complete { (file : List ℕ) (steps : ℕ) (text left base : List ℕ) (program : ProgramTree) → line_of (map string_bytes words.now) ≡ Ref file steps
         → F.contents files.old file ≡ Holds text → length text ≤ source_limit → I.left input.old ≡ Some left → O.written out.old ≡ Some base
         → (Rose (F.faults files.old file) (F.faults files.new file) → ⊥) → (Rose (I.faults input.old) (I.faults input.new) → ⊥) → (Rose (O.faults out.old) (O.faults out.new) → ⊥) → (Rose (E.faults err.old) (E.faults err.new) → ⊥)
-        → IsAccepted text program → IsToldUnlessMemory (reference (typed_of program) left steps) base result (O.written out.new) }
+        → IsAccepted text program → IsReachedUnlessMemory (behaviour_of (typed_of program) left steps) base result (I.left input.new) (O.written out.new) }
     ensures ref_refused { (file : List ℕ) (steps : ℕ) (text left base : List ℕ) (refusal : Refusal) → line_of (map string_bytes words.now) ≡ Ref file steps
         → F.contents files.old file ≡ Holds text → length text ≤ source_limit → I.left input.old ≡ Some left → O.written out.old ≡ Some base
         → (Rose (F.faults files.old file) (F.faults files.new file) → ⊥) → (Rose (I.faults input.old) (I.faults input.new) → ⊥) → (Rose (O.faults out.old) (O.faults out.new) → ⊥) → (Rose (E.faults err.old) (E.faults err.new) → ⊥)
@@ -136,6 +138,7 @@ fn command<F: Files, I: Source, O: Sink>(
     ensures words_cause { result ≡ Status.Usage UsageKind.Words → line_of (map string_bytes words.now) ≡ NoLine }
     ensures read_cause { result ≡ Status.ReadFault → (file : List ℕ) × Names (line_of (map string_bytes words.now)) file × (Rose (F.faults files.old file) (F.faults files.new file) ⊎ Rose (I.faults input.old) (I.faults input.new)) }
     ensures write_cause { result ≡ Status.WriteFault → Rose (O.faults out.old) (O.faults out.new) }
+    ensures memory_cause { result ≡ Status.OutOfMemory → ((other : List ℕ) → F.faults files.new other ≡ F.faults files.old other) × (I.faults input.new ≡ I.faults input.old) × (O.faults out.new ≡ O.faults out.old) }
     ensures long_cause { result ≡ Status.SourceTooLong → (file : List ℕ) × Names (line_of (map string_bytes words.now)) file × (source_limit < F.reach files.new file) }
     ensures image_long_cause { result ≡ Status.ImageTooLong → (file : List ℕ) × Names (line_of (map string_bytes words.now)) file × (image_limit < F.reach files.new file) }
     ensures files_counted { (name : List ℕ) → F.faults files.old name ≤ F.faults files.new name }

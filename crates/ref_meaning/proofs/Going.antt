@@ -1,10 +1,10 @@
 -- How a run goes on, step by step.
-use Rattle.std.proofs.Common.{◌≡◌, ℕ, suc, ◌+◌, ◌-◌, ◌<◌, ◌≤◌, Bool, true, false, List, ◌++◌, Option, Some, None, is_some, Ok, Err, inl, inr, ◌⊎◌, refl, sym, ap, subst, ◌∙◌, arith}
+use Rattle.std.proofs.Common.{◌≡◌, ℕ, suc, ◌+◌, ◌-◌, ◌<◌, ◌≤◌, Bool, true, false, List, ◌++◌, Option, Some, None, is_some, Result, Ok, Err, inl, inr, ◌⊎◌, refl, sym, ap, subst, ◌∙◌, arith}
 use Rattle.std.proofs.lemmas.Bool.{false≢true, cases_lt}
 use Rattle.std.specs.Int.{from_bool}
-use Rattle.run_theory.specs.Runs.{Going, Over, IsGoing, output_of}
+use Rattle.run_theory.specs.Runs.{Final, Trace, Going, Over, IsGoing, output_of}
 use Rattle.ref_semantics.specs.Store.{State, ◌>>=◌, continue_with}
-use Rattle.ref_semantics.specs.First.{status_of, around_of}
+use Rattle.ref_semantics.specs.First.{around_of}
 use Rattle.c_typed.specs.DefinitionViews.{program_of}
 use Rattle.ref_steps.specs.Steps.{goes_on, task_then, resume}
 use Rattle.ref_steps.specs.Units.{takes_unit}
@@ -23,7 +23,7 @@ use Rattle.ref_meaning.specs.Views.{table_of, operands_of, part_in, task_in, con
 use Rattle.ref_meaning.specs.Holding.{Holds}
 use Rattle.ref_meaning.specs.Doing.{acting, takes}
 use Rattle.ref_meaning.specs.Moving.{IsKept, IsTold, IsOverTold, StaysTold, Acts}
-use Rattle.ref_meaning.specs.Running.{Behaviour, answers, StandsFor, Ends, GoesOn, BreaksOff, RunAnswers, SpendsNeeded, end_in, answer_of, halted, spent_at, IsHalted, HoldsUnlessOver}
+use Rattle.ref_meaning.specs.Running.{Reached, reached, Behaviour, answers, StandsFor, Ends, GoesOn, BreaksOff, RunAnswers, SpendsNeeded, end_in, answer_of, halted, spent_at, IsHalted, HoldsUnlessOver}
 
 -- Of so many units some are left, and the run goes on behind the others; with fewer than these it was going.
 pub record Goes (first now : RefRun) (behaviour : Behaviour) (base input : List ℕ) (steps units : ℕ) (is_left written : Option (List ℕ)) : Type 0 where
@@ -31,7 +31,10 @@ pub record Goes (first now : RefRun) (behaviour : Behaviour) (base input : List 
   pub split : done + units ≡ steps
   pub counted : now.spent ≡ first.spent + done
   pub goes_on : GoesOn now behaviour base input done is_left written
-  pub before : (fewer : ℕ) → fewer < done → IsGoing (behaviour input fewer)
+  pub before : (fewer : ℕ) → fewer < done → IsGoing (behaviour input fewer).answer
+
+abbrev at-end : Final → Trace → List ℕ → Reached
+at-end final trace rest = record { answer = Over final trace; unread = rest }
 
 none-below : (n : ℕ) → n < 0 → ⊥
 none-below n h = omega (arith, h)
@@ -67,9 +70,9 @@ unit-behind done b n = let plus = unit-plus b n in omega (arith, plus)
 
 -- the answer is that of the step and what follows
 proceeds : (run : RefRun) (state : State) (rest : List ℕ) (b : Bool) (n : ℕ) → takes_unit (takes run) ≡ b
-    → answers run state rest (with_unit b n) ≡ status_of ((acting run >>= goes_on (around_run run) (functions_of run)) (left n rest state))
-proceeds run state rest true n e = ap status_of (goes-spending (around_run run) (functions_of run) (config_in run) (left 0 rest state) n e)
-proceeds run state rest false n e = ap status_of (goes-freely (around_run run) (functions_of run) (config_in run) (left n rest state) e)
+    → answers run state rest (with_unit b n) ≡ reached ((acting run >>= goes_on (around_run run) (functions_of run)) (left n rest state))
+proceeds run state rest true n e = ap reached (goes-spending (around_run run) (functions_of run) (config_in run) (left 0 rest state) n e)
+proceeds run state rest false n e = ap reached (goes-freely (around_run run) (functions_of run) (config_in run) (left n rest state) e)
 
 -- ---- ends
 
@@ -81,27 +84,29 @@ is-over : (final : memory_final.Final) (task : memory_task.Task) → end_in task
 is-over final (K.Over other) e = ap (λ found. K.Over (inner final found)) e
 is-over final _ e = absurd (false≢true (ap is_some e))
 
-over-task : (run : RefRun) (final : memory_final.Final) → end_in run.control.task ≡ Some final → (state : State) → status_of (goes_on (around_run run) (functions_of run) (config_in run) state) ≡ Over (final_of final) state.trace
+over-task : (run : RefRun) (final : memory_final.Final) → end_in run.control.task ≡ Some final → (state : State) → reached (goes_on (around_run run) (functions_of run) (config_in run) state) ≡ at-end (final_of final) state.trace state.input
 over-task run final e state =
     let is = is-over final run.control.task e in
-    λ i. status_of (task_then (around_run run) (functions_of run) (config_in run).depth (task_in (table_of run) (operands_of run) (part_in (table_of run) run.control.node) (is i))
+    λ i. reached (task_then (around_run run) (functions_of run) (config_in run).depth (task_in (table_of run) (operands_of run) (part_in (table_of run) run.control.node) (is i))
     (resume (around_run run) (functions_of run) (config_in run).depth (config_in run).frames) state)
 
 over-now : (first now : RefRun) (behaviour : Behaviour) (base input : List ℕ) (steps units : ℕ) (is_left written : Option (List ℕ)) (final : memory_final.Final)
-    → (goes : Goes first now behaviour base input steps units is_left written) → end_in now.control.task ≡ Some final → (more : ℕ) → behaviour input (goes.done + more) ≡ Over (final_of final) goes.goes_on.stands.state.trace
+    → (goes : Goes first now behaviour base input steps units is_left written) → end_in now.control.task ≡ Some final → (more : ℕ) → behaviour input (goes.done + more) ≡ at-end (final_of final) goes.goes_on.stands.state.trace goes.goes_on.rest
 over-now first now behaviour base input steps units is_left written final goes e more =
     let far = goes.goes_on in
     let stands = far.stands in
     far.follows more ∙ (stands.behaves far.rest more ∙ over-task now final e (left more far.rest stands.state))
 
 pub ends-over : (first now : RefRun) (behaviour : Behaviour) (base input : List ℕ) (steps units : ℕ) (is_left written : Option (List ℕ)) (final : memory_final.Final)
-    → Goes first now behaviour base input steps units is_left written → end_in now.control.task ≡ Some final → Ends behaviour base input steps (final_of final) written
+    → Goes first now behaviour base input steps units is_left written → end_in now.control.task ≡ Some final → Ends behaviour base input steps (final_of final) is_left written
 ends-over first now behaviour base input steps units is_left written final goes e =
     let far = goes.goes_on in
     let stands = far.stands in
     record {
       trace = stands.state.trace;
+      rest = far.rest;
       is = ap (behaviour input) (sym goes.split) ∙ over-now first now behaviour base input steps units is_left written final goes e units;
+      told = far.told;
       out = far.out ∙ ap (λ front. Some (base ++ front)) (sym stands.front);
     }
 
@@ -114,12 +119,13 @@ needed-over first now behaviour base input steps units is_left written final goe
       within = omega (arith, goes.split);
       counted = goes.counted;
       trace = goes.goes_on.stands.state.trace;
+      rest = goes.goes_on.rest;
       over = over-now first now behaviour base input steps units is_left written final goes e;
       going = goes.before;
     }
 
 pub answers-end : (old new : RefRun) (behaviour : Behaviour) (base input : List ℕ) (steps : ℕ) (is_left written : Option (List ℕ)) (final : memory_final.Final)
-    → Ends behaviour base input steps (final_of final) written → RunAnswers old new behaviour base input steps (answer_of final) is_left written
+    → Ends behaviour base input steps (final_of final) is_left written → RunAnswers old new behaviour base input steps (answer_of final) is_left written
 answers-end old new behaviour base input steps is_left written (F.Ended status) ends = ends
 answers-end old new behaviour base input steps is_left written F.Depth ends = ends
 answers-end old new behaviour base input steps is_left written (F.Undefined kind place) ends = ends
@@ -128,10 +134,10 @@ answers-end old new behaviour base input steps is_left written (F.Undefined kind
 
 -- where a unit is needed and none is left
 goes-nowhere-now : (now : RefRun) (behaviour : Behaviour) (base input : List ℕ) (done : ℕ) (is_left written : Option (List ℕ)) (far : GoesOn now behaviour base input done is_left written) → takes_unit (takes now) ≡ true
-    → behaviour input done ≡ Going far.stands.state.trace
+    → behaviour input done ≡ record { answer = Going far.stands.state.trace; unread = far.rest }
 goes-nowhere-now now behaviour base input done is_left written far e =
     let stands = far.stands in
-    ap (behaviour input) (sym (none-more done)) ∙ (far.follows 0 ∙ (stands.behaves far.rest 0 ∙ ap status_of (goes-nowhere (around_run now) (functions_of now) (config_in now) (left 0 far.rest stands.state) e)))
+    ap (behaviour input) (sym (none-more done)) ∙ (far.follows 0 ∙ (stands.behaves far.rest 0 ∙ ap reached (goes-nowhere (around_run now) (functions_of now) (config_in now) (left 0 far.rest stands.state) e)))
   where
     none-more : (n : ℕ) → n + 0 ≡ n
     none-more n = omega arith
@@ -145,7 +151,9 @@ spent-all first now behaviour base input steps units is_left written goes e none
     let all : goes.done ≡ steps = omega (arith, split) in (
       record {
         trace = stands.state.trace;
+        rest = far.rest;
         is = ap (behaviour input) (sym all) ∙ goes-nowhere-now now behaviour base input goes.done is_left written far e;
+        told = far.told;
         out = far.out ∙ ap (λ front. Some (base ++ front)) (sym stands.front);
         goes_on = subst (λ n. GoesOn now behaviour base input n is_left written) all far;
       },
@@ -176,7 +184,7 @@ is-told base rest front state is_left written told out is = (told, out ∙ ap (�
 
 -- with fewer units than those behind a step it was going
 goes-before : (first now : RefRun) (behaviour : Behaviour) (base input : List ℕ) (steps units : ℕ) (is_left written : Option (List ℕ)) (b : Bool) (goes : Goes first now behaviour base input steps units is_left written)
-    → takes_unit (takes now) ≡ b → (fewer : ℕ) → fewer < goes.done + from_bool b → IsGoing (behaviour input fewer)
+    → takes_unit (takes now) ≡ b → (fewer : ℕ) → fewer < goes.done + from_bool b → IsGoing (behaviour input fewer).answer
 goes-before first now behaviour base input steps units is_left written false goes e fewer h = goes.before fewer (no-more goes.done h)
   where
     no-more : (n : ℕ) → fewer < n + from_bool false → fewer < n
@@ -186,9 +194,9 @@ goes-before first now behaviour base input steps units is_left written true goes
     last : goes.done ≤ fewer → goes.done ≡ fewer
     last le = let one : from_bool true ≡ 1 = refl in omega (arith, one, h, le)
 
-    by : (fewer < goes.done) ⊎ (goes.done ≤ fewer) → IsGoing (behaviour input fewer)
+    by : (fewer < goes.done) ⊎ (goes.done ≤ fewer) → IsGoing (behaviour input fewer).answer
     by (inl lt) = goes.before fewer lt
-    by (inr le) = subst (λ n. IsGoing (behaviour input n)) (last le) (subst IsGoing (sym (goes-nowhere-now now behaviour base input goes.done is_left written goes.goes_on e)) tt)
+    by (inr le) = subst (λ n. IsGoing (behaviour input n).answer) (last le) (subst (λ (there : Reached). IsGoing there.answer) (sym (goes-nowhere-now now behaviour base input goes.done is_left written goes.goes_on e)) tt)
 
 pub goes-further : (value : Unit {0}) (first old mid : RefRun) (behaviour : Behaviour) (base input : List ℕ) (steps units units' : ℕ) (is_left written left' written' : Option (List ℕ)) (b : Bool)
     → Goes first old behaviour base input steps units is_left written → IsKept old mid → Acts old mid (acting old) (Ok value) is_left written left' written'
@@ -216,8 +224,8 @@ goes-further value first old mid behaviour base input steps units units' is_left
         };
         follows = λ n.
             ap (behaviour input) (unit-behind goes.done b n) ∙ (far.follows (with_unit b n) ∙ (stands.behaves far.rest (with_unit b n) ∙ (proceeds old stands.state far.rest b n takes_is
-            ∙ (ap (λ outcome. status_of (continue_with (goes_on (around_run old) (functions_of old)) outcome)) (arrives.does n)
-            ∙ (λ i. status_of (goes_on (around_of (program_of (program i).now)) (program_of (program i).now).functions (config_in mid) (left n arrives.rest arrives.after)))))));
+            ∙ (ap (λ outcome. reached (continue_with (goes_on (around_run old) (functions_of old)) outcome)) (arrives.does n)
+            ∙ (λ i. reached (goes_on (around_of (program_of (program i).now)) (program_of (program i).now).functions (config_in mid) (left n arrives.rest arrives.after)))))));
         told = arrives.told.0;
         out = arrives.told.1;
       };
@@ -229,12 +237,12 @@ goes-further value first old mid behaviour base input steps units units' is_left
 -- a step that is an end, and what was left then
 over-behind : (first old : RefRun) (behaviour : Behaviour) (base input : List ℕ) (steps units : ℕ) (is_left written left' written' : Option (List ℕ)) (b : Bool) (final : memory_final.Final)
     → (goes : Goes first old behaviour base input steps units is_left written) → (is_over : IsOverTold (acting old) base goes.goes_on.rest goes.goes_on.stands.state (final_of final) left' written')
-    → takes_unit (takes old) ≡ b → (n : ℕ) → behaviour input (goes.done + from_bool b + n) ≡ Over (final_of final) is_over.there.trace
+    → takes_unit (takes old) ≡ b → (n : ℕ) → behaviour input (goes.done + from_bool b + n) ≡ at-end (final_of final) is_over.there.trace is_over.rest
 over-behind first old behaviour base input steps units is_left written left' written' b final goes is_over takes_is n =
     let far = goes.goes_on in
     let stands = far.stands in
     ap (behaviour input) (unit-behind goes.done b n) ∙ (far.follows (with_unit b n) ∙ (stands.behaves far.rest (with_unit b n) ∙ (proceeds old stands.state far.rest b n takes_is
-    ∙ ap (λ outcome. status_of (continue_with (goes_on (around_run old) (functions_of old)) outcome)) (is_over.is n))))
+    ∙ ap (λ outcome. reached (continue_with (goes_on (around_run old) (functions_of old)) outcome)) (is_over.is n))))
 
 -- so many units were needed
 needed-final : (A : Type 0) (old mid first new : RefRun) (behaviour : Behaviour) (base input : List ℕ) (steps units units' : ℕ) (is_left written left' written' : Option (List ℕ)) (b : Bool) (final : memory_final.Final)
@@ -249,13 +257,14 @@ needed-final A old mid first new behaviour base input steps units units' is_left
       within = omega (arith, goes.split, rest_is);
       counted = omega (arith, spent_is, kept.spent, goes.counted);
       trace = is_over.there.trace;
+      rest = is_over.rest;
       over = over-behind first old behaviour base input steps units is_left written left' written' b final goes is_over takes_is;
       going = goes-before first old behaviour base input steps units is_left written b goes takes_is;
     }
 
 ends-final : (A : Type 0) (old mid : RefRun) (first : RefRun) (behaviour : Behaviour) (base input : List ℕ) (steps units units' : ℕ) (is_left written left' written' : Option (List ℕ)) (b : Bool) (final : memory_final.Final)
     → Goes first old behaviour base input steps units is_left written → Acts {A = A} old mid (acting old) (Err (H.Final final)) is_left written left' written'
-    → takes_unit (takes old) ≡ b → units ≡ from_bool b + units' → Ends behaviour base input steps (final_of final) written'
+    → takes_unit (takes old) ≡ b → units ≡ from_bool b + units' → Ends behaviour base input steps (final_of final) left' written'
 ends-final A old mid first behaviour base input steps units units' is_left written left' written' b final goes acts takes_is rest_is =
     let far = goes.goes_on in
     let stands = far.stands in
@@ -263,7 +272,9 @@ ends-final A old mid first behaviour base input steps units units' is_left writt
     let count : steps ≡ goes.done + from_bool b + units' = omega (arith, goes.split, rest_is) in
     record {
       trace = is_over.there.trace;
+      rest = is_over.rest;
       is = ap (behaviour input) count ∙ over-behind first old behaviour base input steps units is_left written left' written' b final goes is_over takes_is units';
+      told = is_over.told.0;
       out = is_over.told.1;
     }
 
@@ -288,7 +299,7 @@ stays-on old mid first behaviour base input steps units is_left written left' wr
           state = stands.state;
           at = stays.at stands.state stands.at;
           front = stands.front;
-          behaves = λ rest units. stands.behaves rest units ∙ (λ i. status_of (goes_on (around_of (program_of (program i).now)) (program_of (program i).now).functions (same i) (left units rest stands.state)));
+          behaves = λ rest units. stands.behaves rest units ∙ (λ i. reached (goes_on (around_of (program_of (program i).now)) (program_of (program i).now).functions (same i) (left units rest stands.state)));
         };
         follows = far.follows;
         told = told.unread ∙ far.told;
@@ -406,3 +417,14 @@ halted-unless A old mid new (H.Final final) is_left written left' written' acts 
 halted-unless A old mid new H.ReadFault is_left written left' written' acts is = λ none. subst Holds (sym is) acts.stays.holds
 halted-unless A old mid new H.WriteFault is_left written left' written' acts is = λ none. subst Holds (sym is) acts.stays.holds
 halted-unless A old mid new H.OutOfMemory is_left written left' written' acts is = λ none. subst Holds (sym is) acts.stays.holds
+
+-- what is done is no fault
+pub done-no-fault : (value : Unit {0}) (halt : Halt) → Ok value ≡ Err halt → ⊥
+done-no-fault value halt e = absurd cc
+
+pub same-halt : {A : Type 0} (result : Result A Halt) (one other : Halt) → result ≡ Err one → result ≡ Err other → one ≡ other
+same-halt result one other e f = cc
+
+pub no-fault : (end : RefEnd) (fault : RefEnd) → end ≡ E.OutOfMemory → (fault ≡ E.ReadFault) ⊎ (fault ≡ E.WriteFault) → end ≡ fault → ⊥
+no-fault end fault e (inl read) f = absurd cc
+no-fault end fault e (inr written) f = absurd cc

@@ -8,7 +8,7 @@ use Rattle.ref_semantics.specs.Values.{Scalar}
 use Rattle.ref_semantics.specs.Store.{State, Outcome, Then, Stopped, continue_with, halt}
 use Rattle.ref_semantics.specs.Library.{low_byte}
 use Rattle.ref_semantics.specs.Meaning.{greatest_depth}
-use Rattle.ref_semantics.specs.First.{around_of, first_state, status_of, run_main, reference}
+use Rattle.ref_semantics.specs.First.{around_of, first_state, run_main}
 use Rattle.ref_steps.specs.Steps.{Start, Config, goes_on}
 use Rattle.ref_store.specs.Holding.{At, left}
 use Rattle.ref_meaning.specs.declared.control.Node.TheVariants as N
@@ -17,19 +17,19 @@ use Rattle.ref_meaning.specs.declared.run.RefRun.{RefRun}
 use Rattle.ref_meaning.specs.Views.{table_of, operands_of, config_in, around_run, functions_of, frames_in, operands_after, part_in, task_in}
 use Rattle.ref_meaning.specs.Holding.{NodeStands, TaskFits, ScalarsStand, FramesHold, calls_among}
 use Rattle.ref_meaning.specs.Numbers.{number_from, HasNumbers}
-use Rattle.ref_meaning.specs.Running.{StandsFor}
+use Rattle.ref_meaning.specs.Running.{StandsFor, reached, behaviour_of}
 use Rattle.ref_meaning.proofs.Numbering.{number-means}
 
-status-over : (outcome : Outcome Scalar) → status_of outcome ≡ status_of (continue_with (λ a. halt (Ended (low_byte a))) outcome)
-status-over (Then value state) = refl
-status-over (Stopped answer state) = refl
+reached-over : (outcome : Outcome Scalar) → reached outcome ≡ reached (continue_with (λ a. halt (Ended (low_byte a))) outcome)
+reached-over (Then value state) = refl
+reached-over (Stopped answer state) = refl
 
 -- what is left to do before the first step is the whole program
-goes-reference : (program : Program) (depth : ℕ) → depth ≡ greatest_depth → (input : List ℕ) (units : ℕ)
-    → reference program input units ≡ status_of (goes_on (around_of program) program.functions (record { task = Start; frames = []; depth = depth }) (left units input (first_state program [] 0)))
-goes-reference program depth e input units =
+goes-behaviour : (program : Program) (depth : ℕ) → depth ≡ greatest_depth → (input : List ℕ) (units : ℕ)
+    → behaviour_of program input units ≡ reached (goes_on (around_of program) program.functions (record { task = Start; frames = []; depth = depth }) (left units input (first_state program [] 0)))
+goes-behaviour program depth e input units =
     let back = sym e in
-    status-over (run_main program (first_state program input units)) ∙ (λ i. status_of (goes_on (around_of program) program.functions (record { task = Start; frames = []; depth = back i }) (left units input (first_state program [] 0))))
+    reached-over (run_main program (first_state program input units)) ∙ (λ i. reached (goes_on (around_of program) program.functions (record { task = Start; frames = []; depth = back i }) (left units input (first_state program [] 0))))
 
 -- the run that `new` makes
 pub stands-first : (run : RefRun) → run.control ≡ record { node = N.Nothing; task = K.Start } → run.frames.items ≡ [] → run.operands.items ≡ [] → run.base ≡ 0 → run.depth ≡ 0
@@ -37,7 +37,7 @@ pub stands-first : (run : RefRun) → run.control ≡ record { node = N.Nothing;
     → HasNumbers run.functions 0 run.program.now.functions.items
     → run.main ≡ number_from 0 run.program.now.functions.items (codes "main")
     → At (around_run run) run.store 0 (first_state (program_of run.program.now) [] 0)
-    → StandsFor run [] (reference (program_of run.program.now))
+    → StandsFor run [] (behaviour_of (program_of run.program.now))
 stands-first run control frames operands base depth program types numbered main at =
     record {
       holds = record {
@@ -58,7 +58,7 @@ stands-first run control frames operands base depth program types numbered main 
       state = state;
       at = here;
       front = refl;
-      behaves = λ input units. goes-reference (program_of run.program.now) (greatest_depth - run.depth) deep input units ∙ (λ i. status_of (goes_on (around_run run) (functions_of run) (config i) (left units input state)));
+      behaves = λ input units. goes-behaviour (program_of run.program.now) (greatest_depth - run.depth) deep input units ∙ (λ i. reached (goes_on (around_run run) (functions_of run) (config i) (left units input state)));
     }
   where
     state : State

@@ -2,8 +2,10 @@
 use Rattle.std.specs.Prelude.{◌≡◌, ℕ, ◌+◌, ◌≤◌, ◌<◌, List, ◌++◌, Option, Some, None}
 use Rattle.run_theory.specs.Runs as Runs
 use Rattle.run_theory.specs.Runs.{Answer, Final, Going, Over, IsGoing, Trace, output_of}
-use Rattle.ref_semantics.specs.Store.{State}
-use Rattle.ref_semantics.specs.First.{status_of}
+use Rattle.c_typed.specs.Typed.{Program}
+use Rattle.ref_semantics.specs.Values.{Scalar}
+use Rattle.ref_semantics.specs.Store.{State, Outcome, Then, Stopped}
+use Rattle.ref_semantics.specs.First.{status_of, run_main, first_state}
 use Rattle.ref_steps.specs.Steps.{goes_on}
 use Rattle.ref_store.specs.Holding.{At, left}
 use Rattle.ref_meaning.specs.declared.run.RefRun.{RefRun}
@@ -18,16 +20,31 @@ use Rattle.ref_meaning.specs.declared.control.Task.TheVariants as K
 use Rattle.ref_meaning.specs.Views.{config_in, around_run, functions_of}
 use Rattle.ref_meaning.specs.Holding.{Holds}
 
--- the answer to each input and each number of units
+-- where a program stands after so many units, or at its end: its answer, and what it leaves of the input
+pub record Reached : Type 0 where
+  pub answer : Answer
+  pub unread : List ℕ
+
+abbrev pub input_in : Outcome Scalar → List ℕ
+input_in (Then value state) = state.input
+input_in (Stopped answer state) = state.input
+
+abbrev pub reached : Outcome Scalar → Reached
+reached outcome = record { answer = status_of outcome; unread = input_in outcome }
+
+-- where each input and each number of units lead
 abbrev pub Behaviour : Type 0
-Behaviour = List ℕ → ℕ → Answer
+Behaviour = List ℕ → ℕ → Reached
 
--- the answer of a run from a state, with this input and so many units left
+-- the behaviour of a program: its answers are those of `reference`
+abbrev pub behaviour_of : Program → Behaviour
+behaviour_of program input units = reached (run_main program (first_state program input units))
+
+-- where a run leads from a state, with this input and so many units left
 abbrev pub answers : RefRun → State → Behaviour
-answers run state input units = status_of (goes_on (around_run run) (functions_of run) (config_in run) (left units input state))
+answers run state input units = reached (goes_on (around_run run) (functions_of run) (config_in run) (left units input state))
 
--- A run stands for what it will do: with each input and each number of further units it comes to this answer. So much is written
--- before it.
+-- A run stands for what it will do: with each input and each number of further units it comes to this. So much is written before it.
 pub record StandsFor (run : RefRun) (written : List ℕ) (behaviour : Behaviour) : Type 0 where
   pub holds : Holds run
   pub state : State
@@ -35,10 +52,12 @@ pub record StandsFor (run : RefRun) (written : List ℕ) (behaviour : Behaviour)
   pub front : output_of state.trace ≡ written
   pub behaves : (input : List ℕ) (units : ℕ) → behaviour input units ≡ answers run state input units
 
--- it is over, and what it writes is written
-pub record Ends (behaviour : Behaviour) (base input : List ℕ) (steps : ℕ) (final : Final) (written : Option (List ℕ)) : Type 0 where
+-- it is over, what it writes is written, and what it doesn't read is left
+pub record Ends (behaviour : Behaviour) (base input : List ℕ) (steps : ℕ) (final : Final) (is_left written : Option (List ℕ)) : Type 0 where
   pub trace : Trace
-  pub is : behaviour input steps ≡ Over final trace
+  pub rest : List ℕ
+  pub is : behaviour input steps ≡ record { answer = Over final trace; unread = rest }
+  pub told : is_left ≡ Some rest
   pub out : written ≡ Some (base ++ output_of trace)
 
 -- So many units are done, what they write is written, and the run stands for what is left to do.
@@ -54,7 +73,9 @@ pub record GoesOn (new : RefRun) (behaviour : Behaviour) (base input : List ℕ)
 -- it has spent all units
 pub record IsSpent (new : RefRun) (behaviour : Behaviour) (base input : List ℕ) (steps : ℕ) (is_left written : Option (List ℕ)) : Type 0 where
   pub trace : Trace
-  pub is : behaviour input steps ≡ Going trace
+  pub rest : List ℕ
+  pub is : behaviour input steps ≡ record { answer = Going trace; unread = rest }
+  pub told : is_left ≡ Some rest
   pub out : written ≡ Some (base ++ output_of trace)
   pub goes_on : GoesOn new behaviour base input steps is_left written
 
@@ -67,9 +88,9 @@ pub record BreaksOff (old new : RefRun) (behaviour : Behaviour) (base input : Li
 
 -- What a run answers to so many units, where it stood for a behaviour.
 abbrev pub RunAnswers : RefRun → RefRun → Behaviour → List ℕ → List ℕ → ℕ → RefEnd → Option (List ℕ) → Option (List ℕ) → Type 0
-RunAnswers old new behaviour base input steps (E.Ended status) is_left written = Ends behaviour base input steps (Runs.Ended status) written
-RunAnswers old new behaviour base input steps E.Depth is_left written = Ends behaviour base input steps Runs.DepthReached written
-RunAnswers old new behaviour base input steps (E.Undefined kind place) is_left written = Ends behaviour base input steps (Runs.Undefined kind place) written
+RunAnswers old new behaviour base input steps (E.Ended status) is_left written = Ends behaviour base input steps (Runs.Ended status) is_left written
+RunAnswers old new behaviour base input steps E.Depth is_left written = Ends behaviour base input steps Runs.DepthReached is_left written
+RunAnswers old new behaviour base input steps (E.Undefined kind place) is_left written = Ends behaviour base input steps (Runs.Undefined kind place) is_left written
 RunAnswers old new behaviour base input steps E.StepsSpent is_left written = IsSpent new behaviour base input steps is_left written × (new.spent ≡ old.spent + steps)
 RunAnswers old new behaviour base input steps E.ReadFault is_left written = BreaksOff old new behaviour base input steps is_left written
 RunAnswers old new behaviour base input steps E.WriteFault is_left written = BreaksOff old new behaviour base input steps is_left written
@@ -81,8 +102,9 @@ pub record SpendsNeeded (old new : RefRun) (behaviour : Behaviour) (input : List
   pub within : needed ≤ steps
   pub counted : new.spent ≡ old.spent + needed
   pub trace : Trace
-  pub over : (more : ℕ) → behaviour input (needed + more) ≡ Over final trace
-  pub going : (fewer : ℕ) → fewer < needed → IsGoing (behaviour input fewer)
+  pub rest : List ℕ
+  pub over : (more : ℕ) → behaviour input (needed + more) ≡ record { answer = Over final trace; unread = rest }
+  pub going : (fewer : ℕ) → fewer < needed → IsGoing (behaviour input fewer).answer
 
 -- ---- runs that are over
 

@@ -1,6 +1,6 @@
 // Calls (C17 6.5.2.2, 6.9.1).
 
-ghost use Rattle.std.specs.Prelude.{◌≡◌, ◌≤◌, ℕ, suc, List, [], ◌∷◌, length, drop, slice_get, Option, None, option_map, Err, IsOk, IfOk, IfSome, OnOk};
+ghost use Rattle.std.specs.Prelude.{◌≡◌, ◌≢◌, ◌≤◌, ℕ, suc, List, [], ◌∷◌, length, drop, slice_get, Option, None, option_map, Err, IsOk, IfOk, IfSome, OnOk};
 ghost use Rattle.pcc_outside.specs.Outside.{Rose};
 ghost use Rattle.c_typed.specs.Types.{same_type};
 ghost use Rattle.c_typed.specs.Table.{Interned, Stands, type_in};
@@ -226,6 +226,8 @@ impl<'a> RefRun<'a> {
         ensures kept { IsKept self.old self.new }
         ensures read_cause { result ≡ Err Halts.ReadFault → Rose (I.faults input.old) (I.faults input.new) }
         ensures write_cause { result ≡ Err Halts.WriteFault → Rose (O.faults out.old) (O.faults out.new) }
+        ensures read_faultless { result ≢ Err Halts.ReadFault → I.faults input.new ≡ I.faults input.old }
+        ensures write_faultless { result ≢ Err Halts.WriteFault → O.faults out.new ≡ O.faults out.old }
         ensures reads_counted { I.faults input.old ≤ I.faults input.new }
         ensures writes_counted { O.faults out.old ≤ O.faults out.new }
     {
@@ -404,6 +406,8 @@ impl<'a> RefRun<'a> {
         ensures stands { IfOk result (ScalarStands (table_of self.old)) }
         ensures read_cause { result ≡ Err Halts.ReadFault → Rose (I.faults input.old) (I.faults input.new) }
         ensures write_cause { result ≡ Err Halts.WriteFault → Rose (O.faults out.old) (O.faults out.new) }
+        ensures read_faultless { result ≢ Err Halts.ReadFault → I.faults input.new ≡ I.faults input.old }
+        ensures write_faultless { result ≢ Err Halts.WriteFault → O.faults out.new ≡ O.faults out.old }
         ensures reads_counted { I.faults input.old ≤ I.faults input.new }
         ensures writes_counted { O.faults out.old ≤ O.faults out.new }
     {
@@ -442,6 +446,7 @@ impl<'a> RefRun<'a> {
         ensures stands { IfOk result (ScalarStands (table_of self.old)) }
         ensures unread { result ≡ Err Halts.ReadFault → ⊥ }
         ensures write_cause { result ≡ Err Halts.WriteFault → Rose (O.faults out.old) (O.faults out.new) }
+        ensures write_faultless { result ≢ Err Halts.WriteFault → O.faults out.new ≡ O.faults out.old }
         ensures writes_counted { O.faults out.old ≤ O.faults out.new }
     {
         match function {
@@ -473,6 +478,7 @@ impl<'a> RefRun<'a> {
         ensures stands { IfOk result (ScalarStands (table_of self.now)) }
         ensures unwritten { result ≡ Err Halts.WriteFault → ⊥ }
         ensures read_cause { result ≡ Err Halts.ReadFault → Rose (I.faults input.old) (I.faults input.new) }
+        ensures read_faultless { result ≢ Err Halts.ReadFault → I.faults input.new ≡ I.faults input.old }
         ensures reads_counted { I.faults input.old ≤ I.faults input.new }
     {
         match function {

@@ -11,6 +11,7 @@ pub(crate) fn next_byte<I: Source>(input: &mut I) -> Result<i128, Failed>
     ensures read { IfOk result (λ value. (told : List ℕ) → I.left input.old ≡ Some told → IsNext told value (I.left input.new)) }
     ensures unread { OnErr result (I.left input.new ≡ I.left input.old) }
     ensures fault { OnErr result (Rose (I.faults input.old) (I.faults input.new)) }
+    ensures faultless { OnOk result (I.faults input.new ≡ I.faults input.old) }
     ensures counted { I.faults input.old ≤ I.faults input.new }
 {
     let mut byte = [0u8; 1];
@@ -26,6 +27,7 @@ pub(crate) fn write_byte<O: Sink>(out: &mut O, byte: u8) -> Result<(), Failed>
     ensures written { OnOk result (Adds (O.written out.old) (byte ∷ []) (O.written out.new)) }
     ensures unwritten { OnErr result (O.written out.new ≡ O.written out.old) }
     ensures fault { OnErr result (Rose (O.faults out.old) (O.faults out.new)) }
+    ensures faultless { OnOk result (O.faults out.new ≡ O.faults out.old) }
     ensures counted { O.faults out.old ≤ O.faults out.new }
 {
     match out.write(&[byte]) {

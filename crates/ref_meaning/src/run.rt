@@ -1,11 +1,10 @@
 // Runs of a program.
 
-ghost use Rattle.std.specs.Prelude.{◌≡◌, ℕ, ℤ, ◌+◌, ◌^◌, ◌<◌, ◌≤◌, List, [], ◌∷◌, ◌++◌, Option, Some, Err, suc, length, IsOk, IfOk, OnOk, IfErr, OnErr};
+ghost use Rattle.std.specs.Prelude.{◌≡◌, ◌≢◌, ℕ, ℤ, ◌+◌, ◌^◌, ◌<◌, ◌≤◌, List, [], ◌∷◌, ◌++◌, Option, Some, Err, suc, length, IsOk, IfOk, OnOk, IfErr, OnErr};
 ghost use Rattle.pcc_outside.specs.Outside.{Rose};
 ghost use Rattle.c_typed.specs.Table.{Interned};
 ghost use Rattle.c_typed.specs.Typed.{SwitchItems};
 ghost use Rattle.c_typed.specs.DefinitionViews.{program_of, ProgramStands};
-ghost use Rattle.ref_semantics.specs.First.{reference};
 ghost use Rattle.ref_steps.specs.Steps.{ScalarGiven, Search, First};
 ghost use Rattle.ref_steps.specs.Units.{takes_unit};
 ghost use Rattle.ref_store.specs.Views.{scalar_in, ScalarStands};
@@ -19,7 +18,7 @@ ghost use Rattle.ref_meaning.specs.Holding.{Holds, NodeStands, GivenStands, Stag
 ghost use Rattle.ref_meaning.specs.Doing.{TakesNone, IsInnermost, IsExpression, innermost, takes, taking, acting, evaluating};
 ghost use Rattle.ref_meaning.specs.Moving.{Becomes, IsSame, IsKept, Moves, Acts};
 ghost use Rattle.ref_meaning.specs.Numbers.{HasNumbers};
-ghost use Rattle.ref_meaning.specs.Running.{Behaviour, StandsFor, RunAnswers, SpendsNeeded, HoldsUnlessOver, end_in, answer_of, halted, spent_at, IsHalted};
+ghost use Rattle.ref_meaning.specs.Running.{Behaviour, behaviour_of, StandsFor, RunAnswers, SpendsNeeded, HoldsUnlessOver, end_in, answer_of, halted, spent_at, IsHalted};
 
 use crate::call::is_call;
 use crate::control::{Control, Final, Frame, Given, Node, Stage, Task, Way};
@@ -120,7 +119,7 @@ impl<'a> RefRun<'a> {
     /// A run before its first unit.
     pub fn new(alloc: Global, program: &'a Program) -> Result<RefRun<'a>, AllocError>
         requires { ProgramStands program.now }
-        ensures stands { IfOk result (λ run. StandsFor run [] (reference (program_of program.now))) }
+        ensures stands { IfOk result (λ run. StandsFor run [] (behaviour_of (program_of program.now))) }
         ensures spent { IfOk result (λ run. run.spent ≡ 0) }
     {
         let functions = by_name(alloc, program.functions.as_slice())?;
@@ -150,6 +149,7 @@ impl<'a> RefRun<'a> {
         ensures holds { HoldsUnlessOver self.new }
         ensures read_cause { result ≡ RefEnd.ReadFault → Rose (I.faults input.old) (I.faults input.new) }
         ensures write_cause { result ≡ RefEnd.WriteFault → Rose (O.faults out.old) (O.faults out.new) }
+        ensures memory_cause { result ≡ RefEnd.OutOfMemory → (I.faults input.new ≡ I.faults input.old) × (O.faults out.new ≡ O.faults out.old) }
         ensures reads_counted { I.faults input.old ≤ I.faults input.new }
         ensures writes_counted { O.faults out.old ≤ O.faults out.new }
         ensures again { (final : Final) → end_in self.old.control.task ≡ Some final → (result ≡ answer_of final) × (self.new ≡ self.old) × (input.new ≡ input.old) × (out.new ≡ out.old) }
@@ -172,6 +172,8 @@ impl<'a> RefRun<'a> {
         ensures holds { HoldsUnlessOver self.new }
         ensures read_cause { result ≡ RefEnd.ReadFault → Rose (I.faults input.old) (I.faults input.new) }
         ensures write_cause { result ≡ RefEnd.WriteFault → Rose (O.faults out.old) (O.faults out.new) }
+        ensures read_faultless { result ≢ RefEnd.ReadFault → I.faults input.new ≡ I.faults input.old }
+        ensures write_faultless { result ≢ RefEnd.WriteFault → O.faults out.new ≡ O.faults out.old }
         ensures reads_counted { I.faults input.old ≤ I.faults input.new }
         ensures writes_counted { O.faults out.old ≤ O.faults out.new }
         ensures kept { (final : Final) → result ≡ answer_of final → end_in self.new.control.task ≡ Some final }
@@ -250,6 +252,8 @@ impl<'a> RefRun<'a> {
         ensures kept { IsKept self.old self.new }
         ensures read_cause { result ≡ Err Halts.ReadFault → Rose (I.faults input.old) (I.faults input.new) }
         ensures write_cause { result ≡ Err Halts.WriteFault → Rose (O.faults out.old) (O.faults out.new) }
+        ensures read_faultless { result ≢ Err Halts.ReadFault → I.faults input.new ≡ I.faults input.old }
+        ensures write_faultless { result ≢ Err Halts.WriteFault → O.faults out.new ≡ O.faults out.old }
         ensures reads_counted { I.faults input.old ≤ I.faults input.new }
         ensures writes_counted { O.faults out.old ≤ O.faults out.new }
     {

@@ -4,11 +4,11 @@ use Rattle.pcc_status.specs.declared.status.Status.TheVariants as S
 use Rattle.pcc_status.specs.declared.status.Refusal.TheVariants as R
 use Rattle.poolcc.specs.Compiled.{image_run}
 use Rattle.c_rules.specs.Elaborated as elaborated
-use Rattle.ref_semantics.specs.First as meaning
+use Rattle.ref_meaning.specs.Running.{behaviour_of}
 use Rattle.poolcc.specs.Command.{Names, machine_limits}
-use Rattle.poolcc.specs.Complete.{RunsUnlessMemory, IsToldUnlessMemory, IsBuiltUnlessMemory, IsBadUnlessMemory}
+use Rattle.poolcc.specs.Complete.{RunsUnlessMemory, IsToldUnlessMemory, IsReachedUnlessMemory, IsBuiltUnlessMemory, IsBadUnlessMemory}
 use Rattle.poolcc.specs.Exec.{ExecGives}
-use Rattle.poolcc.proofs.Completing.{said_as_it_is, said_trap, completed, trapped, no_read_fault}
+use Rattle.poolcc.proofs.Completing.{said_as_it_is, said_memory, said_trap, completed, trapped, no_read_fault}
 use Rattle.poolcc.proofs.Refusing.{is_lexical, refuses}
 use Rattle.poolcc.proofs.RefCompleting.{ref_completed, ref_refuses}
 use Rattle.poolcc.proofs.Building.{built, build_refuses}
@@ -57,7 +57,7 @@ returns-clause-ref_complete g c = λ file steps text left base program line hold
     let no_read = λ (e : c.command-answer.result ≡ S.ReadFault).
     no_read_fault _ file (g.F.Files.faults c.args.files.now) (g.F.Files.faults c.command-answer.new.files) _ _ (subst (λ l. Names l file) (sym line) refl) quiet_files quiet_input (c.command-answer.ensures.read_cause e) in
     let no_write = λ (e : c.command-answer.result ≡ S.WriteFault). quiet_out (c.command-answer.ensures.write_cause e) in
-    subst (λ (status : Status). IsToldUnlessMemory (meaning.reference (elaborated.typed_of program) left steps) base status written') (sym same)
+    subst (λ (status : Status). IsReachedUnlessMemory (behaviour_of (elaborated.typed_of program) left steps) base status left' written') (sym same)
     (ref_completed text steps left base left' written' short program accepted c.command-answer.result (c.command-answer.ensures.answers.ref file steps text left base line holds told wrote) no_read no_write)
 
 pub returns-clause-ref_refused : goal.returns-clause-ref_refused
@@ -112,3 +112,9 @@ returns-clause-run_bad g c = λ file steps bytes left base line holds short told
     let no_write = λ (e : c.command-answer.result ≡ S.WriteFault). quiet_out (c.command-answer.ensures.write_cause e) in
     subst (λ (status : Status). IsBadUnlessMemory bytes status) (sym same)
     (image_bad bytes steps left base left' written' short none c.command-answer.result (c.command-answer.ensures.answers.run file steps bytes left base line holds told wrote) no_read no_write)
+
+pub returns-clause-memory_cause : goal.returns-clause-memory_cause
+returns-clause-memory_cause g c = λ e.
+    let said = said_memory c.command-answer.result c.say.result _ _ _ _ c.say.ensures.said e in
+    let none = c.command-answer.ensures.memory_cause said.0 in
+    (none.0, none.1, none.2, said.1)

@@ -1,9 +1,10 @@
 use Rattle.std.proofs.Common.{Some, Err, sym, ap, subst, ◌∙◌, ◌+◌, ◌-◌, refl, arith}
-use Rattle.pcc_outside.proofs.Faults.{Rose-after}
+use Rattle.pcc_outside.specs.Outside.{Rose}
 use Rattle.ref_meaning.specs.declared.run.RefEnd.{RefEnd}
 use Rattle.ref_meaning.specs.declared.run.RefEnd.TheVariants as E
-use Rattle.ref_meaning.specs.Running.{RunAnswers}
-use Rattle.ref_meaning.proofs.Going.{goes-first, ends-over, answers-end, spent-all, needs-unit, left-split, answers-halted, halted-read, halted-written, halted-unless, goes-further, respent, breaks-off, same-final, no-final, kept-halted, needed-over, needed-halted, spent-within}
+use Rattle.ref_meaning.specs.declared.run.Halt.TheVariants as H
+use Rattle.ref_meaning.specs.Running.{RunAnswers, halted}
+use Rattle.ref_meaning.proofs.Going.{goes-first, ends-over, answers-end, spent-all, needs-unit, left-split, answers-halted, halted-read, halted-written, halted-unless, goes-further, respent, breaks-off, same-final, no-final, kept-halted, needed-over, needed-halted, spent-within, done-no-fault, same-halt}
 use Rattle.ref_meaning.proofs.run.RefRun.go_on.Goals as goal
 
 pub loop-init : goal.loop-init
@@ -12,8 +13,8 @@ loop-init g c = record {
   counted = refl;
   counts = omega arith;
   goes = λ written behaviour base rest stands told out. goes-first c.args.self.now behaviour written base rest c.args.steps _ _ stands told out;
-  reads = omega arith;
-  writes = omega arith;
+  reads = refl;
+  writes = refl;
 }
 
 pub returns-in-Some-clause-answers : goal.returns-in-Some-clause-answers
@@ -38,10 +39,16 @@ pub returns-in-Some-clause-within : goal.returns-in-Some-clause-within
 returns-in-Some-clause-within g c = omega (arith, c.loop.invariant.counted)
 
 pub returns-in-Some-clause-reads_counted : goal.returns-in-Some-clause-reads_counted
-returns-in-Some-clause-reads_counted g c = c.loop.invariant.reads
+returns-in-Some-clause-reads_counted g c = omega (arith, c.loop.invariant.reads)
+
+pub returns-in-Some-clause-read_faultless : goal.returns-in-Some-clause-read_faultless
+returns-in-Some-clause-read_faultless g c = λ _. c.loop.invariant.reads
 
 pub returns-in-Some-clause-writes_counted : goal.returns-in-Some-clause-writes_counted
-returns-in-Some-clause-writes_counted g c = c.loop.invariant.writes
+returns-in-Some-clause-writes_counted g c = omega (arith, c.loop.invariant.writes)
+
+pub returns-in-Some-clause-write_faultless : goal.returns-in-Some-clause-write_faultless
+returns-in-Some-clause-write_faultless g c = λ _. c.loop.invariant.writes
 
 pub takes_unit-requires : goal.takes_unit-requires
 takes_unit-requires g c = c.loop.invariant.can (sym c.end.ensures ∙ c.in-None.is)
@@ -68,10 +75,16 @@ pub returns-then-unit-left-clause-within : goal.returns-then-unit-left-clause-wi
 returns-then-unit-left-clause-within g c = omega (arith, c.loop.invariant.counted)
 
 pub returns-then-unit-left-clause-reads_counted : goal.returns-then-unit-left-clause-reads_counted
-returns-then-unit-left-clause-reads_counted g c = c.loop.invariant.reads
+returns-then-unit-left-clause-reads_counted g c = omega (arith, c.loop.invariant.reads)
+
+pub returns-then-unit-left-clause-read_faultless : goal.returns-then-unit-left-clause-read_faultless
+returns-then-unit-left-clause-read_faultless g c = λ _. c.loop.invariant.reads
 
 pub returns-then-unit-left-clause-writes_counted : goal.returns-then-unit-left-clause-writes_counted
-returns-then-unit-left-clause-writes_counted g c = c.loop.invariant.writes
+returns-then-unit-left-clause-writes_counted g c = omega (arith, c.loop.invariant.writes)
+
+pub returns-then-unit-left-clause-write_faultless : goal.returns-then-unit-left-clause-write_faultless
+returns-then-unit-left-clause-write_faultless g c = λ _. c.loop.invariant.writes
 
 pub act-requires : goal.act-requires
 act-requires g c = c.loop.invariant.can (sym c.end.ensures ∙ c.in-None.is)
@@ -95,11 +108,11 @@ returns-in-Err-clause-holds g c = halted-unless (Unit {0}) c.loop.self c.act.new
 
 pub returns-in-Err-clause-read_cause : goal.returns-in-Err-clause-read_cause
 returns-in-Err-clause-read_cause g c = λ e.
-    Rose-after _ _ _ c.loop.invariant.reads (c.in-Err.ensures.read_cause (ap Err (halted-read c.in-Err.halt (sym c.stop.ensures.answer ∙ e))))
+    subst (λ n. Rose n (g.I.Source.faults c.act.new.input)) c.loop.invariant.reads (c.in-Err.ensures.read_cause (ap Err (halted-read c.in-Err.halt (sym c.stop.ensures.answer ∙ e))))
 
 pub returns-in-Err-clause-write_cause : goal.returns-in-Err-clause-write_cause
 returns-in-Err-clause-write_cause g c = λ e.
-    Rose-after _ _ _ c.loop.invariant.writes (c.in-Err.ensures.write_cause (ap Err (halted-written c.in-Err.halt (sym c.stop.ensures.answer ∙ e))))
+    subst (λ n. Rose n (g.O.Sink.faults c.act.new.out)) c.loop.invariant.writes (c.in-Err.ensures.write_cause (ap Err (halted-written c.in-Err.halt (sym c.stop.ensures.answer ∙ e))))
 
 pub returns-in-Err-clause-kept : goal.returns-in-Err-clause-kept
 returns-in-Err-clause-kept g c = λ final e. kept-halted c.act.new.self c.stop.new.self c.in-Err.halt final c.stop.ensures.halted (sym c.stop.ensures.answer ∙ e)
@@ -135,8 +148,8 @@ loop-preserved g c =
       goes = λ written behaviour base rest stands told out.
           goes-further tt c.args.self.now c.loop.self c.act.new.self behaviour base rest c.args.steps c.loop.left (c.loop.left - c.from-unit.result) _ _ _ _ c.takes_unit.result
           (c.loop.invariant.goes written behaviour base rest stands told out) c.in-Ok.ensures.kept c.in-Ok.ensures.acts (sym c.takes_unit.ensures) split _ (ap (λ n. c.act.new.self.spent + n) c.from-unit.ensures);
-      reads = omega (arith, c.loop.invariant.reads, c.act.ensures.reads_counted);
-      writes = omega (arith, c.loop.invariant.writes, c.act.ensures.writes_counted);
+      reads = c.in-Ok.ensures.read_faultless (λ e. done-no-fault _ _ e) ∙ c.loop.invariant.reads;
+      writes = c.in-Ok.ensures.write_faultless (λ e. done-no-fault _ _ e) ∙ c.loop.invariant.writes;
     }
 
 pub returns-clause-answers : goal.returns-clause-answers
@@ -159,7 +172,19 @@ pub returns-clause-within : goal.returns-clause-within
 returns-clause-within g c = omega (arith, c.loop.invariant.counted)
 
 pub returns-clause-reads_counted : goal.returns-clause-reads_counted
-returns-clause-reads_counted g c = c.loop.invariant.reads
+returns-clause-reads_counted g c = omega (arith, c.loop.invariant.reads)
 
 pub returns-clause-writes_counted : goal.returns-clause-writes_counted
-returns-clause-writes_counted g c = c.loop.invariant.writes
+returns-clause-writes_counted g c = omega (arith, c.loop.invariant.writes)
+
+pub returns-in-Err-clause-read_faultless : goal.returns-in-Err-clause-read_faultless
+returns-in-Err-clause-read_faultless g c = λ other. c.in-Err.ensures.read_faultless (λ e. other (c.stop.ensures.answer ∙ ap halted (same-halt c.act.result c.in-Err.halt H.ReadFault c.in-Err.is (c.in-Err.is ∙ e)))) ∙ c.loop.invariant.reads
+
+pub returns-clause-read_faultless : goal.returns-clause-read_faultless
+returns-clause-read_faultless g c = λ _. c.loop.invariant.reads
+
+pub returns-in-Err-clause-write_faultless : goal.returns-in-Err-clause-write_faultless
+returns-in-Err-clause-write_faultless g c = λ other. c.in-Err.ensures.write_faultless (λ e. other (c.stop.ensures.answer ∙ ap halted (same-halt c.act.result c.in-Err.halt H.WriteFault c.in-Err.is (c.in-Err.is ∙ e)))) ∙ c.loop.invariant.writes
+
+pub returns-clause-write_faultless : goal.returns-clause-write_faultless
+returns-clause-write_faultless g c = λ _. c.loop.invariant.writes

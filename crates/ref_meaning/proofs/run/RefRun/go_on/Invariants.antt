@@ -11,6 +11,6 @@ invariant-loop g l = record {
   counts : l.initial.self.spent ≤ l.self.spent;
   goes : (written : List ℕ) (behaviour : Behaviour) (base rest : List ℕ) → StandsFor l.initial.self written behaviour → g.I.Source.left l.initial.input ≡ Some rest → g.O.Sink.written l.initial.out ≡ Some (base ++ written)
       → Goes l.initial.self l.self behaviour base rest l.steps l.left (g.I.Source.left l.input) (g.O.Sink.written l.out);
-  reads : g.I.Source.faults l.initial.input ≤ g.I.Source.faults l.input;
-  writes : g.O.Sink.faults l.initial.out ≤ g.O.Sink.faults l.out;
+  reads : g.I.Source.faults l.input ≡ g.I.Source.faults l.initial.input;
+  writes : g.O.Sink.faults l.out ≡ g.O.Sink.faults l.initial.out;
 }

@@ -1,9 +1,9 @@
-use Rattle.std.proofs.Common.{Some, sym, ap, subst, ◌∙◌, refl, is_some}
+use Rattle.std.proofs.Common.{Some, inl, inr, sym, ap, subst, ◌∙◌, refl, is_some}
 use Rattle.std.proofs.lemmas.Bool.{false≢true}
 use Rattle.ref_meaning.specs.declared.run.RefEnd.{RefEnd}
 use Rattle.ref_meaning.specs.declared.run.RefEnd.TheVariants as E
 use Rattle.ref_meaning.specs.Running.{RunAnswers, answer_of}
-use Rattle.ref_meaning.proofs.Going.{goes-first, ends-over, answers-end, same-final, same-end, no-final, needed-over}
+use Rattle.ref_meaning.proofs.Going.{goes-first, ends-over, answers-end, same-final, same-end, no-final, needed-over, no-fault}
 use Rattle.ref_meaning.proofs.run.RefRun.run.Goals as goal
 
 pub returns-in-Some-clause-answers : goal.returns-in-Some-clause-answers
@@ -32,3 +32,12 @@ returns-in-Some-clause-needed g c = λ written behaviour base rest final stands 
 
 pub returns-in-None-clause-again : goal.returns-in-None-clause-again
 returns-in-None-clause-again g c = λ final e. absurd (false≢true (ap is_some (sym c.in-None.is ∙ (c.end.ensures ∙ e))))
+
+pub returns-in-Some-clause-memory_cause : goal.returns-in-Some-clause-memory_cause
+returns-in-Some-clause-memory_cause g c = λ e. (refl, refl)
+
+pub returns-in-None-clause-memory_cause : goal.returns-in-None-clause-memory_cause
+returns-in-None-clause-memory_cause g c = λ e. (
+  c.go_on.ensures.read_faultless (no-fault c.go_on.result E.ReadFault e (inl refl)),
+  c.go_on.ensures.write_faultless (no-fault c.go_on.result E.WriteFault e (inr refl)),
+)
