@@ -1,7 +1,7 @@
 -- For each leaf by which a row is chosen there is a tree that begins with it, and with the next one where that decides.
 use Rattle.std.proofs.Common.{◌≡◌, ℕ, ◌<◌, ◌≤◌, ◌⊎◌, inl, inr, is_some, Bool, true, false, ◌&&◌, ◌||◌, if◌then◌else◌, List, [], ◌∷◌, ◌++◌, Option, Some, None, nat_le, sym, refl, ◌∙◌, ap, subst, arith, append_assoc}
 use Rattle.std.proofs.lemmas.Bool.{leb-true}
-use Rattle.grammar_table.specs.Table.{Sym, Token, Part, Tree, Alone, Then, Node, Choice, Never, Take, leaves, barred, Is, nothing, token, part, IsPart, first as made_by, least_parts, Plain, Orderly}
+use Rattle.grammar_table.specs.Table.{Symbol, Terminal, Nonterminal, Tree, Alone, Then, Node, Choice, Never, Take, leaves, barred, Is, nothing, token, part, IsPart, first as made_by, least_parts, Plain, Orderly}
 use Rattle.grammar_table.specs.Laws.{lowest, IsDivided, Begun, BegunTwo}
 use Rattle.grammar_table.proofs.Sound.{barred_append, barred_by_least}
 use Rattle.c_grammar.specs.declared.kind.Kind.{Kind}
@@ -28,7 +28,7 @@ or_cases false true c e f g h = g refl
 or_cases false false c e f g h = h e
 
 -- A choice that names one height isn't divided.
-same_heights : (form form' : Forms.Form) (n first second : ℕ) → Take form n n ≡ Take form' first second → first < second → ⊥
+same_heights : (form form' : Forms.Production) (n first second : ℕ) → Take form n n ≡ Take form' first second → first < second → ⊥
 same_heights form form' n first second e lt =
     let low : n ≡ first = cc e in
     let high : n ≡ second = cc e in
@@ -46,25 +46,25 @@ module _ {Leaf : Type 0} (kind_of : Leaf → Kind) (sample : Kind → Leaf) (rea
   pub least_bars : (sort : Forms.Sort) (level : ℕ) (leaf : Leaf) → (is Else (kind_of leaf) && is_open (least_of kind_of sample sort level)) ≡ false
   least_bars sort level leaf = ap (λ x. is Else (kind_of leaf) && x) (least_is_shut kind_of sample real sort level) ∙ and_false (is Else (kind_of leaf))
 
-  least_is : (symbols : List (Sym Kind Forms.Sort)) → Is (language kind_of sample) symbols (least_parts (language kind_of sample) symbols)
+  least_is : (symbols : List (Symbol Kind Forms.Sort)) → Is (language kind_of sample) symbols (least_parts (language kind_of sample) symbols)
   least_is [] = nothing
-  least_is (Token kind ∷ symbols) = token (sample kind) (sample_fits kind_of sample real kind) (least_is symbols)
-  least_is (Part sort level ∷ symbols) = part (least_is_part kind_of sample real sort level) (least_is symbols) (barred_by_least (language kind_of sample) sort level (leaves (least_parts (language kind_of sample) symbols)) (least_bars sort level))
+  least_is (Terminal kind ∷ symbols) = token (sample kind) (sample_fits kind_of sample real kind) (least_is symbols)
+  least_is (Nonterminal sort level ∷ symbols) = part (least_is_part kind_of sample real sort level) (least_is symbols) (barred_by_least (language kind_of sample) sort level (leaves (least_parts (language kind_of sample) symbols)) (least_bars sort level))
 
-  least_is_free : (symbols : List (Sym Kind Forms.Sort)) (tree : Tree Leaf Forms.Form) → Plain (language kind_of sample) symbols → barred (language kind_of sample) tree (leaves (least_parts (language kind_of sample) symbols)) ≡ false
+  least_is_free : (symbols : List (Symbol Kind Forms.Sort)) (tree : Tree Leaf Forms.Production) → Plain (language kind_of sample) symbols → barred (language kind_of sample) tree (leaves (least_parts (language kind_of sample) symbols)) ≡ false
   least_is_free [] tree plain = refl
-  least_is_free (Token kind ∷ symbols) tree plain = token_free kind_of sample real kind tree plain.0
-  least_is_free (Part sort level ∷ symbols) tree plain = barred_append (language kind_of sample) tree (leaves (least_of kind_of sample sort level)) (leaves (least_parts (language kind_of sample) symbols)) (free_at kind_of sample real sort level tree) (least_is_free symbols tree plain)
+  least_is_free (Terminal kind ∷ symbols) tree plain = token_free kind_of sample real kind tree plain.0
+  least_is_free (Nonterminal sort level ∷ symbols) tree plain = barred_append (language kind_of sample) tree (leaves (least_of kind_of sample sort level)) (leaves (least_parts (language kind_of sample) symbols)) (free_at kind_of sample real sort level tree) (least_is_free symbols tree plain)
 
   -- a tree that begins with these leaves
   record Begins (sort : Forms.Sort) (level : ℕ) (front : List Leaf) : Type 0 where
-    pub tree : Tree Leaf Forms.Form
+    pub tree : Tree Leaf Forms.Production
     pub more : List Leaf
     pub spelled : IsPart (language kind_of sample) sort level tree
     pub continues : leaves tree ≡ front ++ more
 
   -- by a row that begins with a token, and the least trees behind it
-  at_token : {sort : Forms.Sort} {level : ℕ} {kind : Kind} {symbols : List (Sym Kind Forms.Sort)} (form : Forms.Form) (leaf : Leaf) → Forms.sort_of form ≡ sort → Forms.is_row form ≡ true → Forms.left_of form ≡ None → Forms.level_of_form form ≤ level → Forms.symbols_of form ≡ Token kind ∷ symbols → is kind (kind_of leaf) ≡ true → Begins sort level (leaf ∷ [])
+  at_token : {sort : Forms.Sort} {level : ℕ} {kind : Kind} {symbols : List (Symbol Kind Forms.Sort)} (form : Forms.Production) (leaf : Leaf) → Forms.sort_of form ≡ sort → Forms.is_row form ≡ true → Forms.left_of form ≡ None → Forms.level_of_form form ≤ level → Forms.symbols_of form ≡ Terminal kind ∷ symbols → is kind (kind_of leaf) ≡ true → Begins sort level (leaf ∷ [])
   at_token {symbols = symbols} form leaf own_sort own_row own_left own_level row told = record {
     tree = Node form (Then (Alone leaf) (least_parts (language kind_of sample) symbols));
     more = leaves (least_parts (language kind_of sample) symbols);
@@ -72,11 +72,11 @@ module _ {Leaf : Type 0} (kind_of : Leaf → Kind) (sample : Kind → Leaf) (rea
     continues = refl;
   }
 
-  by_token : {sort : Forms.Sort} {level : ℕ} {kind : Kind} {symbols : List (Sym Kind Forms.Sort)} (form : Forms.Form) (leaf : Leaf) → Forms.sort_of form ≡ sort → Forms.is_row form ≡ true → Forms.left_of form ≡ None → Forms.level_of_form form ≡ 0 → Forms.symbols_of form ≡ Token kind ∷ symbols → is kind (kind_of leaf) ≡ true → Begins sort level (leaf ∷ [])
+  by_token : {sort : Forms.Sort} {level : ℕ} {kind : Kind} {symbols : List (Symbol Kind Forms.Sort)} (form : Forms.Production) (leaf : Leaf) → Forms.sort_of form ≡ sort → Forms.is_row form ≡ true → Forms.left_of form ≡ None → Forms.level_of_form form ≡ 0 → Forms.symbols_of form ≡ Terminal kind ∷ symbols → is kind (kind_of leaf) ≡ true → Begins sort level (leaf ∷ [])
   by_token form leaf own_sort own_row own_left tight row told = at_token form leaf own_sort own_row own_left (omega (arith, tight)) row told
 
   -- by a row that begins with a tree
-  by_part : {sort part_sort : Forms.Sort} {level part_level : ℕ} {symbols : List (Sym Kind Forms.Sort)} {front : List Leaf} (form : Forms.Form) → Forms.sort_of form ≡ sort → Forms.is_row form ≡ true → Forms.left_of form ≡ None → Forms.level_of_form form ≡ 0 → Forms.symbols_of form ≡ Part part_sort part_level ∷ symbols → Begins part_sort part_level front → Begins sort level front
+  by_part : {sort part_sort : Forms.Sort} {level part_level : ℕ} {symbols : List (Symbol Kind Forms.Sort)} {front : List Leaf} (form : Forms.Production) → Forms.sort_of form ≡ sort → Forms.is_row form ≡ true → Forms.left_of form ≡ None → Forms.level_of_form form ≡ 0 → Forms.symbols_of form ≡ Nonterminal part_sort part_level ∷ symbols → Begins part_sort part_level front → Begins sort level front
   by_part {part_sort = part_sort} {part_level = part_level} {symbols = symbols} {front = front} form own_sort own_row own_left tight row b =
       let T = language kind_of sample in
       let plain = (subst (Orderly T) row (orderly kind_of sample form)).0 in
@@ -88,7 +88,7 @@ module _ {Leaf : Type 0} (kind_of : Leaf → Kind) (sample : Kind → Leaf) (rea
       }
 
   -- by a row that begins with a tree of which the least has no leaves, and another tree
-  by_second : {sort empty_sort part_sort : Forms.Sort} {level empty_level part_level : ℕ} {symbols : List (Sym Kind Forms.Sort)} {front : List Leaf} (form : Forms.Form) → Forms.sort_of form ≡ sort → Forms.is_row form ≡ true → Forms.left_of form ≡ None → Forms.level_of_form form ≡ 0 → Forms.symbols_of form ≡ Part empty_sort empty_level ∷ Part part_sort part_level ∷ symbols → leaves (least_of kind_of sample empty_sort empty_level) ≡ [] → Begins part_sort part_level front → Begins sort level front
+  by_second : {sort empty_sort part_sort : Forms.Sort} {level empty_level part_level : ℕ} {symbols : List (Symbol Kind Forms.Sort)} {front : List Leaf} (form : Forms.Production) → Forms.sort_of form ≡ sort → Forms.is_row form ≡ true → Forms.left_of form ≡ None → Forms.level_of_form form ≡ 0 → Forms.symbols_of form ≡ Nonterminal empty_sort empty_level ∷ Nonterminal part_sort part_level ∷ symbols → leaves (least_of kind_of sample empty_sort empty_level) ≡ [] → Begins part_sort part_level front → Begins sort level front
   by_second {empty_sort = empty_sort} {part_sort = part_sort} {empty_level = empty_level} {part_level = part_level} {symbols = symbols} {front = front} form own_sort own_row own_left tight row bare b =
       let T = language kind_of sample in
       let plain = (subst (Orderly T) row (orderly kind_of sample form)).1.0 in
@@ -103,7 +103,7 @@ module _ {Leaf : Type 0} (kind_of : Leaf → Kind) (sample : Kind → Leaf) (rea
       }
 
   -- by a row that begins with a token and a tree
-  by_token_and_part : {sort part_sort : Forms.Sort} {level part_level : ℕ} {kind : Kind} {symbols : List (Sym Kind Forms.Sort)} {front : List Leaf} (form : Forms.Form) (leaf : Leaf) → Forms.sort_of form ≡ sort → Forms.is_row form ≡ true → Forms.left_of form ≡ None → Forms.level_of_form form ≡ 0 → Forms.symbols_of form ≡ Token kind ∷ Part part_sort part_level ∷ symbols → is kind (kind_of leaf) ≡ true → Begins part_sort part_level front → Begins sort level (leaf ∷ front)
+  by_token_and_part : {sort part_sort : Forms.Sort} {level part_level : ℕ} {kind : Kind} {symbols : List (Symbol Kind Forms.Sort)} {front : List Leaf} (form : Forms.Production) (leaf : Leaf) → Forms.sort_of form ≡ sort → Forms.is_row form ≡ true → Forms.left_of form ≡ None → Forms.level_of_form form ≡ 0 → Forms.symbols_of form ≡ Terminal kind ∷ Nonterminal part_sort part_level ∷ symbols → is kind (kind_of leaf) ≡ true → Begins part_sort part_level front → Begins sort level (leaf ∷ front)
   by_token_and_part {part_sort = part_sort} {part_level = part_level} {symbols = symbols} {front = front} form leaf own_sort own_row own_left tight row told b =
       let T = language kind_of sample in
       let plain = (subst (Orderly T) row (orderly kind_of sample form)).0 in
@@ -212,22 +212,22 @@ module _ {Leaf : Type 0} (kind_of : Leaf → Kind) (sample : Kind → Leaf) (rea
       (λ other. by_part (Forms.InnerDirect named) refl refl refl refl refl (direct named leaf other))
 
   -- what the laws ask of a choice
-  record Asked (sort : Forms.Sort) (level : ℕ) (leaf : Leaf) (text : List Leaf) (choice : Choice Forms.Form) : Type 0 where
+  record Asked (sort : Forms.Sort) (level : ℕ) (leaf : Leaf) (text : List Leaf) (choice : Choice Forms.Production) : Type 0 where
     pub one : (first : ℕ) → lowest choice ≡ Some first → IsDivided choice ⊎ (0 < first) → Begun (language kind_of sample) sort level leaf choice first
-    pub two : (form : Forms.Form) (first second : ℕ) → choice ≡ Take form first second → first < second → BegunTwo (language kind_of sample) sort level leaf text
+    pub two : (form : Forms.Production) (first second : ℕ) → choice ≡ Take form first second → first < second → BegunTwo (language kind_of sample) sort level leaf text
 
   -- the same for each way in which a row is chosen
   no_row : {sort : Forms.Sort} {level : ℕ} {leaf : Leaf} {text : List Leaf} → Asked sort level leaf text Never
   no_row = record { one = λ first e asked. absurd (cc e); two = λ form first second e lt. absurd (cc e) }
 
-  row : {sort : Forms.Sort} {level : ℕ} {leaf : Leaf} {text : List Leaf} (form : Forms.Form) → Begins sort level (leaf ∷ []) → Asked sort level leaf text (take form)
+  row : {sort : Forms.Sort} {level : ℕ} {leaf : Leaf} {text : List Leaf} (form : Forms.Production) → Begins sort level (leaf ∷ []) → Asked sort level leaf text (take form)
   row form b = record {
     one = λ first e asked. record { tree = b.tree; more = b.more; spelled = b.spelled; continues = b.continues; low = λ divided. absurd (omega (arith, divided)) };
     two = λ form' first second e lt. absurd (same_heights form form' (Forms.row_need form) first second e lt);
   }
 
   -- A row of height 0 asks nothing, since it isn't too deep.
-  low_row : {sort : Forms.Sort} {level : ℕ} {leaf : Leaf} {text : List Leaf} (form : Forms.Form) → Forms.row_need form ≡ 0 → Asked sort level leaf text (take form)
+  low_row : {sort : Forms.Sort} {level : ℕ} {leaf : Leaf} {text : List Leaf} (form : Forms.Production) → Forms.row_need form ≡ 0 → Asked sort level leaf text (take form)
   low_row {sort = sort} {level = level} {leaf = leaf} form none = record {
     one = λ first e asked. absurd (none_asked first e asked);
     two = λ form' first second e lt. absurd (same_heights form form' (Forms.row_need form) first second e lt);
@@ -239,18 +239,18 @@ module _ {Leaf : Type 0} (kind_of : Leaf → Kind) (sample : Kind → Leaf) (rea
           let same : Forms.row_need form ≡ first = cc e in
           omega (arith, none, same, some)
 
-  row_if : {sort : Forms.Sort} {level : ℕ} {leaf : Leaf} {text : List Leaf} {otherwise : Choice Forms.Form} (test : Bool) (form : Forms.Form) → (test ≡ true → Begins sort level (leaf ∷ [])) → Asked sort level leaf text otherwise → Asked sort level leaf text (take_if test form otherwise)
+  row_if : {sort : Forms.Sort} {level : ℕ} {leaf : Leaf} {text : List Leaf} {otherwise : Choice Forms.Production} (test : Bool) (form : Forms.Production) → (test ≡ true → Begins sort level (leaf ∷ [])) → Asked sort level leaf text otherwise → Asked sort level leaf text (take_if test form otherwise)
   row_if true form h others = row form (h refl)
   row_if false form h others = others
 
-  token_if : {sort : Forms.Sort} {level : ℕ} {symbols : List (Sym Kind Forms.Sort)} {leaf : Leaf} {text : List Leaf} {otherwise : Choice Forms.Form} (kind : Kind) (form : Forms.Form) → Forms.sort_of form ≡ sort → Forms.is_row form ≡ true → Forms.left_of form ≡ None → Forms.level_of_form form ≡ 0 → Forms.symbols_of form ≡ Token kind ∷ symbols → Asked sort level leaf text otherwise → Asked sort level leaf text (take_if (is (kind_of leaf) kind) form otherwise)
+  token_if : {sort : Forms.Sort} {level : ℕ} {symbols : List (Symbol Kind Forms.Sort)} {leaf : Leaf} {text : List Leaf} {otherwise : Choice Forms.Production} (kind : Kind) (form : Forms.Production) → Forms.sort_of form ≡ sort → Forms.is_row form ≡ true → Forms.left_of form ≡ None → Forms.level_of_form form ≡ 0 → Forms.symbols_of form ≡ Terminal kind ∷ symbols → Asked sort level leaf text otherwise → Asked sort level leaf text (take_if (is (kind_of leaf) kind) form otherwise)
   token_if {leaf = leaf} kind form own_sort own_row own_left tight symbols_are others = row_if (is (kind_of leaf) kind) form (λ e. by_token form leaf own_sort own_row own_left tight symbols_are (is_swap (kind_of leaf) kind e)) others
 
-  low_if : {sort : Forms.Sort} {level : ℕ} {leaf : Leaf} {text : List Leaf} {otherwise : Choice Forms.Form} (test : Bool) (form : Forms.Form) → Forms.row_need form ≡ 0 → Asked sort level leaf text otherwise → Asked sort level leaf text (take_if test form otherwise)
+  low_if : {sort : Forms.Sort} {level : ℕ} {leaf : Leaf} {text : List Leaf} {otherwise : Choice Forms.Production} (test : Bool) (form : Forms.Production) → Forms.row_need form ≡ 0 → Asked sort level leaf text otherwise → Asked sort level leaf text (take_if test form otherwise)
   low_if true form none others = low_row form none
   low_if false form none others = others
 
-  either_of : {sort : Forms.Sort} {level : ℕ} {leaf : Leaf} {text : List Leaf} {one other : Choice Forms.Form} (test : Bool) → (test ≡ true → Asked sort level leaf text one) → Asked sort level leaf text other → Asked sort level leaf text (if test then one else other)
+  either_of : {sort : Forms.Sort} {level : ℕ} {leaf : Leaf} {text : List Leaf} {one other : Choice Forms.Production} (test : Bool) → (test ≡ true → Asked sort level leaf text one) → Asked sort level leaf text other → Asked sort level leaf text (if test then one else other)
   either_of true h h' = h refl
   either_of false h h' = h'
 
@@ -279,7 +279,7 @@ module _ {Leaf : Type 0} (kind_of : Leaf → Kind) (sample : Kind → Leaf) (rea
   of_operand : {level : ℕ} (leaf : Leaf) (text : List Leaf) → is (kind_of leaf) OpenParenthesis ≡ true → Asked Forms.SizeofOperand level leaf text (choose_operand (ahead text))
   of_operand {level = level} leaf text opens =
       let T = language kind_of sample in
-      let symbols : List (Sym Kind Forms.Sort) = Part Forms.Type_name 0 ∷ Token CloseParenthesis ∷ [] in
+      let symbols : List (Symbol Kind Forms.Sort) = Nonterminal Forms.Type_name 0 ∷ Terminal CloseParenthesis ∷ [] in
       record {
         one = λ first e asked. record {
           tree = Node Forms.SizeofType (Then (Alone leaf) (least_parts T symbols));
@@ -294,7 +294,7 @@ module _ {Leaf : Type 0} (kind_of : Leaf → Kind) (sample : Kind → Leaf) (rea
   of_nested : {level : ℕ} (named : Bool) (leaf : Leaf) (text : List Leaf) → is (kind_of leaf) OpenParenthesis ≡ true → Asked (Forms.ParamDirect named) level leaf text (choose_nested named (ahead text))
   of_nested {level = level} named leaf text opens =
       let T = language kind_of sample in
-      let symbols : List (Sym Kind Forms.Sort) = Part Forms.Params 0 ∷ Token CloseParenthesis ∷ Part Forms.Suffixes 0 ∷ [] in
+      let symbols : List (Symbol Kind Forms.Sort) = Nonterminal Forms.Params 0 ∷ Terminal CloseParenthesis ∷ Nonterminal Forms.Suffixes 0 ∷ [] in
       record {
         one = λ first e asked. record {
           tree = Node (Forms.ParamFunction named) (Then (Alone leaf) (least_parts T symbols));
@@ -306,7 +306,7 @@ module _ {Leaf : Type 0} (kind_of : Leaf → Kind) (sample : Kind → Leaf) (rea
         two = λ form first second e lt. nested_two named leaf text opens (good_row (nested_told named (ahead text)) form first second e lt);
       }
 
-  of_stmt : {level : ℕ} (kind : Kind) (leaf : Leaf) (text : List Leaf) (form : Option Forms.Form) → stmt_of kind ≡ form → is kind (kind_of leaf) ≡ true → Asked Forms.Stmt level leaf text (by_stmt kind form)
+  of_stmt : {level : ℕ} (kind : Kind) (leaf : Leaf) (text : List Leaf) (form : Option Forms.Production) → stmt_of kind ≡ form → is kind (kind_of leaf) ≡ true → Asked Forms.Stmt level leaf text (by_stmt kind form)
   of_stmt {level = level} kind leaf text (Some form) e told = row form (stmt_by level kind (ap (λ o. is_some o || begins_expr kind) e) leaf told)
   of_stmt kind leaf text None e told = row_if (begins_expr kind) Forms.Expression (λ e'. by_part Forms.Expression refl refl refl refl refl (expr_of 15 (omega arith) kind e' leaf told)) no_row
 
@@ -390,5 +390,5 @@ module _ {Leaf : Type 0} (kind_of : Leaf → Kind) (sample : Kind → Leaf) (rea
   pub begun : (sort : Forms.Sort) (level : ℕ) (leaf : Leaf) (text : List Leaf) (first : ℕ) → lowest (choose_at kind_of sample sort level (leaf ∷ text)) ≡ Some first → IsDivided (choose_at kind_of sample sort level (leaf ∷ text)) ⊎ (0 < first) → Begun (language kind_of sample) sort level leaf (choose_at kind_of sample sort level (leaf ∷ text)) first
   begun sort level leaf text first e asks = (asked_at sort level leaf text).one first e asks
 
-  pub begun_two : (sort : Forms.Sort) (level : ℕ) (leaf : Leaf) (text : List Leaf) (form : Forms.Form) (first second : ℕ) → choose_at kind_of sample sort level (leaf ∷ text) ≡ Take form first second → first < second → BegunTwo (language kind_of sample) sort level leaf text
+  pub begun_two : (sort : Forms.Sort) (level : ℕ) (leaf : Leaf) (text : List Leaf) (form : Forms.Production) (first second : ℕ) → choose_at kind_of sample sort level (leaf ∷ text) ≡ Take form first second → first < second → BegunTwo (language kind_of sample) sort level leaf text
   begun_two sort level leaf text form first second e lt = (asked_at sort level leaf text).two form first second e lt

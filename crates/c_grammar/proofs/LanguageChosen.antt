@@ -2,7 +2,7 @@
 use Rattle.std.proofs.Common.{◌≡◌, ℕ, ◌≤◌, Bool, true, false, ◌&&◌, ◌||◌, if◌then◌else◌, List, [], ◌∷◌, ◌++◌, Option, Some, None, is_some, nat_le, sym, refl, ◌∙◌, ap, subst, arith}
 use Rattle.std.proofs.lemmas.Bool.{le-leb}
 use Rattle.std.proofs.lemmas.List.{append-nil}
-use Rattle.grammar_table.specs.Table.{Sym, Token, Part, Tree, Node, Choice, Never, Take, Stuck, leaves, Is, nothing, token, part, IsPart, first, after}
+use Rattle.grammar_table.specs.Table.{Symbol, Terminal, Nonterminal, Tree, Node, Choice, Never, Take, Stuck, leaves, Is, nothing, token, part, IsPart, first, after}
 use Rattle.c_grammar.specs.declared.kind.Kind.{Kind}
 use Rattle.c_grammar.specs.declared.kind.Kind.TheVariants.{Name, Literal, End, Else, Sizeof, Struct, Static, Extern, OpenParenthesis, OpenBrace, CloseParenthesis, Star, OpenBracket, Comma}
 use Rattle.c_grammar.specs.Kinds.{is_type_word, prefix_level, is_single, is}
@@ -19,14 +19,14 @@ use Rattle.c_grammar.proofs.LanguageFollowed.{inside_if, either_way, behind, Fro
 use Rattle.c_grammar.proofs.LanguageParts.{and_true, first_token}
 
 -- A row is chosen by each kind of a set.
-abbrev pub Picks : Forms.Sort → Forms.Form → List Kind → Type 0
+abbrev pub Picks : Forms.Sort → Forms.Production → List Kind → Type 0
 Picks sort form kinds = (level : ℕ) (kind next : Kind) → member kinds kind ≡ true → choose_by sort level kind next ≡ take form
 
-abbrev Each : Forms.Sort → Forms.Form → List Kind → Type 0
+abbrev Each : Forms.Sort → Forms.Production → List Kind → Type 0
 Each sort form [] = Unit {0}
 Each sort form (kind ∷ kinds) = ((level : ℕ) (next : Kind) → choose_by sort level kind next ≡ take form) × Each sort form kinds
 
-each : (sort : Forms.Sort) (form : Forms.Form) (kinds : List Kind) → Each sort form kinds → Picks sort form kinds
+each : (sort : Forms.Sort) (form : Forms.Production) (kinds : List Kind) → Each sort form kinds → Picks sort form kinds
 each sort form [] all level kind next e = absurd (cc e)
 each sort form (one ∷ kinds) all level kind next e = either_way (is one kind) (member kinds kind) (λ h. subst (λ k. choose_by sort level k next ≡ take form) (is_same one kind h) (all.0 level next)) (λ h. each sort form kinds all.1 level kind next h) e
 
@@ -205,7 +205,7 @@ kinds_in (Some kinds) = kinds
 kinds_in None = []
 
 -- the first tokens of a row and of what follows it
-abbrev first_kinds : Forms.Sort → Forms.Form → List Kind
+abbrev first_kinds : Forms.Sort → Forms.Production → List Kind
 first_kinds sort form = kinds_in (behind (Forms.symbols_of form) (follows sort))
 
 nested_by : (named : Bool) (next : Kind) → choose_nested named next ≡ (if member (Star ∷ direct_words named) next then Take (Forms.ParamNested named) 0 1 else choose_nested named next)
@@ -238,37 +238,37 @@ abbrev base_followers : List Kind
 base_followers = Star ∷ Name ∷ OpenParenthesis ∷ OpenBracket ∷ Comma ∷ CloseParenthesis ∷ []
 
 module _ {Leaf : Type 0} (kind_of : Leaf → Kind) (sample : Kind → Leaf) where
-  abbrev pub Chosen : Forms.Sort → ℕ → Forms.Form → List Leaf → Type 0
+  abbrev pub Chosen : Forms.Sort → ℕ → Forms.Production → List Leaf → Type 0
   Chosen sort level form text = (low : ℕ) × (high : ℕ) × (choose_at kind_of sample sort level text ≡ Take form low high)
 
   -- by the first token
-  by_first : (sort : Forms.Sort) (level : ℕ) (form : Forms.Form) (kinds : List Kind) (text : List Leaf) → OneOf kind_of (Some kinds) text → Picks sort form kinds → Chosen sort level form text
+  by_first : (sort : Forms.Sort) (level : ℕ) (form : Forms.Production) (kinds : List Kind) (text : List Leaf) → OneOf kind_of (Some kinds) text → Picks sort form kinds → Chosen sort level form text
   by_first sort level form kinds [] h picks = absurd h
   by_first sort level form kinds (leaf ∷ text) h picks = (Forms.row_need form, Forms.row_need form, choose_cons kind_of sample sort level leaf text ∙ picks level (kind_of leaf) (second_of kind_of sample text) h)
 
-  plainly : (sort : Forms.Sort) (level : ℕ) (form : Forms.Form) (kinds : List Kind) {parts : Tree Leaf Forms.Form} → Is (language kind_of sample) (Forms.symbols_of form) parts → (text : List Leaf) → OneOf kind_of (follows sort) text → behind (Forms.symbols_of form) (follows sort) ≡ Some kinds → Picks sort form kinds → Chosen sort level form (leaves parts ++ text)
+  plainly : (sort : Forms.Sort) (level : ℕ) (form : Forms.Production) (kinds : List Kind) {parts : Tree Leaf Forms.Production} → Is (language kind_of sample) (Forms.symbols_of form) parts → (text : List Leaf) → OneOf kind_of (follows sort) text → behind (Forms.symbols_of form) (follows sort) ≡ Some kinds → Picks sort form kinds → Chosen sort level form (leaves parts ++ text)
   plainly sort level form kinds {parts = parts} trees text h e picks =
       by_first sort level form kinds (leaves parts ++ text) (subst (λ x. OneOf kind_of x (leaves parts ++ text)) e (first_of_row kind_of sample trees text (follows sort) h)) picks
 
   -- where the first token is known
-  by_token : (sort : Forms.Sort) (level : ℕ) (form : Forms.Form) (kind : Kind) {others : List (Sym Kind Forms.Sort)} {parts : Tree Leaf Forms.Form} → Is (language kind_of sample) (Token kind ∷ others) parts → (text : List Leaf) (low high : ℕ) → ((next : Kind) → choose_by sort level kind next ≡ Take form low high) → Chosen sort level form (leaves parts ++ text)
+  by_token : (sort : Forms.Sort) (level : ℕ) (form : Forms.Production) (kind : Kind) {others : List (Symbol Kind Forms.Sort)} {parts : Tree Leaf Forms.Production} → Is (language kind_of sample) (Terminal kind ∷ others) parts → (text : List Leaf) (low high : ℕ) → ((next : Kind) → choose_by sort level kind next ≡ Take form low high) → Chosen sort level form (leaves parts ++ text)
   by_token sort level form kind (token {others = trees} leaf fits is_trees) text low high pick =
       (low, high, choose_cons kind_of sample sort level leaf (leaves trees ++ text) ∙ subst (λ k. choose_by sort level k (second_of kind_of sample (leaves trees ++ text)) ≡ Take form low high) (is_same kind (kind_of leaf) fits) (pick (second_of kind_of sample (leaves trees ++ text))))
 
   -- and where the second one decides
-  by_two : (sort : Forms.Sort) (level : ℕ) (form : Forms.Form) (kind : Kind) (kinds : List Kind) (leaf : Leaf) (text : List Leaf) (low high : ℕ) → is kind (kind_of leaf) ≡ true → OneOf kind_of (Some kinds) text → ((next : Kind) → member kinds next ≡ true → choose_by sort level kind next ≡ Take form low high) → Chosen sort level form (leaf ∷ text)
+  by_two : (sort : Forms.Sort) (level : ℕ) (form : Forms.Production) (kind : Kind) (kinds : List Kind) (leaf : Leaf) (text : List Leaf) (low high : ℕ) → is kind (kind_of leaf) ≡ true → OneOf kind_of (Some kinds) text → ((next : Kind) → member kinds next ≡ true → choose_by sort level kind next ≡ Take form low high) → Chosen sort level form (leaf ∷ text)
   by_two sort level form kind kinds leaf [] low high fits h pick = absurd h
   by_two sort level form kind kinds leaf (next ∷ text) low high fits h pick =
       (low, high, subst (λ k. choose_by sort level k (kind_of next) ≡ Take form low high) (is_same kind (kind_of leaf) fits) (pick (kind_of next) h))
 
   -- Rows whose words are told by a test.
-  storage_chosen : (kind : Kind) (level : ℕ) {parts : Tree Leaf Forms.Form} → Is (language kind_of sample) (Forms.symbols_of (Forms.Storage kind)) parts → (text : List Leaf) → (is kind Static || is kind Extern) ≡ true → Chosen Forms.Item level (Forms.Storage kind) (leaves parts ++ text)
+  storage_chosen : (kind : Kind) (level : ℕ) {parts : Tree Leaf Forms.Production} → Is (language kind_of sample) (Forms.symbols_of (Forms.Storage kind)) parts → (text : List Leaf) → (is kind Static || is kind Extern) ≡ true → Chosen Forms.Item level (Forms.Storage kind) (leaves parts ++ text)
   storage_chosen kind level trees text e = by_token Forms.Item level (Forms.Storage kind) kind trees text _ _ (λ next. ap (λ b. take_if b (Forms.Storage kind) (take_if (is kind Struct) Forms.ItemStruct (by_item kind (Forms.with_word kind NoWord)))) e)
 
-  item_chosen : (kind : Kind) (words : Words) (level : ℕ) {parts : Tree Leaf Forms.Form} → Is (language kind_of sample) (Forms.symbols_of (Forms.ItemTyped kind words)) parts → (text : List Leaf) → Forms.with_word kind NoWord ≡ Some words → Chosen Forms.Item level (Forms.ItemTyped kind words) (leaves parts ++ text)
+  item_chosen : (kind : Kind) (words : Words) (level : ℕ) {parts : Tree Leaf Forms.Production} → Is (language kind_of sample) (Forms.symbols_of (Forms.ItemTyped kind words)) parts → (text : List Leaf) → Forms.with_word kind NoWord ≡ Some words → Chosen Forms.Item level (Forms.ItemTyped kind words) (leaves parts ++ text)
   item_chosen kind words level trees text e = by_token Forms.Item level (Forms.ItemTyped kind words) kind trees text _ _ (λ next. item_pick level kind next ∙ ap (λ (x : Option Words). if is_some x then by_item kind x else choose_by Forms.Item level kind next) e)
 
-  word_chosen : (own : Bool) (words next_words : Words) (kind : Kind) (level : ℕ) {parts : Tree Leaf Forms.Form} → Is (language kind_of sample) (Forms.symbols_of (Forms.BaseWord own words kind next_words)) parts → (text : List Leaf) → Forms.with_word kind words ≡ Some next_words → Chosen (Forms.Base own words) level (Forms.BaseWord own words kind next_words) (leaves parts ++ text)
+  word_chosen : (own : Bool) (words next_words : Words) (kind : Kind) (level : ℕ) {parts : Tree Leaf Forms.Production} → Is (language kind_of sample) (Forms.symbols_of (Forms.BaseWord own words kind next_words)) parts → (text : List Leaf) → Forms.with_word kind words ≡ Some next_words → Chosen (Forms.Base own words) level (Forms.BaseWord own words kind next_words) (leaves parts ++ text)
   word_chosen own words next_words kind level trees text e =
       let no_struct : is kind Struct ≡ false = none_left (is kind Struct) (is_some (Forms.with_word kind words)) (not_struct kind words) (ap (λ (x : Option Words). is_some x) e) in
       by_token (Forms.Base own words) level (Forms.BaseWord own words kind next_words) kind trees text _ _ (λ next. ap (λ b. take_if (b && is_start words) (Forms.BaseStruct own) (by_word own words kind (Forms.with_word kind words))) no_struct ∙ ap (λ x. by_word own words kind x) e)
@@ -284,14 +284,14 @@ module _ {Leaf : Type 0} (kind_of : Leaf → Kind) (sample : Kind → Leaf) wher
       let picked = λ (level : ℕ) (next : Kind). ap (λ b. take_if b (Forms.BaseEnd own words) Never) e in
       each (Forms.Base own words) (Forms.BaseEnd own words) base_followers (picked, (picked, (picked, (picked, (picked, (picked, tt))))))
 
-  single_chosen : (kind : Kind) (level : ℕ) {parts : Tree Leaf Forms.Form} → Is (language kind_of sample) (Forms.symbols_of (Forms.Single kind)) parts → (text : List Leaf) → is_single kind ≡ true → Chosen Forms.Expr level (Forms.Single kind) (leaves parts ++ text)
+  single_chosen : (kind : Kind) (level : ℕ) {parts : Tree Leaf Forms.Production} → Is (language kind_of sample) (Forms.symbols_of (Forms.Single kind)) parts → (text : List Leaf) → is_single kind ≡ true → Chosen Forms.Expr level (Forms.Single kind) (leaves parts ++ text)
   single_chosen kind level trees text e = by_token Forms.Expr level (Forms.Single kind) kind trees text _ _ (λ next. one (is_single kind) (choose_expr level kind next) _ refl e)
     where
-      one : (test : Bool) (choice otherwise : Choice Forms.Form) → choice ≡ take_if test (Forms.Single kind) otherwise → test ≡ true → choice ≡ take (Forms.Single kind)
+      one : (test : Bool) (choice otherwise : Choice Forms.Production) → choice ≡ take_if test (Forms.Single kind) otherwise → test ≡ true → choice ≡ take (Forms.Single kind)
       one true choice otherwise h h' = h
       one false choice otherwise h h' = absurd (cc h')
 
-  prefix_chosen : (kind : Kind) (operand level : ℕ) {parts : Tree Leaf Forms.Form} → Is (language kind_of sample) (Forms.symbols_of (Forms.Prefix kind operand)) parts → (text : List Leaf) → prefix_level kind ≡ Some operand → 2 ≤ level → Chosen Forms.Expr level (Forms.Prefix kind operand) (leaves parts ++ text)
+  prefix_chosen : (kind : Kind) (operand level : ℕ) {parts : Tree Leaf Forms.Production} → Is (language kind_of sample) (Forms.symbols_of (Forms.Prefix kind operand)) parts → (text : List Leaf) → prefix_level kind ≡ Some operand → 2 ≤ level → Chosen Forms.Expr level (Forms.Prefix kind operand) (leaves parts ++ text)
   prefix_chosen kind operand level trees text e le = by_token Forms.Expr level (Forms.Prefix kind operand) kind trees text _ _ (λ next. prefix_pick level kind next ∙ ap (λ (x : Option ℕ). if is_some x then by_prefix level kind x Never else choose_expr level kind next) e ∙ ap (λ b. take_if b (Forms.Prefix kind operand) Never) (le-leb 2 level le))
 
   no_else_chosen : (level : ℕ) (text : List Leaf) → NoElseBehind kind_of true text → Chosen Forms.ElseOpt level Forms.NoElse text
@@ -318,7 +318,7 @@ module _ {Leaf : Type 0} (kind_of : Leaf → Kind) (sample : Kind → Leaf) wher
   opens_more [] others some h = absurd (cc some)
   opens_more (leaf ∷ text) others some h = λ e. one_more expr_words text others (h e)
 
-  other_token : (kind : Kind) {others : List (Sym Kind Forms.Sort)} {parts : Tree Leaf Forms.Form} → (kind ≡ OpenParenthesis → ⊥) → Is (language kind_of sample) (Token kind ∷ others) parts → OpensExpr (leaves parts)
+  other_token : (kind : Kind) {others : List (Symbol Kind Forms.Sort)} {parts : Tree Leaf Forms.Production} → (kind ≡ OpenParenthesis → ⊥) → Is (language kind_of sample) (Terminal kind ∷ others) parts → OpensExpr (leaves parts)
   other_token kind differs (token leaf fits trees) = λ e. absurd (differs (is_same kind (kind_of leaf) fits ∙ sym (is_same OpenParenthesis (kind_of leaf) e)))
 
   single_differs : (kind : Kind) → is_single kind ≡ true → kind ≡ OpenParenthesis → ⊥
@@ -331,12 +331,12 @@ module _ {Leaf : Type 0} (kind_of : Leaf → Kind) (sample : Kind → Leaf) wher
       let clash : Some operand ≡ None = sym e ∙ ap prefix_level h in
       cc clash
 
-  opens_form : (form : Forms.Form) {parts : Tree Leaf Forms.Form} → Forms.sort_of form ≡ Forms.Expr → Forms.is_row form ≡ true → Forms.left_of form ≡ None → Forms.level_of_form form ≤ 2 → Is (language kind_of sample) (Forms.symbols_of form) parts → OpensExpr (leaves parts)
+  opens_form : (form : Forms.Production) {parts : Tree Leaf Forms.Production} → Forms.sort_of form ≡ Forms.Expr → Forms.is_row form ≡ true → Forms.left_of form ≡ None → Forms.level_of_form form ≤ 2 → Is (language kind_of sample) (Forms.symbols_of form) parts → OpensExpr (leaves parts)
   opens_form (Forms.Single kind) own row none le trees = other_token kind (single_differs kind row) trees
   opens_form Forms.Text own row none le trees = other_token Literal (λ h. cc h) trees
   opens_form Forms.Parenthesized own row none le (token leaf fits trees) = λ e. before_text trees
     where
-      before_text : {parts : Tree Leaf Forms.Form} → Is (language kind_of sample) (Part Forms.Expr 15 ∷ Token CloseParenthesis ∷ []) parts → OneOf kind_of (Some expr_words) (leaves parts)
+      before_text : {parts : Tree Leaf Forms.Production} → Is (language kind_of sample) (Nonterminal Forms.Expr 15 ∷ Terminal CloseParenthesis ∷ []) parts → OneOf kind_of (Some expr_words) (leaves parts)
       before_text {parts = parts} trees = subst (λ x. OneOf kind_of (Some expr_words) x) (append-nil (leaves parts)) (first_of_row kind_of sample trees [] None tt)
   opens_form Forms.Cast own row none le trees = absurd (omega (arith, le))
   opens_form Forms.SizeofRow own row none le trees = other_token Sizeof (λ h. cc h) trees
@@ -352,7 +352,7 @@ module _ {Leaf : Type 0} (kind_of : Leaf → Kind) (sample : Kind → Leaf) wher
   opens_form Forms.PostDecrement own row none le trees = absurd (cc none)
   opens_form _ own row none le trees = absurd (cc own)
 
-  opens_part : {sort : Forms.Sort} {level : ℕ} {tree : Tree Leaf Forms.Form} → IsPart (language kind_of sample) sort level tree → sort ≡ Forms.Expr → level ≤ 2 → OpensExpr (leaves tree)
+  opens_part : {sort : Forms.Sort} {level : ℕ} {tree : Tree Leaf Forms.Production} → IsPart (language kind_of sample) sort level tree → sort ≡ Forms.Expr → level ≤ 2 → OpensExpr (leaves tree)
   opens_part (first form own_sort own_row own_left own_level trees) e le = opens_form form (own_sort ∙ e) own_row own_left (omega (arith, own_level, le)) trees
   opens_part (after {sort = sort} {left = left} {parts = parts} form left_level own_sort own_row own_left own_level left_is trees) e le =
       let tight = (first_token form left_level own_row own_left).tight in
@@ -372,17 +372,17 @@ module _ {Leaf : Type 0} (kind_of : Leaf → Kind) (sample : Kind → Leaf) wher
       let two : choose_operand (kind_of next) ≡ Take Forms.SizeofExpr 0 2 = one ∙ ap (λ (b : Bool). if b then Take Forms.SizeofExpr 0 2 else Stuck 0) an_expr in
       (0, 2, ap (λ b. if b then choose_operand (kind_of next) else take_if (begins_expr (kind_of leaf)) Forms.SizeofExpr Never) e ∙ two)
 
-  operand_chosen : (level : ℕ) (tree : Tree Leaf Forms.Form) (text : List Leaf) → IsPart (language kind_of sample) Forms.Expr 2 tree → Chosen Forms.SizeofOperand level Forms.SizeofExpr (leaves tree ++ text)
+  operand_chosen : (level : ℕ) (tree : Tree Leaf Forms.Production) (text : List Leaf) → IsPart (language kind_of sample) Forms.Expr 2 tree → Chosen Forms.SizeofOperand level Forms.SizeofExpr (leaves tree ++ text)
   operand_chosen level tree text is_tree = by_list (leaves tree) (front_part kind_of sample is_tree) (opens_more (leaves tree) text (front_part kind_of sample is_tree) (opens_part is_tree refl (omega arith)))
     where
       by_list : (list : List Leaf) → Front kind_of sample false expr_words list → OpensExpr (list ++ text) → Chosen Forms.SizeofOperand level Forms.SizeofExpr (list ++ text)
       by_list [] front opens = absurd (cc front)
       by_list (leaf ∷ list) front opens = operand_test (is (kind_of leaf) OpenParenthesis) level leaf (list ++ text) refl front opens
 
-  by_each : (sort : Forms.Sort) (level : ℕ) (form : Forms.Form) {parts : Tree Leaf Forms.Form} → Is (language kind_of sample) (Forms.symbols_of form) parts → (text : List Leaf) → OneOf kind_of (follows sort) text → behind (Forms.symbols_of form) (follows sort) ≡ Some (first_kinds sort form) → Each sort form (first_kinds sort form) → Chosen sort level form (leaves parts ++ text)
+  by_each : (sort : Forms.Sort) (level : ℕ) (form : Forms.Production) {parts : Tree Leaf Forms.Production} → Is (language kind_of sample) (Forms.symbols_of form) parts → (text : List Leaf) → OneOf kind_of (follows sort) text → behind (Forms.symbols_of form) (follows sort) ≡ Some (first_kinds sort form) → Each sort form (first_kinds sort form) → Chosen sort level form (leaves parts ++ text)
   by_each sort level form trees text h e all = plainly sort level form (first_kinds sort form) trees text h e (each sort form (first_kinds sort form) all)
 
-  pub chosen_form : (form : Forms.Form) (level : ℕ) (parts : Tree Leaf Forms.Form) (text : List Leaf) → Forms.is_row form ≡ true → Forms.left_of form ≡ None → Forms.level_of_form form ≤ level → Is (language kind_of sample) (Forms.symbols_of form) parts → Stands kind_of (Forms.sort_of form) level (Node form parts) text → Chosen (Forms.sort_of form) level form (leaves parts ++ text)
+  pub chosen_form : (form : Forms.Production) (level : ℕ) (parts : Tree Leaf Forms.Production) (text : List Leaf) → Forms.is_row form ≡ true → Forms.left_of form ≡ None → Forms.level_of_form form ≤ level → Is (language kind_of sample) (Forms.symbols_of form) parts → Stands kind_of (Forms.sort_of form) level (Node form parts) text → Chosen (Forms.sort_of form) level form (leaves parts ++ text)
   chosen_form Forms.WholeProgram level parts text row none le trees h = plainly Forms.Program level Forms.WholeProgram (item_words ++ End ∷ []) trees text h refl pick_whole_program
   chosen_form Forms.OneItem level parts text row none le trees h = plainly Forms.Items level Forms.OneItem item_words trees text h refl pick_one_item
   chosen_form Forms.MemberRow level parts text row none le trees h = plainly Forms.MemberSort level Forms.MemberRow type_words trees text h refl pick_member_row

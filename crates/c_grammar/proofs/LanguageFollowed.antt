@@ -1,7 +1,7 @@
 -- What stands first in a row of trees, and behind each of them.
 use Rattle.std.proofs.Common.{◌≡◌, ℕ, Bool, true, false, ◌&&◌, ◌||◌, if◌then◌else◌, List, [], ◌∷◌, ◌++◌, Option, Some, None, sym, refl, ◌∙◌, ap, subst, append_assoc}
 use Rattle.std.proofs.lemmas.Bool.{or_left, or_right}
-use Rattle.grammar_table.specs.Table.{Sym, Token, Part, Tree, leaves, Is, nothing, token, part, IsPart, first, after}
+use Rattle.grammar_table.specs.Table.{Symbol, Terminal, Nonterminal, Tree, leaves, Is, nothing, token, part, IsPart, first, after}
 use Rattle.c_grammar.specs.declared.kind.Kind.{Kind}
 use Rattle.c_grammar.specs.declared.kind.Kind.TheVariants.{Name, Else, CloseParenthesis, CloseBracket, CloseBrace, Semicolon, Comma, Colon, Static, Extern}
 use Rattle.c_grammar.specs.Kinds.{prefix_level, is_single, is}
@@ -40,18 +40,18 @@ in_second [] others kind e = e
 in_second (one ∷ kinds) others kind e = or_right (is one kind) (member (kinds ++ others) kind) (in_second kinds others kind e)
 
 -- the first tokens of the trees of symbols
-abbrev pub heads : List (Sym Kind Forms.Sort) → List Kind
+abbrev pub heads : List (Symbol Kind Forms.Sort) → List Kind
 heads [] = []
-heads (Token kind ∷ symbols) = kind ∷ []
-heads (Part sort level ∷ symbols) = if may_lack sort then begins sort ++ heads symbols else begins sort
+heads (Terminal kind ∷ symbols) = kind ∷ []
+heads (Nonterminal sort level ∷ symbols) = if may_lack sort then begins sort ++ heads symbols else begins sort
 
-abbrev pub lacks : List (Sym Kind Forms.Sort) → Bool
+abbrev pub lacks : List (Symbol Kind Forms.Sort) → Bool
 lacks [] = true
-lacks (Token kind ∷ symbols) = false
-lacks (Part sort level ∷ symbols) = may_lack sort && lacks symbols
+lacks (Terminal kind ∷ symbols) = false
+lacks (Nonterminal sort level ∷ symbols) = may_lack sort && lacks symbols
 
 -- A row's first tokens are those of its sort.
-abbrev head_test : Option ℕ → Forms.Sort → List (Sym Kind Forms.Sort) → Bool
+abbrev head_test : Option ℕ → Forms.Sort → List (Symbol Kind Forms.Sort) → Bool
 head_test (Some left) sort symbols = true
 head_test None sort symbols = subset (heads symbols) (begins sort)
 
@@ -101,7 +101,7 @@ in_level false found level e h =
 pub operator_given : (kind : Kind) (level : ℕ) → Forms.is_this_number (prefix_level kind) level ≡ true → member (begins Forms.Expr) kind ≡ true
 operator_given kind level h = in_level (member (begins Forms.Expr) kind) (prefix_level kind) level (operator_in kind) h
 
-heads_fit : (form : Forms.Form) → Forms.is_row form ≡ true → head_test (Forms.left_of form) (Forms.sort_of form) (Forms.symbols_of form) ≡ true
+heads_fit : (form : Forms.Production) → Forms.is_row form ≡ true → head_test (Forms.left_of form) (Forms.sort_of form) (Forms.symbols_of form) ≡ true
 heads_fit (Forms.Storage kind) row = inside_if (is kind Static || is kind Extern) (subset (kind ∷ []) (begins Forms.Item)) true true (storage_head kind) row
 heads_fit (Forms.ItemTyped kind next) row = one_kind kind (begins Forms.Item) (in_second (Static ∷ Extern ∷ []) (base_words NoWord) kind (word_given kind NoWord next row))
 heads_fit (Forms.BaseWord own words kind next) row = one_kind kind (base_words words) (word_given kind words next row)
@@ -133,7 +133,7 @@ lack_if : Bool → Bool → Bool
 lack_if true b = b
 lack_if false b = true
 
-lacks_fit : (form : Forms.Form) → Forms.is_row form ≡ true → lack_if (lacks (Forms.symbols_of form)) (may_lack (Forms.sort_of form)) ≡ true
+lacks_fit : (form : Forms.Production) → Forms.is_row form ≡ true → lack_if (lacks (Forms.symbols_of form)) (may_lack (Forms.sort_of form)) ≡ true
 unfolding lack_if
 lacks_fit (Forms.BaseEnd own NoWord) row = row
 lacks_fit (Forms.BaseEnd own FullType) row = refl
@@ -147,7 +147,7 @@ unfolding lack_if
 lack_told true b e h = e
 lack_told false b e h = absurd (cc h)
 
-pub left_expr : (form : Forms.Form) (level : ℕ) → Forms.left_of form ≡ Some level → Forms.sort_of form ≡ Forms.Expr
+pub left_expr : (form : Forms.Production) (level : ℕ) → Forms.left_of form ≡ Some level → Forms.sort_of form ≡ Forms.Expr
 left_expr (Forms.Binary kind right) level e = refl
 left_expr (Forms.Assign kind) level e = refl
 left_expr Forms.Conditional level e = refl
@@ -164,10 +164,10 @@ abbrev pub with_others : List Kind → Option (List Kind) → Option (List Kind)
 with_others kinds (Some others) = Some (kinds ++ others)
 with_others kinds None = None
 
-abbrev pub behind : List (Sym Kind Forms.Sort) → Option (List Kind) → Option (List Kind)
+abbrev pub behind : List (Symbol Kind Forms.Sort) → Option (List Kind) → Option (List Kind)
 behind [] last = last
-behind (Token kind ∷ symbols) last = Some (kind ∷ [])
-behind (Part sort level ∷ symbols) last = if may_lack sort then with_others (begins sort) (behind symbols last) else Some (begins sort)
+behind (Terminal kind ∷ symbols) last = Some (kind ∷ [])
+behind (Nonterminal sort level ∷ symbols) last = if may_lack sort then with_others (begins sort) (behind symbols last) else Some (begins sort)
 
 -- Each part of a row is followed by what may follow its sort.
 abbrev pub within : Option (List Kind) → Option (List Kind) → Bool
@@ -194,10 +194,10 @@ part_fits Forms.Literals others = false
 part_fits Forms.SizeofOperand others = false
 part_fits sort others = within (follows sort) others
 
-abbrev pub row_fits : List (Sym Kind Forms.Sort) → Option (List Kind) → Bool
+abbrev pub row_fits : List (Symbol Kind Forms.Sort) → Option (List Kind) → Bool
 row_fits [] last = true
-row_fits (Token kind ∷ symbols) last = row_fits symbols last
-row_fits (Part sort level ∷ symbols) last = part_fits sort (behind symbols last) && row_fits symbols last
+row_fits (Terminal kind ∷ symbols) last = row_fits symbols last
+row_fits (Nonterminal sort level ∷ symbols) last = part_fits sort (behind symbols last) && row_fits symbols last
 
 module _ {Leaf : Type 0} (kind_of : Leaf → Kind) (sample : Kind → Leaf) where
   -- the first token of leaves
@@ -205,7 +205,7 @@ module _ {Leaf : Type 0} (kind_of : Leaf → Kind) (sample : Kind → Leaf) wher
   Front lack kinds [] = lack ≡ true
   Front lack kinds (leaf ∷ text) = member kinds (kind_of leaf) ≡ true
 
-  front_of_form : (form : Forms.Form) (text : List Leaf) → Forms.is_row form ≡ true → Forms.left_of form ≡ None → Front (lacks (Forms.symbols_of form)) (heads (Forms.symbols_of form)) text → Front (may_lack (Forms.sort_of form)) (begins (Forms.sort_of form)) text
+  front_of_form : (form : Forms.Production) (text : List Leaf) → Forms.is_row form ≡ true → Forms.left_of form ≡ None → Front (lacks (Forms.symbols_of form)) (heads (Forms.symbols_of form)) text → Front (may_lack (Forms.sort_of form)) (begins (Forms.sort_of form)) text
   front_of_form form [] row none h = lack_told (lacks (Forms.symbols_of form)) (may_lack (Forms.sort_of form)) (lacks_fit form row) h
   front_of_form form (leaf ∷ text) row none h =
       larger_set (heads (Forms.symbols_of form)) (begins (Forms.sort_of form)) (kind_of leaf) (sym (ap (λ x. head_test x (Forms.sort_of form) (Forms.symbols_of form)) none) ∙ heads_fit form row) h
@@ -222,14 +222,14 @@ module _ {Leaf : Type 0} (kind_of : Leaf → Kind) (sample : Kind → Leaf) wher
   front_then false lack' kinds kinds' (leaf ∷ front) others h h' = h
 
   mutual
-    pub front_part : {sort : Forms.Sort} {level : ℕ} {tree : Tree Leaf Forms.Form} → IsPart (language kind_of sample) sort level tree → Front (may_lack sort) (begins sort) (leaves tree)
+    pub front_part : {sort : Forms.Sort} {level : ℕ} {tree : Tree Leaf Forms.Production} → IsPart (language kind_of sample) sort level tree → Front (may_lack sort) (begins sort) (leaves tree)
     front_part (first {parts = parts} form own_sort own_row own_left own_level is) = subst (λ s. Front (may_lack s) (begins s) (leaves parts)) own_sort (front_of_form form (leaves parts) own_row own_left (front_row is))
     front_part (after {sort = sort} {left = left} {parts = parts} form left_level own_sort own_row own_left own_level left_is is) =
         let expr : sort ≡ Forms.Expr = sym own_sort ∙ left_expr form left_level own_left in
         let before = subst (λ s. Front (may_lack s) (begins s) (leaves left)) expr (front_part left_is) in
         subst (λ s. Front (may_lack s) (begins s) (leaves left ++ leaves parts)) (sym expr) (front_more (begins Forms.Expr) (leaves left) (leaves parts) before)
 
-    pub front_row : {symbols : List (Sym Kind Forms.Sort)} {trees : Tree Leaf Forms.Form} → Is (language kind_of sample) symbols trees → Front (lacks symbols) (heads symbols) (leaves trees)
+    pub front_row : {symbols : List (Symbol Kind Forms.Sort)} {trees : Tree Leaf Forms.Production} → Is (language kind_of sample) symbols trees → Front (lacks symbols) (heads symbols) (leaves trees)
     front_row nothing = refl
     front_row (token {kind = kind} leaf fits others) = or_left (is kind (kind_of leaf)) false fits
     front_row (part {sort = sort} {symbols = symbols} {tree = tree} {others = others} is is_others free) = front_then (may_lack sort) (lacks symbols) (begins sort) (heads symbols) (leaves tree) (leaves others) (front_part is) (front_row is_others)
@@ -243,7 +243,7 @@ module _ {Leaf : Type 0} (kind_of : Leaf → Kind) (sample : Kind → Leaf) wher
   one_of_then false kinds last (leaf ∷ front) others h h' = h
 
   -- the first token of a row and what follows it
-  pub first_of_row : {symbols : List (Sym Kind Forms.Sort)} {trees : Tree Leaf Forms.Form} → Is (language kind_of sample) symbols trees → (text : List Leaf) (last : Option (List Kind)) → OneOf kind_of last text → OneOf kind_of (behind symbols last) (leaves trees ++ text)
+  pub first_of_row : {symbols : List (Symbol Kind Forms.Sort)} {trees : Tree Leaf Forms.Production} → Is (language kind_of sample) symbols trees → (text : List Leaf) (last : Option (List Kind)) → OneOf kind_of last text → OneOf kind_of (behind symbols last) (leaves trees ++ text)
   first_of_row nothing text last h = h
   first_of_row (token {kind = kind} leaf fits others) text last h = or_left (is kind (kind_of leaf)) false fits
   first_of_row (part {sort = sort} {symbols = symbols} {tree = tree} {others = others} is is_others free) text last h =

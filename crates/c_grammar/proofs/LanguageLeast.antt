@@ -1,7 +1,7 @@
 -- The least trees of the grammar are trees, and the rows by which expressions go on are as they are told.
 use Rattle.std.proofs.Common.{◌≡◌, ℕ, ◌+◌, ◌≤◌, max, Bool, true, false, ◌&&◌, if◌then◌else◌, List, [], ◌∷◌, Option, Some, None, nat_le, sym, refl, ◌∙◌, ap, subst, arith}
 use Rattle.std.proofs.lemmas.Bool.{leb-true}
-use Rattle.grammar_table.specs.Table.{Sym, Token, Part, Tree, Alone, Then, Node, leaves, height, barred, Is, nothing, token, part, IsPart, first, need_all, Plain, Orderly}
+use Rattle.grammar_table.specs.Table.{Symbol, Terminal, Nonterminal, Tree, Alone, Then, Node, leaves, height, barred, Is, nothing, token, part, IsPart, first, need_all, Plain, Orderly}
 use Rattle.grammar_table.specs.Runs.{level_of, next_row}
 use Rattle.grammar_table.specs.Laws.{IsNext}
 use Rattle.c_grammar.specs.declared.kind.Kind.{Kind}
@@ -34,17 +34,17 @@ not_swap a b e = not_true (is b a) (λ h. clash h)
         cc both
 
 -- The token behind a tree of a row is never `else`.
-plain_row : List (Sym Kind Forms.Sort) → Bool
+plain_row : List (Symbol Kind Forms.Sort) → Bool
 plain_row [] = true
-plain_row (Token kind ∷ symbols) = if is kind Else then false else plain_row symbols
-plain_row (Part sort level ∷ symbols) = plain_row symbols
+plain_row (Terminal kind ∷ symbols) = if is kind Else then false else plain_row symbols
+plain_row (Nonterminal sort level ∷ symbols) = plain_row symbols
 
-orderly_row : List (Sym Kind Forms.Sort) → Bool
+orderly_row : List (Symbol Kind Forms.Sort) → Bool
 orderly_row [] = true
-orderly_row (Token kind ∷ symbols) = orderly_row symbols
-orderly_row (Part sort level ∷ symbols) = plain_row symbols && orderly_row symbols
+orderly_row (Terminal kind ∷ symbols) = orderly_row symbols
+orderly_row (Nonterminal sort level ∷ symbols) = plain_row symbols && orderly_row symbols
 
-orderly_test : (form : Forms.Form) → orderly_row (Forms.symbols_of form) ≡ true
+orderly_test : (form : Forms.Production) → orderly_row (Forms.symbols_of form) ≡ true
 unfolding plain_row orderly_row
 orderly_test Forms.WholeProgram = refl
 orderly_test (Forms.BaseStruct true) = refl
@@ -52,7 +52,7 @@ orderly_test (Forms.BaseStruct false) = refl
 orderly_test _ = refl
 
 -- what may come behind an expression
-pub record NextAt (level own : ℕ) (kind : Kind) (form : Forms.Form) : Type 0 where
+pub record NextAt (level own : ℕ) (kind : Kind) (form : Forms.Production) : Type 0 where
   pub left_level : ℕ
   pub own_sort : Forms.sort_of form ≡ Forms.Expr
   pub own_row : Forms.is_row form ≡ true
@@ -60,15 +60,15 @@ pub record NextAt (level own : ℕ) (kind : Kind) (form : Forms.Form) : Type 0 w
   pub own_level : Forms.level_of_form form ≤ level
   pub binds : own ≤ left_level
   pub token_kind : Kind
-  pub others : List (Sym Kind Forms.Sort)
-  pub row : Forms.symbols_of form ≡ Token token_kind ∷ others
+  pub others : List (Symbol Kind Forms.Sort)
+  pub row : Forms.symbols_of form ≡ Terminal token_kind ∷ others
   pub told : is token_kind kind ≡ true
 
-pub data AllForms (P : Forms.Form → Type 0) : Option Forms.Form → Type 0 where
+pub data AllForms (P : Forms.Production → Type 0) : Option Forms.Production → Type 0 where
   no_form : AllForms P None
-  a_form : {form : Forms.Form} → P form → AllForms P (Some form)
+  a_form : {form : Forms.Production} → P form → AllForms P (Some form)
 
-tested_form : {P : Forms.Form → Type 0} (test : Bool) (form : Forms.Form) {otherwise : Option Forms.Form} → (test ≡ true → P form) → AllForms P otherwise → AllForms P (goes_if test form otherwise)
+tested_form : {P : Forms.Production → Type 0} (test : Bool) (form : Forms.Production) {otherwise : Option Forms.Production} → (test ≡ true → P form) → AllForms P otherwise → AllForms P (goes_if test form otherwise)
 tested_form true form h others = a_form (h refl)
 tested_form false form h others = others
 
@@ -91,7 +91,7 @@ next_binary level own kind (Some right) found = tested_form (nat_le own (right +
   own_level = leb-true (right + 1) level (and_right (nat_le own (right + 1)) (nat_le (right + 1) level) e);
   binds = leb-true own (right + 1) (and_left (nat_le own (right + 1)) (nat_le (right + 1) level) e);
   token_kind = kind;
-  others = Part Forms.Expr right ∷ [];
+  others = Nonterminal Forms.Expr right ∷ [];
   row = refl;
   told = is_self kind;
 }) no_form
@@ -106,7 +106,7 @@ next_other level own kind =
       own_level = leb-true 15 level (three_right (is_assignment kind) (nat_le own 2) (nat_le 15 level) e);
       binds = leb-true own 2 (three_middle (is_assignment kind) (nat_le own 2) (nat_le 15 level) e);
       token_kind = kind;
-      others = Part Forms.Expr 15 ∷ [];
+      others = Nonterminal Forms.Expr 15 ∷ [];
       row = refl;
       told = is_self kind;
     }) (tested_form (is kind Question && (nat_le own 13 && nat_le 14 level)) Forms.Conditional (λ e. record {
@@ -122,7 +122,7 @@ next_other level own kind =
       told = is_swap kind Question (three_left (is kind Question) (nat_le own 13) (nat_le 14 level) e);
     }) (next_binary level own kind (binary_right kind) refl))
 
-postfix_at : (level own : ℕ) (kind token_kind : Kind) (form : Forms.Form) (others : List (Sym Kind Forms.Sort)) → Forms.sort_of form ≡ Forms.Expr → Forms.is_row form ≡ true → Forms.left_of form ≡ Some 1 → Forms.level_of_form form ≡ 1 → Forms.symbols_of form ≡ Token token_kind ∷ others → is token_kind kind ≡ true → AllForms (NextAt level own kind) (goes_if (nat_le own 1 && nat_le 1 level) form None)
+postfix_at : (level own : ℕ) (kind token_kind : Kind) (form : Forms.Production) (others : List (Symbol Kind Forms.Sort)) → Forms.sort_of form ≡ Forms.Expr → Forms.is_row form ≡ true → Forms.left_of form ≡ Some 1 → Forms.level_of_form form ≡ 1 → Forms.symbols_of form ≡ Terminal token_kind ∷ others → is token_kind kind ≡ true → AllForms (NextAt level own kind) (goes_if (nat_le own 1 && nat_le 1 level) form None)
 postfix_at level own kind token_kind form others own_sort own_row own_left one row told = tested_form (nat_le own 1 && nat_le 1 level) form (λ e.
     let le : 1 ≤ level = leb-true 1 level (and_right (nat_le own 1) (nat_le 1 level) e) in
     record {
@@ -151,43 +151,43 @@ next_by : (sort : Forms.Sort) (level own : ℕ) (kind : Kind) → AllForms (Next
 next_by Forms.Expr level own kind = next_expr level own kind
 next_by _ level own kind = no_form
 
-is_expr : (sort : Forms.Sort) (level own : ℕ) (kind : Kind) (form : Forms.Form) → goes_on_by sort level own kind ≡ Some form → sort ≡ Forms.Expr
+is_expr : (sort : Forms.Sort) (level own : ℕ) (kind : Kind) (form : Forms.Production) → goes_on_by sort level own kind ≡ Some form → sort ≡ Forms.Expr
 is_expr Forms.Expr level own kind form e = refl
 is_expr _ level own kind form e = cc e
 
-a_next : {P : Forms.Form → Type 0} {choice : Option Forms.Form} → AllForms P choice → (form : Forms.Form) → choice ≡ Some form → P form
+a_next : {P : Forms.Production → Type 0} {choice : Option Forms.Production} → AllForms P choice → (form : Forms.Production) → choice ≡ Some form → P form
 a_next no_form form e = absurd (cc e)
 a_next {P = P} (a_form {form = form'} h) form e =
     let same_form : form' ≡ form = cc e in
     subst P same_form h
 
 module _ {Leaf : Type 0} (kind_of : Leaf → Kind) (sample : Kind → Leaf) where
-  plain_case : (test : Bool) (kind : Kind) (symbols : List (Sym Kind Forms.Sort)) → is kind Else ≡ test → (if test then false else plain_row symbols) ≡ true → (plain_row symbols ≡ true → Plain (language kind_of sample) symbols) → Plain (language kind_of sample) (Token kind ∷ symbols)
+  plain_case : (test : Bool) (kind : Kind) (symbols : List (Symbol Kind Forms.Sort)) → is kind Else ≡ test → (if test then false else plain_row symbols) ≡ true → (plain_row symbols ≡ true → Plain (language kind_of sample) symbols) → Plain (language kind_of sample) (Terminal kind ∷ symbols)
   plain_case true kind symbols e h f = absurd (cc h)
   plain_case false kind symbols e h f = (e, f h)
 
-  plain_from : (symbols : List (Sym Kind Forms.Sort)) → plain_row symbols ≡ true → Plain (language kind_of sample) symbols
+  plain_from : (symbols : List (Symbol Kind Forms.Sort)) → plain_row symbols ≡ true → Plain (language kind_of sample) symbols
   unfolding plain_row
   plain_from [] e = tt
-  plain_from (Token kind ∷ symbols) e = plain_case (is kind Else) kind symbols refl e (λ h. plain_from symbols h)
-  plain_from (Part sort level ∷ symbols) e = plain_from symbols e
+  plain_from (Terminal kind ∷ symbols) e = plain_case (is kind Else) kind symbols refl e (λ h. plain_from symbols h)
+  plain_from (Nonterminal sort level ∷ symbols) e = plain_from symbols e
 
-  orderly_from : (symbols : List (Sym Kind Forms.Sort)) → orderly_row symbols ≡ true → Orderly (language kind_of sample) symbols
+  orderly_from : (symbols : List (Symbol Kind Forms.Sort)) → orderly_row symbols ≡ true → Orderly (language kind_of sample) symbols
   unfolding orderly_row
   orderly_from [] e = tt
-  orderly_from (Token kind ∷ symbols) e = orderly_from symbols e
-  orderly_from (Part sort level ∷ symbols) e = (plain_from symbols (and_left (plain_row symbols) (orderly_row symbols) e), orderly_from symbols (and_right (plain_row symbols) (orderly_row symbols) e))
+  orderly_from (Terminal kind ∷ symbols) e = orderly_from symbols e
+  orderly_from (Nonterminal sort level ∷ symbols) e = (plain_from symbols (and_left (plain_row symbols) (orderly_row symbols) e), orderly_from symbols (and_right (plain_row symbols) (orderly_row symbols) e))
 
-  pub orderly : (form : Forms.Form) → Orderly (language kind_of sample) (Forms.symbols_of form)
+  pub orderly : (form : Forms.Production) → Orderly (language kind_of sample) (Forms.symbols_of form)
   orderly form = orderly_from (Forms.symbols_of form) (orderly_test form)
 
   -- the same in the table's words
-  pub same_needs : (symbols : List (Sym Kind Forms.Sort)) → need_all (language kind_of sample) symbols ≡ Forms.needs_of symbols
+  pub same_needs : (symbols : List (Symbol Kind Forms.Sort)) → need_all (language kind_of sample) symbols ≡ Forms.needs_of symbols
   same_needs [] = refl
-  same_needs (Token kind ∷ symbols) = same_needs symbols
-  same_needs (Part sort level ∷ symbols) = ap (max (Forms.need_of sort)) (same_needs symbols)
+  same_needs (Terminal kind ∷ symbols) = same_needs symbols
+  same_needs (Nonterminal sort level ∷ symbols) = ap (max (Forms.need_of sort)) (same_needs symbols)
 
-  pub next_at : (sort : Forms.Sort) (level : ℕ) (left : Tree Leaf Forms.Form) (text : List Leaf) (form : Forms.Form) → next_row (language kind_of sample) sort level left text ≡ Some form → IsNext (language kind_of sample) sort level left text form
+  pub next_at : (sort : Forms.Sort) (level : ℕ) (left : Tree Leaf Forms.Production) (text : List Leaf) (form : Forms.Production) → next_row (language kind_of sample) sort level left text ≡ Some form → IsNext (language kind_of sample) sort level left text form
   next_at sort level left [] form e = absurd (cc e)
   next_at sort level left (leaf ∷ text) form e =
       let n = a_next (next_by sort level (level_of (language kind_of sample) left) (kind_of leaf)) form e in
@@ -207,24 +207,24 @@ module _ {Leaf : Type 0} (kind_of : Leaf → Kind) (sample : Kind → Leaf) wher
         told = n.told;
       }
 
-  not_open : (tree : Tree Leaf Forms.Form) (xs : List Leaf) → is_open tree ≡ false → barred (language kind_of sample) tree xs ≡ false
+  not_open : (tree : Tree Leaf Forms.Production) (xs : List Leaf) → is_open tree ≡ false → barred (language kind_of sample) tree xs ≡ false
   not_open tree [] e = refl
   not_open tree (leaf ∷ xs) e = ap (λ x. is Else (kind_of leaf) && x) e ∙ and_false (is Else (kind_of leaf))
 
   module _ (real : (kind : Kind) → kind_of (sample kind) ≡ kind) where
-    pub token_free : (kind : Kind) (tree : Tree Leaf Forms.Form) → is kind Else ≡ false → (is Else (kind_of (sample kind)) && is_open tree) ≡ false
+    pub token_free : (kind : Kind) (tree : Tree Leaf Forms.Production) → is kind Else ≡ false → (is Else (kind_of (sample kind)) && is_open tree) ≡ false
     token_free kind tree e = ap (λ x. x && is_open tree) (ap (is Else) (real kind) ∙ not_swap kind Else e)
 
     pub sample_fits : (kind : Kind) → is kind (kind_of (sample kind)) ≡ true
     sample_fits kind = ap (is kind) (real kind) ∙ is_self kind
 
-    tk : (kind : Kind) {symbols : List (Sym Kind Forms.Sort)} {others : Tree Leaf Forms.Form} → Is (language kind_of sample) symbols others → Is (language kind_of sample) (Token kind ∷ symbols) (Then (Alone (sample kind)) others)
+    tk : (kind : Kind) {symbols : List (Symbol Kind Forms.Sort)} {others : Tree Leaf Forms.Production} → Is (language kind_of sample) symbols others → Is (language kind_of sample) (Terminal kind ∷ symbols) (Then (Alone (sample kind)) others)
     tk kind is_others = token (sample kind) (sample_fits kind) is_others
 
-    pt : {sort : Forms.Sort} {level : ℕ} {symbols : List (Sym Kind Forms.Sort)} {tree others : Tree Leaf Forms.Form} → is_open tree ≡ false → IsPart (language kind_of sample) sort level tree → Is (language kind_of sample) symbols others → Is (language kind_of sample) (Part sort level ∷ symbols) (Then tree others)
+    pt : {sort : Forms.Sort} {level : ℕ} {symbols : List (Symbol Kind Forms.Sort)} {tree others : Tree Leaf Forms.Production} → is_open tree ≡ false → IsPart (language kind_of sample) sort level tree → Is (language kind_of sample) symbols others → Is (language kind_of sample) (Nonterminal sort level ∷ symbols) (Then tree others)
     pt {tree = tree} {others = others} closed is_tree is_others = part is_tree is_others (not_open tree (leaves others) closed)
 
-    node : {sort : Forms.Sort} {level : ℕ} {parts : Tree Leaf Forms.Form} (form : Forms.Form) → Forms.sort_of form ≡ sort → Forms.is_row form ≡ true → Forms.left_of form ≡ None → Forms.level_of_form form ≡ 0 → Is (language kind_of sample) (Forms.symbols_of form) parts → IsPart (language kind_of sample) sort level (Node form parts)
+    node : {sort : Forms.Sort} {level : ℕ} {parts : Tree Leaf Forms.Production} (form : Forms.Production) → Forms.sort_of form ≡ sort → Forms.is_row form ≡ true → Forms.left_of form ≡ None → Forms.level_of_form form ≡ 0 → Is (language kind_of sample) (Forms.symbols_of form) parts → IsPart (language kind_of sample) sort level (Node form parts)
     node form own_sort own_row own_left tight is_parts = first form own_sort own_row own_left (omega (arith, tight)) is_parts
 
     name_is : {level : ℕ} → IsPart (language kind_of sample) Forms.Declarator level (least_name kind_of sample)
@@ -290,7 +290,7 @@ module _ {Leaf : Type 0} (kind_of : Leaf → Kind) (sample : Kind → Leaf) wher
     least_is_part Forms.Arguments level = node Forms.NoArgument refl refl refl refl nothing
     least_is_part Forms.ArgumentsMore level = node Forms.ArgumentsEnd refl refl refl refl nothing
 
-    pub free_at : (sort : Forms.Sort) (level : ℕ) (tree : Tree Leaf Forms.Form) → barred (language kind_of sample) tree (leaves (least_of kind_of sample sort level)) ≡ false
+    pub free_at : (sort : Forms.Sort) (level : ℕ) (tree : Tree Leaf Forms.Production) → barred (language kind_of sample) tree (leaves (least_of kind_of sample sort level)) ≡ false
     free_at Forms.Program level tree = token_free End tree refl
     free_at Forms.Item level tree = token_free Struct tree refl
     free_at Forms.StructTail level tree = token_free Semicolon tree refl

@@ -1,7 +1,7 @@
 -- Behind each part of a row stands what may stand there.
 use Rattle.std.proofs.Common.{◌≡◌, ℕ, ◌+◌, ◌<◌, ◌≤◌, ◌⊎◌, inl, inr, Bool, true, false, ◌&&◌, ◌||◌, if◌then◌else◌, List, [], ◌∷◌, ◌++◌, Option, Some, None, is_some, nat_le, sym, refl, ◌∙◌, ap, subst, arith}
 use Rattle.std.proofs.lemmas.Bool.{leb-true, le-leb, or_left, or_right}
-use Rattle.grammar_table.specs.Table.{Sym, Token, Part, Tree, Alone, Nothing, Then, Node, leaves, barred, Is, nothing, token, part, IsPart, first, after}
+use Rattle.grammar_table.specs.Table.{Symbol, Terminal, Nonterminal, Tree, Alone, Nothing, Then, Node, leaves, barred, Is, nothing, token, part, IsPart, first, after}
 use Rattle.grammar_table.specs.Laws.{Followed}
 use Rattle.c_grammar.specs.declared.kind.Kind.{Kind}
 use Rattle.c_grammar.specs.declared.kind.Kind.TheVariants.{Name, Else, Literal, OpenBracket, OpenParenthesis, CloseParenthesis, Semicolon, Colon, Question, Dot, Arrow, PlusPlus, MinusMinus}
@@ -103,15 +103,15 @@ assign_by : (kind : Kind) → is_assignment kind ≡ true → LeftBy kind 2
 assign_by kind e = record { level = 15; goes = sym (ap (λ (x : Bool). if x then reach kind else Some 15) e) ∙ assign_reach kind; above = omega arith; far = inr (omega arith, omega arith); word = and_second (is_assignment kind) (is Literal kind) (assign_plain kind) e }
 
 -- the token that goes on behind a tree
-pub record FirstToken (form : Forms.Form) (left : ℕ) : Type 0 where
+pub record FirstToken (form : Forms.Production) (left : ℕ) : Type 0 where
   pub kind : Kind
-  pub others : List (Sym Kind Forms.Sort)
-  pub row : Forms.symbols_of form ≡ Token kind ∷ others
+  pub others : List (Symbol Kind Forms.Sort)
+  pub row : Forms.symbols_of form ≡ Terminal kind ∷ others
   pub by : LeftBy kind left
   pub goes_on : (level own : ℕ) → Forms.level_of_form form ≤ level → own ≤ left → by_postfix level own kind (postfix_of kind) ≡ Some form
   pub tight : left ≤ Forms.level_of_form form
 
-goes_both : (own left least level : ℕ) (form : Forms.Form) (otherwise : Option Forms.Form) → own ≤ left → least ≤ level → goes_if (nat_le own left && nat_le least level) form otherwise ≡ Some form
+goes_both : (own left least level : ℕ) (form : Forms.Production) (otherwise : Option Forms.Production) → own ≤ left → least ≤ level → goes_if (nat_le own left && nat_le least level) form otherwise ≡ Some form
 goes_both own left least level form otherwise le le' = ap (λ x. goes_if x form otherwise) (both (le-leb own left le) (le-leb least level le'))
 
 binary_next : (level own : ℕ) (kind : Kind) → by_postfix level own kind (postfix_of kind) ≡ (if is_some (binary_right kind) then by_binary level own kind (binary_right kind) else by_postfix level own kind (postfix_of kind))
@@ -133,7 +133,7 @@ left_known P {left = left} {other = other} p e =
     let same : other ≡ left = cc e in
     subst P same p
 
-pub first_token : (form : Forms.Form) (left : ℕ) → Forms.is_row form ≡ true → Forms.left_of form ≡ Some left → FirstToken form left
+pub first_token : (form : Forms.Production) (left : ℕ) → Forms.is_row form ≡ true → Forms.left_of form ≡ Some left → FirstToken form left
 first_token (Forms.Binary kind right) left row e = left_known (FirstToken (Forms.Binary kind right)) (record { kind = kind; others = _; row = refl; by = binary_by kind right (is_that_number (binary_right kind) right row); goes_on = λ level own le le'. binary_goes level own kind right (is_that_number (binary_right kind) right row) le le'; tight = omega arith }) e
 first_token (Forms.Assign kind) left row e = left_known (FirstToken (Forms.Assign kind)) (record { kind = kind; others = _; row = refl; by = assign_by kind row; goes_on = λ level own le le'. assign_goes level own kind row le le'; tight = omega arith }) e
 first_token Forms.Conditional left row e = left_known (FirstToken Forms.Conditional) (record { kind = Question; others = _; row = refl; by = record { level = 14; goes = refl; above = omega arith; far = inr (omega arith, omega arith); word = refl }; goes_on = λ level own le le'. goes_both own 13 14 level Forms.Conditional None le' le; tight = omega arith }) e
@@ -157,7 +157,7 @@ far_bound left level (inl le) = omega (arith, le)
 far_bound left level (inr far) = far.1
 
 -- The last part of an expression that goes on binds tighter than what goes on behind it.
-last_tighter : (form : Forms.Form) (left level : ℕ) → Forms.level_of_form form ≤ left → left ≤ level → (left ≤ 1) ⊎ ((4 ≤ level) × (left ≤ 13)) → Forms.is_row form ≡ true → LastTighter (last_level form) (Some level)
+last_tighter : (form : Forms.Production) (left level : ℕ) → Forms.level_of_form form ≤ left → left ≤ level → (left ≤ 1) ⊎ ((4 ≤ level) × (left ≤ 13)) → Forms.is_row form ≡ true → LastTighter (last_level form) (Some level)
 last_tighter Forms.Cast left level own above far row = far_level left level 3 far (omega (arith, own)) (omega arith)
 last_tighter Forms.SizeofRow left level own above far row = far_level left level 2 far (omega (arith, own)) (omega arith)
 last_tighter (Forms.Prefix kind operand) left level own above far row = far_level left level operand far (omega (arith, own)) (operand_small kind operand row)
@@ -177,7 +177,7 @@ three_of true questions right e h = omega arith
 three_of false true right e h = omega arith
 three_of false false right e h = no_three right e h
 
-three_by : (kind : Kind) (form : Option Forms.Form) → Tighter 2 (reach_by kind form) → Tighter 3 (reach_by kind form)
+three_by : (kind : Kind) (form : Option Forms.Production) → Tighter 2 (reach_by kind form) → Tighter 3 (reach_by kind form)
 three_by kind (Some form) h = absurd (omega (arith, h))
 three_by kind None h = three_of (is_assignment kind) (is kind Question) (binary_right kind) (and_left (at_least 3 (binary_right kind)) (at_most 12 (binary_right kind)) (large_right kind)) h
 
@@ -186,7 +186,7 @@ looser low high None le h = tt
 looser low high (Some n) le h = omega (arith, le, h)
 
 -- What stands behind an expression where it ends may stand behind its last part.
-pub last_ends : (form : Forms.Form) (level : ℕ) (kind : Kind) → Forms.level_of_form form ≤ level → Forms.is_row form ≡ true → Tighter level (reach kind) → LastTighter (last_level form) (reach kind)
+pub last_ends : (form : Forms.Production) (level : ℕ) (kind : Kind) → Forms.level_of_form form ≤ level → Forms.is_row form ≡ true → Tighter level (reach kind) → LastTighter (last_level form) (reach kind)
 last_ends Forms.Cast level kind own row h = looser 3 level (reach kind) own h
 last_ends Forms.SizeofRow level kind own row h = looser 2 level (reach kind) own h
 last_ends (Forms.Prefix sign operand) level kind own row h = looser operand 3 (reach kind) (operand_small sign operand row) (three_by kind (postfix_of kind) (looser 2 level (reach kind) own h))
@@ -206,7 +206,7 @@ module _ {Leaf : Type 0} (kind_of : Leaf → Kind) (sample : Kind → Leaf) wher
   no_else open_end kinds [] e h = h
   no_else open_end kinds (leaf ∷ text) e h = and_none (is Else (kind_of leaf)) open_end (not_member (is Else (kind_of leaf)) kinds (kind_of leaf) refl e h)
 
-  pub part_ends : (sort : Forms.Sort) (level : ℕ) (tree : Tree Leaf Forms.Form) (text : List Leaf) (others : Option (List Kind)) → part_fits sort others ≡ true → OneOf kind_of others text → Ends kind_of sort level tree text
+  pub part_ends : (sort : Forms.Sort) (level : ℕ) (tree : Tree Leaf Forms.Production) (text : List Leaf) (others : Option (List Kind)) → part_fits sort others ≡ true → OneOf kind_of others text → Ends kind_of sort level tree text
   part_ends Forms.Expr level tree text None e h = absurd (cc e)
   part_ends Forms.Expr level tree text (Some kinds) e h = shut_expr level kinds text e h
   part_ends Forms.Stmt level tree text None e h = absurd (cc e)
@@ -216,13 +216,13 @@ module _ {Leaf : Type 0} (kind_of : Leaf → Kind) (sample : Kind → Leaf) wher
   part_ends Forms.SizeofOperand level tree text others e h = absurd (cc e)
   part_ends sort level tree text others e h = one_within kind_of sample (follows sort) others text e h
 
-  rows : {symbols : List (Sym Kind Forms.Sort)} {trees : Tree Leaf Forms.Form} → Is (language kind_of sample) symbols trees → (text : List Leaf) (last : Option (List Kind)) → OneOf kind_of last text → row_fits symbols last ≡ true → Followed (language kind_of sample) (Ends kind_of) symbols trees text
+  rows : {symbols : List (Symbol Kind Forms.Sort)} {trees : Tree Leaf Forms.Production} → Is (language kind_of sample) symbols trees → (text : List Leaf) (last : Option (List Kind)) → OneOf kind_of last text → row_fits symbols last ≡ true → Followed (language kind_of sample) (Ends kind_of) symbols trees text
   rows nothing text last h e = tt
   rows (token leaf fits others) text last h e = rows others text last h e
   rows (part {sort = sort} {level = level} {symbols = symbols} {tree = tree} {others = others} is is_others free) text last h e =
       (part_ends sort level tree (leaves others ++ text) (behind symbols last) (and_left (part_fits sort (behind symbols last)) (row_fits symbols last) e) (first_of_row kind_of sample is_others text last h), rows is_others text last h (and_right (part_fits sort (behind symbols last)) (row_fits symbols last) e))
 
-  pub stands_one_of : (sort : Forms.Sort) (level : ℕ) (tree : Tree Leaf Forms.Form) (text : List Leaf) → Stands kind_of sort level tree text → OneOf kind_of (follows sort) text
+  pub stands_one_of : (sort : Forms.Sort) (level : ℕ) (tree : Tree Leaf Forms.Production) (text : List Leaf) → Stands kind_of sort level tree text → OneOf kind_of (follows sort) text
   stands_one_of Forms.Expr level tree text h = tt
   stands_one_of Forms.Stmt level tree text h = tt
   stands_one_of Forms.ElseOpt level tree text h = tt
@@ -231,11 +231,11 @@ module _ {Leaf : Type 0} (kind_of : Leaf → Kind) (sample : Kind → Leaf) wher
   stands_one_of sort level tree text h = h
 
   -- the last part of an expression
-  last_expr : (form : Forms.Form) (parts : Tree Leaf Forms.Form) (level : ℕ) (text : List Leaf) → last_level form ≡ Some level → StandsExpr kind_of (Node form parts) text → EndsExpr kind_of level text
+  last_expr : (form : Forms.Production) (parts : Tree Leaf Forms.Production) (level : ℕ) (text : List Leaf) → last_level form ≡ Some level → StandsExpr kind_of (Node form parts) text → EndsExpr kind_of level text
   last_expr form parts level [] e h = h
   last_expr form parts level (leaf ∷ text) e h = (h.0, subst (λ x. LastTighter x (reach (kind_of leaf))) e h.1)
 
-  no_literal : (tree : Tree Leaf Forms.Form) (text : List Leaf) → StandsExpr kind_of tree text → NotLiteral kind_of text
+  no_literal : (tree : Tree Leaf Forms.Production) (text : List Leaf) → StandsExpr kind_of tree text → NotLiteral kind_of text
   no_literal tree [] h = h
   no_literal tree (leaf ∷ text) h = h.0
 
@@ -248,32 +248,32 @@ module _ {Leaf : Type 0} (kind_of : Leaf → Kind) (sample : Kind → Leaf) wher
   and_or true true other e = absurd (cc e)
   and_or true false other e = e
 
-  shut_inside : (form : Forms.Form) (parts : Tree Leaf Forms.Form) (text : List Leaf) → NoElseBehind kind_of (ends_open (Node form parts)) text → NoElseBehind kind_of (ends_open parts) text
+  shut_inside : (form : Forms.Production) (parts : Tree Leaf Forms.Production) (text : List Leaf) → NoElseBehind kind_of (ends_open (Node form parts)) text → NoElseBehind kind_of (ends_open parts) text
   shut_inside form parts [] h = h
   shut_inside form parts (leaf ∷ text) h = and_or (is Else (kind_of leaf)) (is_no_else form) (ends_open parts) h
 
-  last_stmt : {sort : Forms.Sort} {level : ℕ} {tree : Tree Leaf Forms.Form} → IsPart (language kind_of sample) sort level tree → (text : List Leaf) → NoElseBehind kind_of (ends_open tree) text → NoElseBehind kind_of (is_open tree) text
+  last_stmt : {sort : Forms.Sort} {level : ℕ} {tree : Tree Leaf Forms.Production} → IsPart (language kind_of sample) sort level tree → (text : List Leaf) → NoElseBehind kind_of (ends_open tree) text → NoElseBehind kind_of (is_open tree) text
   last_stmt (first {parts = parts} form own_sort own_row own_left own_level is) text h = shut_inside form parts text h
   last_stmt (after {left = left} {parts = parts} form left_level own_sort own_row own_left own_level left_is is) text h = shut_inside form (Then left parts) text h
 
   -- An `else` part is empty or begins with a token.
-  pub data ElsePart : Tree Leaf Forms.Form → Type 0 where
+  pub data ElsePart : Tree Leaf Forms.Production → Type 0 where
     no_else_part : ElsePart (Node Forms.NoElse Nothing)
-    an_else_part : (leaf : Leaf) (trees : Tree Leaf Forms.Form) → ElsePart (Node Forms.ElseRow (Then (Alone leaf) trees))
+    an_else_part : (leaf : Leaf) (trees : Tree Leaf Forms.Production) → ElsePart (Node Forms.ElseRow (Then (Alone leaf) trees))
 
-  else_form : (form : Forms.Form) (parts : Tree Leaf Forms.Form) → Forms.sort_of form ≡ Forms.ElseOpt → Is (language kind_of sample) (Forms.symbols_of form) parts → ElsePart (Node form parts)
+  else_form : (form : Forms.Production) (parts : Tree Leaf Forms.Production) → Forms.sort_of form ≡ Forms.ElseOpt → Is (language kind_of sample) (Forms.symbols_of form) parts → ElsePart (Node form parts)
   else_form Forms.NoElse parts e nothing = no_else_part
   else_form Forms.ElseRow parts e (token {others = others} leaf fits trees) = an_else_part leaf others
   else_form _ parts e trees = absurd (cc e)
 
-  else_part : {sort : Forms.Sort} {level : ℕ} {tree : Tree Leaf Forms.Form} → IsPart (language kind_of sample) sort level tree → sort ≡ Forms.ElseOpt → ElsePart tree
+  else_part : {sort : Forms.Sort} {level : ℕ} {tree : Tree Leaf Forms.Production} → IsPart (language kind_of sample) sort level tree → sort ≡ Forms.ElseOpt → ElsePart tree
   else_part (first {parts = parts} form own_sort own_row own_left own_level trees) e = else_form form parts (own_sort ∙ e) trees
   else_part (after form left_level own_sort own_row own_left own_level left_is trees) e =
       let clash : Forms.Expr ≡ Forms.ElseOpt = sym (left_expr form left_level own_left) ∙ own_sort ∙ e in
       absurd (cc clash)
 
   -- the statement before it
-  before_else : (stmt tree : Tree Leaf Forms.Form) (text : List Leaf) → ElsePart tree → barred (language kind_of sample) stmt (leaves tree ++ []) ≡ false → NoElseBehind kind_of (ends_open tree) text → NoElseBehind kind_of (is_open stmt) ((leaves tree ++ []) ++ text)
+  before_else : (stmt tree : Tree Leaf Forms.Production) (text : List Leaf) → ElsePart tree → barred (language kind_of sample) stmt (leaves tree ++ []) ≡ false → NoElseBehind kind_of (ends_open tree) text → NoElseBehind kind_of (is_open stmt) ((leaves tree ++ []) ++ text)
   before_else stmt tree [] no_else_part free h = h
   before_else stmt tree (leaf ∷ text) no_else_part free h = and_none (is Else (kind_of leaf)) (is_open stmt) (and_true (is Else (kind_of leaf)) h)
   before_else stmt tree text (an_else_part leaf trees) free h = free
@@ -284,7 +284,7 @@ module _ {Leaf : Type 0} (kind_of : Leaf → Kind) (sample : Kind → Leaf) wher
   at_close : (leaf : Leaf) (text : List Leaf) → is CloseParenthesis (kind_of leaf) ≡ true → OneOf kind_of (follows Forms.ExprOpt) (leaf ∷ text)
   at_close leaf text e = or_right (is Semicolon (kind_of leaf)) (is CloseParenthesis (kind_of leaf) || false) (or_left (is CloseParenthesis (kind_of leaf)) false e)
 
-  pub row_follows : (form : Forms.Form) (level : ℕ) (parts : Tree Leaf Forms.Form) (text : List Leaf) → Forms.is_row form ≡ true → Forms.left_of form ≡ None → Is (language kind_of sample) (Forms.symbols_of form) parts → Stands kind_of (Forms.sort_of form) level (Node form parts) text → Followed (language kind_of sample) (Ends kind_of) (Forms.symbols_of form) parts text
+  pub row_follows : (form : Forms.Production) (level : ℕ) (parts : Tree Leaf Forms.Production) (text : List Leaf) → Forms.is_row form ≡ true → Forms.left_of form ≡ None → Is (language kind_of sample) (Forms.symbols_of form) parts → Stands kind_of (Forms.sort_of form) level (Node form parts) text → Followed (language kind_of sample) (Ends kind_of) (Forms.symbols_of form) parts text
   row_follows (Forms.BaseWord own words kind next) level parts text row none (token leaf fits (part {tree = tree} tree_is nothing free)) h = (h, tt)
   row_follows (Forms.BaseStruct true) level parts text row none trees h = rows trees text (follows (Forms.Base true NoWord)) (stands_one_of (Forms.Base true NoWord) level (Node (Forms.BaseStruct true) parts) text h) refl
   row_follows (Forms.BaseStruct false) level parts text row none trees h = rows trees text (follows (Forms.Base false NoWord)) (stands_one_of (Forms.Base false NoWord) level (Node (Forms.BaseStruct false) parts) text h) refl
@@ -314,21 +314,21 @@ module _ {Leaf : Type 0} (kind_of : Leaf → Kind) (sample : Kind → Leaf) wher
   row_follows form level parts text row none trees h = rows trees text (follows (Forms.sort_of form)) (stands_one_of (Forms.sort_of form) level (Node form parts) text h) refl
 
   -- what goes on behind a tree
-  left_part : {sort : Forms.Sort} {left : ℕ} {tree : Tree Leaf Forms.Form} → IsPart (language kind_of sample) sort left tree → (level : ℕ) → left ≤ level → (left ≤ 1) ⊎ ((4 ≤ level) × (left ≤ 13)) → LastTighter (last_of tree) (Some level)
+  left_part : {sort : Forms.Sort} {left : ℕ} {tree : Tree Leaf Forms.Production} → IsPart (language kind_of sample) sort left tree → (level : ℕ) → left ≤ level → (left ≤ 1) ⊎ ((4 ≤ level) × (left ≤ 13)) → LastTighter (last_of tree) (Some level)
   left_part {left = left} (first form own_sort own_row own_left own_level trees) level above far = last_tighter form left level own_level above far own_row
   left_part {left = left} (after form left_level own_sort own_row own_left own_level left_is trees) level above far = last_tighter form left level own_level above far own_row
 
-  left_stands : {left : ℕ} {tree parts : Tree Leaf Forms.Form} {kind : Kind} {others : List (Sym Kind Forms.Sort)} → IsPart (language kind_of sample) Forms.Expr left tree → LeftBy kind left → Is (language kind_of sample) (Token kind ∷ others) parts → (text : List Leaf) → StandsExpr kind_of tree (leaves parts ++ text)
+  left_stands : {left : ℕ} {tree parts : Tree Leaf Forms.Production} {kind : Kind} {others : List (Symbol Kind Forms.Sort)} → IsPart (language kind_of sample) Forms.Expr left tree → LeftBy kind left → Is (language kind_of sample) (Terminal kind ∷ others) parts → (text : List Leaf) → StandsExpr kind_of tree (leaves parts ++ text)
   left_stands {left = left} {tree = tree} {kind = kind} left_is by (token leaf fits trees) text =
       let same : kind ≡ kind_of leaf = is_same kind (kind_of leaf) fits in
       let tighter = left_part left_is by.level by.above by.far in
       let level : Some by.level ≡ reach (kind_of leaf) = sym by.goes ∙ ap reach same in
       (sym (ap (is Literal) same) ∙ by.word, subst (λ x. LastTighter (last_of tree) x) level tighter)
 
-  right_follows : (kind : Kind) (level : ℕ) (form : Forms.Form) (left parts : Tree Leaf Forms.Form) (text : List Leaf) → last_level form ≡ Some level → Is (language kind_of sample) (Token kind ∷ Part Forms.Expr level ∷ []) parts → StandsExpr kind_of (Node form (Then left parts)) text → Followed (language kind_of sample) (Ends kind_of) (Token kind ∷ Part Forms.Expr level ∷ []) parts text
+  right_follows : (kind : Kind) (level : ℕ) (form : Forms.Production) (left parts : Tree Leaf Forms.Production) (text : List Leaf) → last_level form ≡ Some level → Is (language kind_of sample) (Terminal kind ∷ Nonterminal Forms.Expr level ∷ []) parts → StandsExpr kind_of (Node form (Then left parts)) text → Followed (language kind_of sample) (Ends kind_of) (Terminal kind ∷ Nonterminal Forms.Expr level ∷ []) parts text
   right_follows kind level form left parts text last (token leaf fits (part {tree = tree} tree_is nothing free)) h = (last_expr form (Then left (Then (Alone leaf) (Then tree Nothing))) level text last h, tt)
 
-  pub next_follows : (form : Forms.Form) (left_level : ℕ) (left parts : Tree Leaf Forms.Form) (text : List Leaf) → Forms.left_of form ≡ Some left_level → Is (language kind_of sample) (Forms.symbols_of form) parts → StandsExpr kind_of (Node form (Then left parts)) text → Followed (language kind_of sample) (Ends kind_of) (Forms.symbols_of form) parts text
+  pub next_follows : (form : Forms.Production) (left_level : ℕ) (left parts : Tree Leaf Forms.Production) (text : List Leaf) → Forms.left_of form ≡ Some left_level → Is (language kind_of sample) (Forms.symbols_of form) parts → StandsExpr kind_of (Node form (Then left parts)) text → Followed (language kind_of sample) (Ends kind_of) (Forms.symbols_of form) parts text
   next_follows (Forms.Binary kind right) left_level left parts text e trees h = right_follows kind right (Forms.Binary kind right) left parts text refl trees h
   next_follows (Forms.Assign kind) left_level left parts text e trees h = right_follows kind 15 (Forms.Assign kind) left parts text refl trees h
   next_follows Forms.Conditional left_level left parts text e (token leaf fits (part {tree = one} one_is (token middle stops (part {tree = other} other_is nothing free')) free)) h =
@@ -341,7 +341,7 @@ module _ {Leaf : Type 0} (kind_of : Leaf → Kind) (sample : Kind → Leaf) wher
   next_follows Forms.PostDecrement left_level left parts text e trees h = rows trees text None tt refl
   next_follows _ left_level left parts text e trees h = absurd (cc e)
 
-  pub left_follows : (sort : Forms.Sort) (level : ℕ) (form : Forms.Form) (left_level : ℕ) (left parts : Tree Leaf Forms.Form) (text : List Leaf) → Forms.sort_of form ≡ sort → Forms.is_row form ≡ true → Forms.left_of form ≡ Some left_level → IsPart (language kind_of sample) sort left_level left → Is (language kind_of sample) (Forms.symbols_of form) parts → Stands kind_of sort level (Node form (Then left parts)) text → Followed (language kind_of sample) (Ends kind_of) (Forms.symbols_of form) parts text × Stands kind_of sort level left (leaves parts ++ text)
+  pub left_follows : (sort : Forms.Sort) (level : ℕ) (form : Forms.Production) (left_level : ℕ) (left parts : Tree Leaf Forms.Production) (text : List Leaf) → Forms.sort_of form ≡ sort → Forms.is_row form ≡ true → Forms.left_of form ≡ Some left_level → IsPart (language kind_of sample) sort left_level left → Is (language kind_of sample) (Forms.symbols_of form) parts → Stands kind_of sort level (Node form (Then left parts)) text → Followed (language kind_of sample) (Ends kind_of) (Forms.symbols_of form) parts text × Stands kind_of sort level left (leaves parts ++ text)
   left_follows sort level form left_level left parts text own_sort own_row own_left left_is trees h =
       let expr : sort ≡ Forms.Expr = sym own_sort ∙ left_expr form left_level own_left in
       let h' = subst (λ s. Stands kind_of s level (Node form (Then left parts)) text) expr h in

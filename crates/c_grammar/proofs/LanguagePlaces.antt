@@ -27,5 +27,5 @@ module _ {Leaf : Type 0} (kind_of : Leaf → Kind) (sample : Kind → Leaf) (rea
   too_deep limit text behind run = Places.too_deep (language kind_of sample) (Ends kind_of) (Stands kind_of) (tells kind_of sample) (bounds kind_of sample) (completes kind_of sample real) (reads kind_of sample) Forms.Program 0 (at_text_end kind_of sample 0) limit text behind (omega arith) run
 
   -- A program has one tree, which is what was read.
-  pub only : (limit : ℕ) (text : List Leaf) (outcome : Outcome Leaf Forms.Form) → Run (language kind_of sample) (Whole Forms.Program 0) limit text outcome → (larger : ℕ) (accepted : Accepted (language kind_of sample) Forms.Program 0 larger text) → Agrees (language kind_of sample) limit accepted.tree [] outcome
+  pub only : (limit : ℕ) (text : List Leaf) (outcome : Outcome Leaf Forms.Production) → Run (language kind_of sample) (Whole Forms.Program 0) limit text outcome → (larger : ℕ) (accepted : Accepted (language kind_of sample) Forms.Program 0 larger text) → Agrees (language kind_of sample) limit accepted.tree [] outcome
   only = Places.only (language kind_of sample) (Ends kind_of) (Stands kind_of) (tells kind_of sample) (bounds kind_of sample) (completes kind_of sample real) (reads kind_of sample) Forms.Program 0 (at_text_end kind_of sample 0)

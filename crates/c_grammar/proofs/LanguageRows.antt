@@ -89,18 +89,18 @@ pub is_that_number : (found : Option ℕ) (n : ℕ) → Forms.is_this_number fou
 is_that_number None n e = cc e
 is_that_number (Some n') n e = ap Some (eqb-true n' n e)
 
-pub data AllRows (P : Forms.Form → ℕ → ℕ → Type 0) : Choice Forms.Form → Type 0 where
+pub data AllRows (P : Forms.Production → ℕ → ℕ → Type 0) : Choice Forms.Production → Type 0 where
   never : AllRows P Never
-  taken : {form : Forms.Form} {first second : ℕ} → P form first second → AllRows P (Take form first second)
+  taken : {form : Forms.Production} {first second : ℕ} → P form first second → AllRows P (Take form first second)
   stuck : (first : ℕ) → AllRows P (Stuck first)
 
 -- the operand of `sizeof` behind a parenthesis that opens no type
-pub record OperandAt (kind : Kind) (form : Forms.Form) (second : ℕ) : Type 0 where
+pub record OperandAt (kind : Kind) (form : Forms.Production) (second : ℕ) : Type 0 where
   pub own_form : form ≡ Forms.SizeofExpr
   pub two : second ≡ 2
   pub opens : is kind OpenParenthesis ≡ true
 
-pub record Good (sort : Forms.Sort) (level : ℕ) (kind : Kind) (form : Forms.Form) (first second : ℕ) : Type 0 where
+pub record Good (sort : Forms.Sort) (level : ℕ) (kind : Kind) (form : Forms.Production) (first second : ℕ) : Type 0 where
   pub own_sort : Forms.sort_of form ≡ sort
   pub own_row : Forms.is_row form ≡ true
   pub own_left : Forms.left_of form ≡ None
@@ -109,25 +109,25 @@ pub record Good (sort : Forms.Sort) (level : ℕ) (kind : Kind) (form : Forms.Fo
   pub enough : Forms.row_need form ≤ second
   pub least : (second ≤ Forms.row_need form) ⊎ OperandAt kind form second
 
-plain : {sort : Forms.Sort} {level : ℕ} {kind : Kind} {form : Forms.Form} → Forms.sort_of form ≡ sort → Forms.is_row form ≡ true → Forms.left_of form ≡ None → Forms.level_of_form form ≡ 0 → Good sort level kind form (Forms.row_need form) (Forms.row_need form)
+plain : {sort : Forms.Sort} {level : ℕ} {kind : Kind} {form : Forms.Production} → Forms.sort_of form ≡ sort → Forms.is_row form ≡ true → Forms.left_of form ≡ None → Forms.level_of_form form ≡ 0 → Good sort level kind form (Forms.row_need form) (Forms.row_need form)
 plain own_sort own_row own_left zero = record { own_sort = own_sort; own_row = own_row; own_left = own_left; own_level = omega (arith, zero); ordered = omega arith; enough = omega arith; least = inl (omega arith) }
 
-at : {sort : Forms.Sort} {level : ℕ} {kind : Kind} {form : Forms.Form} → Forms.sort_of form ≡ sort → Forms.is_row form ≡ true → Forms.left_of form ≡ None → Forms.level_of_form form ≤ level → Good sort level kind form (Forms.row_need form) (Forms.row_need form)
+at : {sort : Forms.Sort} {level : ℕ} {kind : Kind} {form : Forms.Production} → Forms.sort_of form ≡ sort → Forms.is_row form ≡ true → Forms.left_of form ≡ None → Forms.level_of_form form ≤ level → Good sort level kind form (Forms.row_need form) (Forms.row_need form)
 at own_sort own_row own_left le = record { own_sort = own_sort; own_row = own_row; own_left = own_left; own_level = le; ordered = omega arith; enough = omega arith; least = inl (omega arith) }
 
-pub either : {P : Forms.Form → ℕ → ℕ → Type 0} (test : Bool) (form : Forms.Form) {otherwise : Choice Forms.Form} → P form (Forms.row_need form) (Forms.row_need form) → AllRows P otherwise → AllRows P (take_if test form otherwise)
+pub either : {P : Forms.Production → ℕ → ℕ → Type 0} (test : Bool) (form : Forms.Production) {otherwise : Choice Forms.Production} → P form (Forms.row_need form) (Forms.row_need form) → AllRows P otherwise → AllRows P (take_if test form otherwise)
 either true form h others = taken h
 either false form h others = others
 
-pub tested : {P : Forms.Form → ℕ → ℕ → Type 0} (test : Bool) (form : Forms.Form) {otherwise : Choice Forms.Form} → (test ≡ true → P form (Forms.row_need form) (Forms.row_need form)) → AllRows P otherwise → AllRows P (take_if test form otherwise)
+pub tested : {P : Forms.Production → ℕ → ℕ → Type 0} (test : Bool) (form : Forms.Production) {otherwise : Choice Forms.Production} → (test ≡ true → P form (Forms.row_need form) (Forms.row_need form)) → AllRows P otherwise → AllRows P (take_if test form otherwise)
 tested true form h others = taken (h refl)
 tested false form h others = others
 
-pub branch : {P : Forms.Form → ℕ → ℕ → Type 0} (test : Bool) {one other : Choice Forms.Form} → AllRows P one → AllRows P other → AllRows P (if test then one else other)
+pub branch : {P : Forms.Production → ℕ → ℕ → Type 0} (test : Bool) {one other : Choice Forms.Production} → AllRows P one → AllRows P other → AllRows P (if test then one else other)
 branch true h h' = h
 branch false h h' = h'
 
-pub branch_tested : {P : Forms.Form → ℕ → ℕ → Type 0} (test : Bool) {one other : Choice Forms.Form} → (test ≡ true → AllRows P one) → AllRows P other → AllRows P (if test then one else other)
+pub branch_tested : {P : Forms.Production → ℕ → ℕ → Type 0} (test : Bool) {one other : Choice Forms.Production} → (test ≡ true → AllRows P one) → AllRows P other → AllRows P (if test then one else other)
 branch_tested true h h' = h refl
 branch_tested false h h' = h'
 
@@ -227,7 +227,7 @@ good_by Forms.Expr level kind next = good_expr level kind next
 good_by Forms.SizeofOperand level kind next = branch_tested (is kind OpenParenthesis) (good_operand level kind next) (either (begins_expr kind) Forms.SizeofExpr (plain refl refl refl refl) never)
 
 -- what a row that is chosen has
-pub good_row : {P : Forms.Form → ℕ → ℕ → Type 0} {choice : Choice Forms.Form} → AllRows P choice → (form : Forms.Form) (first second : ℕ) → choice ≡ Take form first second → P form first second
+pub good_row : {P : Forms.Production → ℕ → ℕ → Type 0} {choice : Choice Forms.Production} → AllRows P choice → (form : Forms.Production) (first second : ℕ) → choice ≡ Take form first second → P form first second
 good_row never form first second e = absurd (cc e)
 good_row (stuck n) form first second e = absurd (cc e)
 good_row {P = P} (taken {form = form'} {first = first'} {second = second'} h) form first second e =

@@ -1,7 +1,7 @@
 -- Two words tell the row.
 use Rattle.std.proofs.Common.{◌≡◌, ℕ, zero, suc, ◌+◌, ◌≤◌, ◌⊎◌, inl, inr, Bool, true, false, ◌&&◌, ◌||◌, if◌then◌else◌, List, [], ◌∷◌, Option, Some, None, nat_le, length, sym, refl, ◌∙◌, ap, subst, arith, eq-eqb}
 use Rattle.std.proofs.lemmas.Bool.{eqb-true}
-use Rattle.grammar_table.specs.Table.{Sym, Token, Part, Choice, Never, Take, Stuck, Table}
+use Rattle.grammar_table.specs.Table.{Symbol, Terminal, Nonterminal, Choice, Never, Take, Stuck, Table}
 use Rattle.grammar_table.specs.Runs.{Parts, Whole, Outcome, Done, Failed, Run, no_memory, at_end, unfit, token_done, token_failed, part_done, part_failed, then_failed, never, stuck, stuck_deep, first_deep, second_deep, row_failed, row_done}
 use Rattle.grammar_table.specs.Laws.{lowest, Within, Tells}
 use Rattle.c_grammar.specs.declared.kind.Kind.{Kind}
@@ -37,14 +37,14 @@ pub is_self : (a : Kind) → is a a ≡ true
 is_self a = eq-eqb (number a) (number a) refl
 
 -- the row begins with a token that this kind is
-pub record StartsWith (kind : Kind) (form : Forms.Form) (first second : ℕ) : Type 0 where
+pub record StartsWith (kind : Kind) (form : Forms.Production) (first second : ℕ) : Type 0 where
   pub own : Kind
-  pub others : List (Sym Kind Forms.Sort)
-  pub row : Forms.symbols_of form ≡ Token own ∷ others
+  pub others : List (Symbol Kind Forms.Sort)
+  pub row : Forms.symbols_of form ≡ Terminal own ∷ others
   pub told : is own kind ≡ true
 
 prefix_starts : (level : ℕ) (kind : Kind) (operand : Option ℕ) → AllRows (StartsWith kind) (by_prefix level kind operand Never)
-prefix_starts level kind (Some operand) = tested (nat_le 2 level) (Forms.Prefix kind operand) (λ e. record { own = kind; others = Part Forms.Expr operand ∷ []; row = refl; told = is_self kind }) no_row
+prefix_starts level kind (Some operand) = tested (nat_le 2 level) (Forms.Prefix kind operand) (λ e. record { own = kind; others = Nonterminal Forms.Expr operand ∷ []; row = refl; told = is_self kind }) no_row
 prefix_starts level kind None = no_row
 
 pub expr_starts : (level : ℕ) (kind next : Kind) → AllRows (StartsWith kind) (choose_expr level kind next)
@@ -68,7 +68,7 @@ direct_starts named level kind next =
     (tested (named && is kind Name) (Forms.ParamName named) (λ e. record { own = Name; others = _; row = refl; told = is_swap kind Name (and_right named (is kind Name) e) }) no_row))
 
 -- the operand of `sizeof` behind a parenthesis
-pub data OperandRow (form : Forms.Form) (first second : ℕ) : Type 0 where
+pub data OperandRow (form : Forms.Production) (first second : ℕ) : Type 0 where
   of_type : form ≡ Forms.SizeofType → OperandRow form first second
   of_expr : form ≡ Forms.SizeofExpr → second ≡ 2 → OperandRow form first second
 
@@ -76,22 +76,22 @@ pub operand_rows : (next : Kind) → AllRows OperandRow (choose_operand next)
 operand_rows next = branch (is_type_word next) (taken (of_type refl)) (branch (begins_expr next) (taken (of_expr refl refl)) (stuck_row 0))
 
 -- The least height for the first word doesn't hang on the second.
-lowest_if : (test : Bool) (form : Forms.Form) (one other : Choice Forms.Form) → lowest one ≡ lowest other → lowest (take_if test form one) ≡ lowest (take_if test form other)
+lowest_if : (test : Bool) (form : Forms.Production) (one other : Choice Forms.Production) → lowest one ≡ lowest other → lowest (take_if test form one) ≡ lowest (take_if test form other)
 lowest_if true form one other e = refl
 lowest_if false form one other e = e
 
-lowest_cast : (opens cast cast' : Bool) (rest : Choice Forms.Form) → lowest (take_if (opens && cast) Forms.Cast (take_if opens Forms.Parenthesized rest)) ≡ lowest (take_if (opens && cast') Forms.Cast (take_if opens Forms.Parenthesized rest))
+lowest_cast : (opens cast cast' : Bool) (rest : Choice Forms.Production) → lowest (take_if (opens && cast) Forms.Cast (take_if opens Forms.Parenthesized rest)) ≡ lowest (take_if (opens && cast') Forms.Cast (take_if opens Forms.Parenthesized rest))
 lowest_cast false cast cast' rest = refl
 lowest_cast true true true rest = refl
 lowest_cast true true false rest = refl
 lowest_cast true false true rest = refl
 lowest_cast true false false rest = refl
 
-lowest_zero : (test : Bool) (one other : Choice Forms.Form) → lowest one ≡ Some 0 → lowest other ≡ Some 0 → lowest (if test then one else other) ≡ Some 0
+lowest_zero : (test : Bool) (one other : Choice Forms.Production) → lowest one ≡ Some 0 → lowest other ≡ Some 0 → lowest (if test then one else other) ≡ Some 0
 lowest_zero true one other e e' = e
 lowest_zero false one other e e' = e'
 
-lowest_branch : (test : Bool) (one one' other : Choice Forms.Form) → lowest one ≡ lowest one' → lowest (if test then one else other) ≡ lowest (if test then one' else other)
+lowest_branch : (test : Bool) (one one' other : Choice Forms.Production) → lowest one ≡ lowest one' → lowest (if test then one else other) ≡ lowest (if test then one' else other)
 lowest_branch true one one' other e = e
 lowest_branch false one one' other e = refl
 
@@ -108,7 +108,7 @@ lowest_by Forms.SizeofOperand level kind a b = lowest_branch (is kind OpenParent
 lowest_by _ level kind a b = refl
 
 -- A row that begins with a token that fits passes it.
-pub passes : {Leaf Kind Sort Form : Type 0} (T : Table Leaf Kind Sort Form) {kind : Kind} {symbols : List (Sym Kind Sort)} {below : ℕ} {leaf : Leaf} {text : List Leaf} {outcome : Outcome Leaf Form} → Run T (Parts (Token kind ∷ symbols)) below (leaf ∷ text) outcome → T.fits kind leaf ≡ true → Within (length text) outcome
+pub passes : {Leaf Kind Sort Production : Type 0} (T : Table Leaf Kind Sort Production) {kind : Kind} {symbols : List (Symbol Kind Sort)} {below : ℕ} {leaf : Leaf} {text : List Leaf} {outcome : Outcome Leaf Production} → Run T (Parts (Terminal kind ∷ symbols)) below (leaf ∷ text) outcome → T.fits kind leaf ≡ true → Within (length text) outcome
 passes T (no_memory behind) told = tt
 passes T (unfit none) told =
     let clash : true ≡ false = sym told ∙ none in
@@ -126,7 +126,7 @@ module _ {Leaf : Type 0} (kind_of : Leaf → Kind) (sample : Kind → Leaf) wher
   choose_cons sort level leaf [] = refl
   choose_cons sort level leaf (next ∷ text) = refl
 
-  starts_pass : (kind : Kind) (form : Forms.Form) (first second : ℕ) → StartsWith kind form first second → (below : ℕ) (leaf : Leaf) (text : List Leaf) (outcome : Outcome Leaf Forms.Form) → kind ≡ kind_of leaf → Run (language kind_of sample) (Parts (Forms.symbols_of form)) below (leaf ∷ text) outcome → Within (length text) outcome
+  starts_pass : (kind : Kind) (form : Forms.Production) (first second : ℕ) → StartsWith kind form first second → (below : ℕ) (leaf : Leaf) (text : List Leaf) (outcome : Outcome Leaf Forms.Production) → kind ≡ kind_of leaf → Run (language kind_of sample) (Parts (Forms.symbols_of form)) below (leaf ∷ text) outcome → Within (length text) outcome
   starts_pass kind form first second starts below leaf text outcome e run =
       passes (language kind_of sample) (subst (λ s. Run (language kind_of sample) (Parts s) below (leaf ∷ text) outcome) starts.row run) (ap (is starts.own) (sym e) ∙ starts.told)
 
@@ -134,7 +134,7 @@ module _ {Leaf : Type 0} (kind_of : Leaf → Kind) (sample : Kind → Leaf) wher
   pub parenthesized : (leaf : Leaf) (text : List Leaf) → is (kind_of leaf) OpenParenthesis ≡ true → choose_at kind_of sample Forms.Expr 2 (leaf ∷ text) ≡ Take Forms.Parenthesized 2 2
   parenthesized leaf text e = choose_cons Forms.Expr 2 leaf text ∙ ap (λ k. choose_expr 2 k (second_of text)) (is_same (kind_of leaf) OpenParenthesis e)
 
-  paren_passes : {room : ℕ} {leaf : Leaf} {text : List Leaf} {outcome : Outcome Leaf Forms.Form} → Run (language kind_of sample) (Whole Forms.Expr 2) room (leaf ∷ text) outcome → choose_at kind_of sample Forms.Expr 2 (leaf ∷ text) ≡ Take Forms.Parenthesized 2 2 → is OpenParenthesis (kind_of leaf) ≡ true → 2 ≤ room → Within (length text) outcome
+  paren_passes : {room : ℕ} {leaf : Leaf} {text : List Leaf} {outcome : Outcome Leaf Forms.Production} → Run (language kind_of sample) (Whole Forms.Expr 2) room (leaf ∷ text) outcome → choose_at kind_of sample Forms.Expr 2 (leaf ∷ text) ≡ Take Forms.Parenthesized 2 2 → is OpenParenthesis (kind_of leaf) ≡ true → 2 ≤ room → Within (length text) outcome
   paren_passes (no_memory behind) at told fit = tt
   paren_passes (never chosen) at told fit =
       let clash : Never ≡ Take Forms.Parenthesized 2 2 = sym chosen ∙ at in
@@ -158,25 +158,25 @@ module _ {Leaf : Type 0} (kind_of : Leaf → Kind) (sample : Kind → Leaf) wher
       let passed = passes (language kind_of sample) (subst (λ f. Run (language kind_of sample) (Parts (Forms.symbols_of f)) below (leaf ∷ text) (Done parts middle)) same_form run) told in
       within_more outcome (length middle) (length text) passed (shrinks (language kind_of sample) more)
 
-  operand_passes : {below : ℕ} {leaf : Leaf} {text : List Leaf} {outcome : Outcome Leaf Forms.Form} → Run (language kind_of sample) (Parts (Forms.symbols_of Forms.SizeofExpr)) below (leaf ∷ text) outcome → is (kind_of leaf) OpenParenthesis ≡ true → 2 ≤ below → Within (length text) outcome
+  operand_passes : {below : ℕ} {leaf : Leaf} {text : List Leaf} {outcome : Outcome Leaf Forms.Production} → Run (language kind_of sample) (Parts (Forms.symbols_of Forms.SizeofExpr)) below (leaf ∷ text) outcome → is (kind_of leaf) OpenParenthesis ≡ true → 2 ≤ below → Within (length text) outcome
   operand_passes (no_memory behind) opens fit = tt
   operand_passes {leaf = leaf} {text = text} (part_done run at_end) opens fit = paren_passes run (parenthesized leaf text opens) (is_swap (kind_of leaf) OpenParenthesis opens) fit
   operand_passes {leaf = leaf} {text = text} (part_failed run) opens fit = paren_passes run (parenthesized leaf text opens) (is_swap (kind_of leaf) OpenParenthesis opens) fit
   operand_passes {leaf = leaf} {text = text} (then_failed run (no_memory behind)) opens fit = tt
 
-  same_form : (sort : Forms.Sort) (level : ℕ) (leaf : Leaf) (text text' : List Leaf) (form form' : Forms.Form) (first second first' second' : ℕ) → ((kind a b : Kind) → choose_by sort level kind a ≡ choose_by sort level kind b) → choose_at kind_of sample sort level (leaf ∷ text) ≡ Take form first second → choose_at kind_of sample sort level (leaf ∷ text') ≡ Take form' first' second' → form ≡ form'
+  same_form : (sort : Forms.Sort) (level : ℕ) (leaf : Leaf) (text text' : List Leaf) (form form' : Forms.Production) (first second first' second' : ℕ) → ((kind a b : Kind) → choose_by sort level kind a ≡ choose_by sort level kind b) → choose_at kind_of sample sort level (leaf ∷ text) ≡ Take form first second → choose_at kind_of sample sort level (leaf ∷ text') ≡ Take form' first' second' → form ≡ form'
   same_form sort level leaf text text' form form' first second first' second' alike chosen chosen' =
       let rows : Take form first second ≡ Take form' first' second' = sym chosen ∙ choose_cons sort level leaf text ∙ alike (kind_of leaf) (second_of text) (second_of text') ∙ sym (choose_cons sort level leaf text') ∙ chosen' in
       cc rows
 
-  abbrev Passes : Forms.Form → ℕ → Leaf → List Leaf → Type 0
-  Passes form second leaf text = (room below : ℕ) (outcome : Outcome Leaf Forms.Form) → second ≤ room → below + Forms.weight_of form ≡ room → Run (language kind_of sample) (Parts (Forms.symbols_of form)) below (leaf ∷ text) outcome → Within (length text) outcome
+  abbrev Passes : Forms.Production → ℕ → Leaf → List Leaf → Type 0
+  Passes form second leaf text = (room below : ℕ) (outcome : Outcome Leaf Forms.Production) → second ≤ room → below + Forms.weight_of form ≡ room → Run (language kind_of sample) (Parts (Forms.symbols_of form)) below (leaf ∷ text) outcome → Within (length text) outcome
 
-  started : (level : ℕ) (sort : Forms.Sort) (leaf : Leaf) (text : List Leaf) (form : Forms.Form) (first second : ℕ) → AllRows (StartsWith (kind_of leaf)) (choose_by sort level (kind_of leaf) (second_of text)) → choose_at kind_of sample sort level (leaf ∷ text) ≡ Take form first second → Passes form second leaf text
+  started : (level : ℕ) (sort : Forms.Sort) (leaf : Leaf) (text : List Leaf) (form : Forms.Production) (first second : ℕ) → AllRows (StartsWith (kind_of leaf)) (choose_by sort level (kind_of leaf) (second_of text)) → choose_at kind_of sample sort level (leaf ∷ text) ≡ Take form first second → Passes form second leaf text
   started level sort leaf text form first second rows chosen = λ room below outcome fit down run.
       starts_pass (kind_of leaf) form first second (good_row rows form first second (sym (choose_cons sort level leaf text) ∙ chosen)) below leaf text outcome refl run
 
-  operand : (test : Bool) (level : ℕ) (leaf : Leaf) (text text' : List Leaf) (form form' : Forms.Form) (first second first' second' : ℕ) → is (kind_of leaf) OpenParenthesis ≡ test → (if test then choose_operand (second_of text) else take_if (begins_expr (kind_of leaf)) Forms.SizeofExpr Never) ≡ Take form first second → (if test then choose_operand (second_of text') else take_if (begins_expr (kind_of leaf)) Forms.SizeofExpr Never) ≡ Take form' first' second' → (form ≡ form') ⊎ Passes form second leaf text
+  operand : (test : Bool) (level : ℕ) (leaf : Leaf) (text text' : List Leaf) (form form' : Forms.Production) (first second first' second' : ℕ) → is (kind_of leaf) OpenParenthesis ≡ test → (if test then choose_operand (second_of text) else take_if (begins_expr (kind_of leaf)) Forms.SizeofExpr Never) ≡ Take form first second → (if test then choose_operand (second_of text') else take_if (begins_expr (kind_of leaf)) Forms.SizeofExpr Never) ≡ Take form' first' second' → (form ≡ form') ⊎ Passes form second leaf text
   operand false level leaf text text' form form' first second first' second' opens chosen chosen' =
       let rows : Take form first second ≡ Take form' first' second' = sym chosen ∙ chosen' in
       inl (cc rows)
@@ -190,7 +190,7 @@ module _ {Leaf : Type 0} (kind_of : Leaf → Kind) (sample : Kind → Leaf) wher
           let weights : Forms.weight_of form ≡ 0 = ap Forms.weight_of e in
           operand_passes (subst (λ f. Run (language kind_of sample) (Parts (Forms.symbols_of f)) below (leaf ∷ text) outcome) e run) opens (omega (arith, fit, two, down, weights))
 
-  takes : (sort : Forms.Sort) (level : ℕ) (leaf : Leaf) (text text' : List Leaf) (form form' : Forms.Form) (first second first' second' : ℕ) → choose_at kind_of sample sort level (leaf ∷ text) ≡ Take form first second → choose_at kind_of sample sort level (leaf ∷ text') ≡ Take form' first' second' → (form ≡ form') ⊎ Passes form second leaf text
+  takes : (sort : Forms.Sort) (level : ℕ) (leaf : Leaf) (text text' : List Leaf) (form form' : Forms.Production) (first second first' second' : ℕ) → choose_at kind_of sample sort level (leaf ∷ text) ≡ Take form first second → choose_at kind_of sample sort level (leaf ∷ text') ≡ Take form' first' second' → (form ≡ form') ⊎ Passes form second leaf text
   takes Forms.Expr level leaf text text' form form' first second first' second' chosen chosen' = inr (started level Forms.Expr leaf text form first second (expr_starts level (kind_of leaf) (second_of text)) chosen)
   takes (Forms.ParamDirect named) level leaf text text' form form' first second first' second' chosen chosen' = inr (started level (Forms.ParamDirect named) leaf text form first second (direct_starts named level (kind_of leaf) (second_of text)) chosen)
   takes Forms.SizeofOperand level leaf text text' form form' first second first' second' chosen chosen' =

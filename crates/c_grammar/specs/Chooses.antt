@@ -9,10 +9,10 @@ use Rattle.c_grammar.specs.Forms
 use Rattle.c_grammar.specs.declared.words.Words.TheVariants.{NoWord, FullType, Integers}
 use Rattle.c_grammar.specs.declared.words.Words.{Words}
 
-abbrev pub take : Forms.Form → Choice Forms.Form
+abbrev pub take : Forms.Production → Choice Forms.Production
 take form = Take form (Forms.row_need form) (Forms.row_need form)
 
-abbrev pub take_if : Bool → Forms.Form → Choice Forms.Form → Choice Forms.Form
+abbrev pub take_if : Bool → Forms.Production → Choice Forms.Production → Choice Forms.Production
 take_if true form otherwise = take form
 take_if false form otherwise = otherwise
 
@@ -47,7 +47,7 @@ abbrev pub begins_item : Kind → Bool
 begins_item kind = is kind Static || is kind Extern || is_type_word kind
 
 -- a statement that its first word tells
-abbrev pub stmt_of : Kind → Option Forms.Form
+abbrev pub stmt_of : Kind → Option Forms.Production
 stmt_of OpenBrace = Some Forms.Block
 stmt_of Semicolon = Some Forms.Empty
 stmt_of If = Some Forms.IfRow
@@ -60,7 +60,7 @@ stmt_of Continue = Some Forms.ContinueRow
 stmt_of Return = Some Forms.ReturnRow
 stmt_of _ = None
 
-abbrev pub by_stmt : Kind → Option Forms.Form → Choice Forms.Form
+abbrev pub by_stmt : Kind → Option Forms.Production → Choice Forms.Production
 by_stmt kind (Some form) = take form
 by_stmt kind None = take_if (begins_expr kind) Forms.Expression Never
 
@@ -72,21 +72,21 @@ is_start NoWord = true
 is_start FullType = false
 is_start (Integers sign size has_int) = false
 
-abbrev pub by_word : Bool → Words → Kind → Option Words → Choice Forms.Form
+abbrev pub by_word : Bool → Words → Kind → Option Words → Choice Forms.Production
 by_word own words kind (Some next) = take (Forms.BaseWord own words kind next)
 by_word own words kind None = take_if (Forms.is_type words) (Forms.BaseEnd own words) Never
 
 -- an item that begins with the first word of its type
-abbrev pub by_item : Kind → Option Words → Choice Forms.Form
+abbrev pub by_item : Kind → Option Words → Choice Forms.Production
 by_item kind (Some next) = take (Forms.ItemTyped kind next)
 by_item kind None = Never
 
-abbrev pub by_prefix : ℕ → Kind → Option ℕ → Choice Forms.Form → Choice Forms.Form
+abbrev pub by_prefix : ℕ → Kind → Option ℕ → Choice Forms.Production → Choice Forms.Production
 by_prefix level kind (Some operand) otherwise = take_if (nat_le 2 level) (Forms.Prefix kind operand) otherwise
 by_prefix level kind None otherwise = otherwise
 
 -- an expression
-abbrev pub choose_expr : ℕ → Kind → Kind → Choice Forms.Form
+abbrev pub choose_expr : ℕ → Kind → Kind → Choice Forms.Production
 choose_expr level kind next =
     take_if (is_single kind) (Forms.Single kind)
     (take_if (is kind Literal) Forms.Text
@@ -96,20 +96,20 @@ choose_expr level kind next =
     (by_prefix level kind (prefix_level kind) Never)))))
 
 -- what stands behind `(` in a declarator that may lack its name: parameters, which may be none, or a declarator
-abbrev pub choose_nested : Bool → Kind → Choice Forms.Form
+abbrev pub choose_nested : Bool → Kind → Choice Forms.Production
 choose_nested named next =
     if is next CloseParenthesis || is_type_word next then Take (Forms.ParamFunction named) 0 0
     else if is next Star || begins_direct named next then Take (Forms.ParamNested named) 0 1
     else Stuck 0
 
 -- The operand of `sizeof`: behind `(` a type, which counts for nothing, or an expression in parentheses.
-abbrev pub choose_operand : Kind → Choice Forms.Form
+abbrev pub choose_operand : Kind → Choice Forms.Production
 choose_operand next =
     if is_type_word next then Take Forms.SizeofType 0 0
     else if begins_expr next then Take Forms.SizeofExpr 0 2
     else Stuck 0
 
-abbrev pub choose_by : Forms.Sort → ℕ → Kind → Kind → Choice Forms.Form
+abbrev pub choose_by : Forms.Sort → ℕ → Kind → Kind → Choice Forms.Production
 choose_by Forms.Program level kind next = take_if (is kind End || begins_item kind) Forms.WholeProgram Never
 choose_by Forms.Items level kind next = take_if (begins_item kind) Forms.OneItem (take Forms.NoItem)
 choose_by Forms.Item level kind next = take_if (is kind Static || is kind Extern) (Forms.Storage kind) (take_if (is kind Struct) Forms.ItemStruct (by_item kind (Forms.with_word kind NoWord)))
@@ -156,16 +156,16 @@ choose_by Forms.ArgumentsMore level kind next = take_if (is kind Comma) Forms.Ar
 choose_by Forms.SizeofOperand level kind next = if is kind OpenParenthesis then choose_operand next else take_if (begins_expr kind) Forms.SizeofExpr Never
 
 -- Where a tree of an expression, of its own level, goes on with a token, in an expression of a level.
-abbrev pub goes_if : Bool → Forms.Form → Option Forms.Form → Option Forms.Form
+abbrev pub goes_if : Bool → Forms.Production → Option Forms.Production → Option Forms.Production
 goes_if true form otherwise = Some form
 goes_if false form otherwise = otherwise
 
-abbrev pub by_binary : ℕ → ℕ → Kind → Option ℕ → Option Forms.Form
+abbrev pub by_binary : ℕ → ℕ → Kind → Option ℕ → Option Forms.Production
 by_binary level own kind (Some right) = goes_if (nat_le own (right + 1) && nat_le (right + 1) level) (Forms.Binary kind right) None
 by_binary level own kind None = None
 
 -- behind a postfix expression (C17 6.5.2)
-abbrev pub postfix_of : Kind → Option Forms.Form
+abbrev pub postfix_of : Kind → Option Forms.Production
 postfix_of OpenBracket = Some Forms.Index
 postfix_of OpenParenthesis = Some Forms.Call
 postfix_of Dot = Some Forms.Member
@@ -174,12 +174,12 @@ postfix_of PlusPlus = Some Forms.PostIncrement
 postfix_of MinusMinus = Some Forms.PostDecrement
 postfix_of _ = None
 
-abbrev pub by_postfix : ℕ → ℕ → Kind → Option Forms.Form → Option Forms.Form
+abbrev pub by_postfix : ℕ → ℕ → Kind → Option Forms.Production → Option Forms.Production
 by_postfix level own kind (Some form) = goes_if (nat_le own 1 && nat_le 1 level) form None
 by_postfix level own kind None =
     goes_if (is_assignment kind && (nat_le own 2 && nat_le 15 level)) (Forms.Assign kind)
     (goes_if (is kind Question && (nat_le own 13 && nat_le 14 level)) Forms.Conditional (by_binary level own kind (binary_right kind)))
 
-abbrev pub goes_on_by : Forms.Sort → ℕ → ℕ → Kind → Option Forms.Form
+abbrev pub goes_on_by : Forms.Sort → ℕ → ℕ → Kind → Option Forms.Production
 goes_on_by Forms.Expr level own kind = by_postfix level own kind (postfix_of kind)
 goes_on_by _ level own kind = None

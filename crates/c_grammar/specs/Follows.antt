@@ -141,7 +141,7 @@ abbrev pub after_right : Option ℕ → Option ℕ
 after_right (Some right) = Some (right + 1)
 after_right None = None
 
-abbrev pub reach_by : Kind → Option Forms.Form → Option ℕ
+abbrev pub reach_by : Kind → Option Forms.Production → Option ℕ
 reach_by kind (Some form) = Some 1
 reach_by kind None = if is_assignment kind then Some 15 else if is kind Question then Some 14 else after_right (binary_right kind)
 
@@ -154,7 +154,7 @@ Tighter level (Some other) = level < other
 Tighter level None = Unit {0}
 
 -- how loosely the last part of an expression may bind
-abbrev pub last_level : Forms.Form → Option ℕ
+abbrev pub last_level : Forms.Production → Option ℕ
 last_level Forms.Cast = Some 3
 last_level Forms.SizeofRow = Some 2
 last_level (Forms.Prefix kind operand) = Some operand
@@ -163,7 +163,7 @@ last_level (Forms.Assign kind) = Some 15
 last_level Forms.Conditional = Some 14
 last_level _ = None
 
-abbrev pub last_of : {Leaf : Type 0} → Tree Leaf Forms.Form → Option ℕ
+abbrev pub last_of : {Leaf : Type 0} → Tree Leaf Forms.Production → Option ℕ
 last_of (Alone leaf) = None
 last_of Nothing = None
 last_of (Then first others) = None
@@ -185,7 +185,7 @@ module _ {Leaf : Type 0} (kind_of : Leaf → Kind) where
   EndsExpr level [] = ⊥
   EndsExpr level (leaf ∷ text) = (is Literal (kind_of leaf) ≡ false) × Tighter level (reach (kind_of leaf))
 
-  abbrev pub StandsExpr : Tree Leaf Forms.Form → List Leaf → Type 0
+  abbrev pub StandsExpr : Tree Leaf Forms.Production → List Leaf → Type 0
   StandsExpr tree [] = ⊥
   StandsExpr tree (leaf ∷ text) = (is Literal (kind_of leaf) ≡ false) × LastTighter (last_of tree) (reach (kind_of leaf))
 
@@ -199,7 +199,7 @@ module _ {Leaf : Type 0} (kind_of : Leaf → Kind) where
   NoElseBehind open_end (leaf ∷ text) = (is Else (kind_of leaf) && open_end) ≡ false
 
   -- what may stand behind a tree where it ends
-  abbrev pub Ends : Forms.Sort → ℕ → Tree Leaf Forms.Form → List Leaf → Type 0
+  abbrev pub Ends : Forms.Sort → ℕ → Tree Leaf Forms.Production → List Leaf → Type 0
   Ends Forms.Expr level tree text = EndsExpr level text
   Ends Forms.SizeofOperand level tree text = EndsExpr 2 text
   Ends Forms.Literals level tree text = NotLiteral text
@@ -208,6 +208,6 @@ module _ {Leaf : Type 0} (kind_of : Leaf → Kind) where
   Ends sort level tree text = OneOf (follows sort) text
 
   -- and behind one that may go on
-  abbrev pub Stands : Forms.Sort → ℕ → Tree Leaf Forms.Form → List Leaf → Type 0
+  abbrev pub Stands : Forms.Sort → ℕ → Tree Leaf Forms.Production → List Leaf → Type 0
   Stands Forms.Expr level tree text = StandsExpr tree text
   Stands sort level tree text = Ends sort level tree text

@@ -1,4 +1,4 @@
--- The rows of the grammar.
+-- The productions of the grammar, each a row of its table.
 --
 --   program    = item*
 --   item       = ("static"|"extern")* (sbase ";" | base inits ";" | base declarator block)
@@ -17,7 +17,7 @@
 -- and the statements and expressions of C17 6.8 and 6.5 without labels, `goto` and the comma operator. What may be left
 -- out, and what stands any number of times, are sorts of their own, whose rows are chosen by their first token.
 use Rattle.std.specs.Prelude.{ℕ, ◌+◌, max, Bool, true, false, ◌&&◌, ◌||◌, ◌==◌, List, [], ◌∷◌, Option, Some, None}
-use Rattle.grammar_table.specs.Table.{Sym, Token, Part}
+use Rattle.grammar_table.specs.Table.{Symbol, Terminal, Nonterminal}
 use Rattle.c_grammar.specs.declared.kind.Kind.{Kind}
 use Rattle.c_grammar.specs.declared.kind.Kind.TheVariants.{Name, Literal, End, Const, Void, Char, Short, Int, Long, Signed, Unsigned, Struct, Static, Extern, Sizeof, If, Else, While, Do, For, Switch, Case, Default, Break, Continue, Return, OpenParenthesis, CloseParenthesis, OpenBrace, CloseBrace, OpenBracket, CloseBracket, Semicolon, Comma, Colon, Question, Dot, Arrow, PlusPlus, MinusMinus, Star, Equal}
 use Rattle.c_grammar.specs.Kinds.{prefix_level, binary_right, is_assignment, is_single, is}
@@ -119,34 +119,34 @@ pub data Sort : Type 0 where
   Stmt Body BlockItems Declaration ElseOpt ForFirst ExprOpt SwitchItems ReturnValue : Sort
   Expr Literals Arguments ArgumentsMore SizeofOperand : Sort
 
-pub data Form : Type 0 where
-  WholeProgram NoItem OneItem : Form
-  Storage : (kind : Kind) → Form
+pub data Production : Type 0 where
+  WholeProgram NoItem OneItem : Production
+  Storage : (kind : Kind) → Production
   -- with the first word of its type, which isn't `struct`
-  ItemTyped : (kind : Kind) (next : Words) → Form
-  ItemStruct TailAlone TailTyped DeclaredRow FunctionBody DeclaredValues : Form
-  NoMembers Members MemberRow MembersEnd MembersNext MemberEnd MemberNext : Form
-  BaseEnd : (own : Bool) (words : Words) → Form
-  BaseWord : (own : Bool) (words : Words) (kind : Kind) (next : Words) → Form
-  BaseStruct : (own : Bool) → Form
-  NoValue Value DeclarationEnd DeclarationNext InitValue InitList InitEnd InitComma InitClose InitOther : Form
-  DeclaratorRow NoStar StarFirst StarEnd StarNext StarConst DirectName DirectNested NoSuffix Array Function NoLength LengthRow : Form
-  NoParam OneParam ParamsEnd ParamsNext ParamRow TypeRow : Form
-  OptionalNone OptionalPointer OptionalDirect InnerPointer InnerDirect DirectNone DirectSome ParamName ParamNested ParamFunction ParamArray : (named : Bool) → Form
-  Block Empty Expression IfRow WhileRow DoRow ForRow SwitchRow BreakRow ContinueRow ReturnRow BodyRow : Form
-  BlockEnd BlockDeclaration BlockStatement DeclarationRow NoElse ElseRow ForDeclaration ForEmpty ForExpression NoExpr SomeExpr : Form
-  SwitchEnd CaseRow DefaultRow SwitchStatement ReturnNothing ReturnExpr : Form
-  Single : (kind : Kind) → Form
-  Text NoLiteral MoreLiteral Parenthesized Cast SizeofRow SizeofType SizeofExpr : Form
-  Prefix : (kind : Kind) (operand : ℕ) → Form
+  ItemTyped : (kind : Kind) (next : Words) → Production
+  ItemStruct TailAlone TailTyped DeclaredRow FunctionBody DeclaredValues : Production
+  NoMembers Members MemberRow MembersEnd MembersNext MemberEnd MemberNext : Production
+  BaseEnd : (own : Bool) (words : Words) → Production
+  BaseWord : (own : Bool) (words : Words) (kind : Kind) (next : Words) → Production
+  BaseStruct : (own : Bool) → Production
+  NoValue Value DeclarationEnd DeclarationNext InitValue InitList InitEnd InitComma InitClose InitOther : Production
+  DeclaratorRow NoStar StarFirst StarEnd StarNext StarConst DirectName DirectNested NoSuffix Array Function NoLength LengthRow : Production
+  NoParam OneParam ParamsEnd ParamsNext ParamRow TypeRow : Production
+  OptionalNone OptionalPointer OptionalDirect InnerPointer InnerDirect DirectNone DirectSome ParamName ParamNested ParamFunction ParamArray : (named : Bool) → Production
+  Block Empty Expression IfRow WhileRow DoRow ForRow SwitchRow BreakRow ContinueRow ReturnRow BodyRow : Production
+  BlockEnd BlockDeclaration BlockStatement DeclarationRow NoElse ElseRow ForDeclaration ForEmpty ForExpression NoExpr SomeExpr : Production
+  SwitchEnd CaseRow DefaultRow SwitchStatement ReturnNothing ReturnExpr : Production
+  Single : (kind : Kind) → Production
+  Text NoLiteral MoreLiteral Parenthesized Cast SizeofRow SizeofType SizeofExpr : Production
+  Prefix : (kind : Kind) (operand : ℕ) → Production
   -- with the level of its right operand
-  Binary : (kind : Kind) (right : ℕ) → Form
-  Assign : (kind : Kind) → Form
-  Conditional Index Call Member PointerMember PostIncrement PostDecrement : Form
-  NoArgument OneArgument ArgumentsEnd ArgumentsNext : Form
+  Binary : (kind : Kind) (right : ℕ) → Production
+  Assign : (kind : Kind) → Production
+  Conditional Index Call Member PointerMember PostIncrement PostDecrement : Production
+  NoArgument OneArgument ArgumentsEnd ArgumentsNext : Production
 
 -- the sort whose trees a row makes
-abbrev pub sort_of : Form → Sort
+abbrev pub sort_of : Production → Sort
 sort_of WholeProgram = Program
 sort_of NoItem = Items
 sort_of OneItem = Items
@@ -248,7 +248,7 @@ sort_of ArgumentsNext = ArgumentsMore
 sort_of _ = Expr
 
 -- Levels of expressions: 0 primary, 1 postfix, 2 unary, 3 cast, 4 to 13 binary, 14 conditional, 15 assignment.
-abbrev pub level_of_form : Form → ℕ
+abbrev pub level_of_form : Production → ℕ
 level_of_form (Prefix kind operand) = 2
 level_of_form SizeofRow = 2
 level_of_form Cast = 3
@@ -264,7 +264,7 @@ level_of_form PostDecrement = 1
 level_of_form _ = 0
 
 -- of a row that begins with an expression, how loosely that may bind
-abbrev pub left_of : Form → Option ℕ
+abbrev pub left_of : Production → Option ℕ
 left_of (Binary kind right) = Some (right + 1)
 left_of (Assign kind) = Some 2
 left_of Conditional = Some 13
@@ -277,7 +277,7 @@ left_of PostDecrement = Some 1
 left_of _ = None
 
 -- Is the form a row of the grammar, with these arguments?
-abbrev pub is_row : Form → Bool
+abbrev pub is_row : Production → Bool
 is_row (Storage kind) = is kind Static || is kind Extern
 is_row (ItemTyped kind next) = is_these_words (with_word kind NoWord) next
 is_row (BaseEnd own words) = is_type words
@@ -290,127 +290,127 @@ is_row (Assign kind) = is_assignment kind
 is_row _ = true
 
 abbrev row : Type 0
-row = List (Sym Kind Sort)
+row = List (Symbol Kind Sort)
 
 -- the rows; of one that begins with an expression, what follows it
-abbrev pub symbols_of : Form → List (Sym Kind Sort)
-symbols_of WholeProgram = Part Items 0 ∷ Token End ∷ []
+abbrev pub symbols_of : Production → List (Symbol Kind Sort)
+symbols_of WholeProgram = Nonterminal Items 0 ∷ Terminal End ∷ []
 symbols_of NoItem = []
-symbols_of OneItem = Part Item 0 ∷ Part Items 0 ∷ []
-symbols_of (Storage kind) = Token kind ∷ Part Item 0 ∷ []
-symbols_of ItemStruct = Token Struct ∷ Token Name ∷ Part MembersOpt 0 ∷ Part StructTail 0 ∷ []
-symbols_of (ItemTyped kind next) = Token kind ∷ Part (Base true next) 0 ∷ Part Declared 0 ∷ []
-symbols_of TailAlone = Token Semicolon ∷ []
-symbols_of TailTyped = Part (Base true FullType) 0 ∷ Part Declared 0 ∷ []
-symbols_of DeclaredRow = Part Declarator 0 ∷ Part AfterDeclarator 0 ∷ []
-symbols_of FunctionBody = Part Body 0 ∷ []
-symbols_of DeclaredValues = Part FirstValue 0 ∷ Part DeclaratorsMore 0 ∷ []
+symbols_of OneItem = Nonterminal Item 0 ∷ Nonterminal Items 0 ∷ []
+symbols_of (Storage kind) = Terminal kind ∷ Nonterminal Item 0 ∷ []
+symbols_of ItemStruct = Terminal Struct ∷ Terminal Name ∷ Nonterminal MembersOpt 0 ∷ Nonterminal StructTail 0 ∷ []
+symbols_of (ItemTyped kind next) = Terminal kind ∷ Nonterminal (Base true next) 0 ∷ Nonterminal Declared 0 ∷ []
+symbols_of TailAlone = Terminal Semicolon ∷ []
+symbols_of TailTyped = Nonterminal (Base true FullType) 0 ∷ Nonterminal Declared 0 ∷ []
+symbols_of DeclaredRow = Nonterminal Declarator 0 ∷ Nonterminal AfterDeclarator 0 ∷ []
+symbols_of FunctionBody = Nonterminal Body 0 ∷ []
+symbols_of DeclaredValues = Nonterminal FirstValue 0 ∷ Nonterminal DeclaratorsMore 0 ∷ []
 symbols_of NoMembers = []
-symbols_of Members = Token OpenBrace ∷ Part MemberSort 0 ∷ Part MembersMore 0 ∷ []
-symbols_of MemberRow = Part (Base false NoWord) 0 ∷ Part Declarator 0 ∷ Part MemberMore 0 ∷ []
-symbols_of MembersEnd = Token CloseBrace ∷ []
-symbols_of MembersNext = Part MemberSort 0 ∷ Part MembersMore 0 ∷ []
-symbols_of MemberEnd = Token Semicolon ∷ []
-symbols_of MemberNext = Token Comma ∷ Part Declarator 0 ∷ Part MemberMore 0 ∷ []
+symbols_of Members = Terminal OpenBrace ∷ Nonterminal MemberSort 0 ∷ Nonterminal MembersMore 0 ∷ []
+symbols_of MemberRow = Nonterminal (Base false NoWord) 0 ∷ Nonterminal Declarator 0 ∷ Nonterminal MemberMore 0 ∷ []
+symbols_of MembersEnd = Terminal CloseBrace ∷ []
+symbols_of MembersNext = Nonterminal MemberSort 0 ∷ Nonterminal MembersMore 0 ∷ []
+symbols_of MemberEnd = Terminal Semicolon ∷ []
+symbols_of MemberNext = Terminal Comma ∷ Nonterminal Declarator 0 ∷ Nonterminal MemberMore 0 ∷ []
 symbols_of (BaseEnd own words) = []
-symbols_of (BaseWord own words kind next) = Token kind ∷ Part (Base own next) 0 ∷ []
-symbols_of (BaseStruct true) = Token Struct ∷ Token Name ∷ Part MembersOpt 0 ∷ Part (Base true FullType) 0 ∷ []
-symbols_of (BaseStruct false) = Token Struct ∷ Token Name ∷ Part (Base false FullType) 0 ∷ []
+symbols_of (BaseWord own words kind next) = Terminal kind ∷ Nonterminal (Base own next) 0 ∷ []
+symbols_of (BaseStruct true) = Terminal Struct ∷ Terminal Name ∷ Nonterminal MembersOpt 0 ∷ Nonterminal (Base true FullType) 0 ∷ []
+symbols_of (BaseStruct false) = Terminal Struct ∷ Terminal Name ∷ Nonterminal (Base false FullType) 0 ∷ []
 symbols_of NoValue = []
-symbols_of Value = Token Equal ∷ Part Init 0 ∷ []
-symbols_of DeclarationEnd = Token Semicolon ∷ []
-symbols_of DeclarationNext = Token Comma ∷ Part Declarator 0 ∷ Part FirstValue 0 ∷ Part DeclaratorsMore 0 ∷ []
-symbols_of InitValue = Part Expr 15 ∷ []
-symbols_of InitList = Token OpenBrace ∷ Part Init 0 ∷ Part InitMore 0 ∷ []
-symbols_of InitEnd = Token CloseBrace ∷ []
-symbols_of InitComma = Token Comma ∷ Part InitNext 0 ∷ []
-symbols_of InitClose = Token CloseBrace ∷ []
-symbols_of InitOther = Part Init 0 ∷ Part InitMore 0 ∷ []
-symbols_of DeclaratorRow = Part Stars 0 ∷ Part Direct 0 ∷ []
+symbols_of Value = Terminal Equal ∷ Nonterminal Init 0 ∷ []
+symbols_of DeclarationEnd = Terminal Semicolon ∷ []
+symbols_of DeclarationNext = Terminal Comma ∷ Nonterminal Declarator 0 ∷ Nonterminal FirstValue 0 ∷ Nonterminal DeclaratorsMore 0 ∷ []
+symbols_of InitValue = Nonterminal Expr 15 ∷ []
+symbols_of InitList = Terminal OpenBrace ∷ Nonterminal Init 0 ∷ Nonterminal InitMore 0 ∷ []
+symbols_of InitEnd = Terminal CloseBrace ∷ []
+symbols_of InitComma = Terminal Comma ∷ Nonterminal InitNext 0 ∷ []
+symbols_of InitClose = Terminal CloseBrace ∷ []
+symbols_of InitOther = Nonterminal Init 0 ∷ Nonterminal InitMore 0 ∷ []
+symbols_of DeclaratorRow = Nonterminal Stars 0 ∷ Nonterminal Direct 0 ∷ []
 symbols_of NoStar = []
-symbols_of StarFirst = Token Star ∷ Part AfterStar 0 ∷ []
+symbols_of StarFirst = Terminal Star ∷ Nonterminal AfterStar 0 ∷ []
 symbols_of StarEnd = []
-symbols_of StarNext = Token Star ∷ Part AfterStar 0 ∷ []
-symbols_of StarConst = Token Const ∷ Part AfterStar 0 ∷ []
-symbols_of DirectName = Token Name ∷ Part Suffixes 0 ∷ []
-symbols_of DirectNested = Token OpenParenthesis ∷ Part Declarator 0 ∷ Token CloseParenthesis ∷ Part Suffixes 0 ∷ []
+symbols_of StarNext = Terminal Star ∷ Nonterminal AfterStar 0 ∷ []
+symbols_of StarConst = Terminal Const ∷ Nonterminal AfterStar 0 ∷ []
+symbols_of DirectName = Terminal Name ∷ Nonterminal Suffixes 0 ∷ []
+symbols_of DirectNested = Terminal OpenParenthesis ∷ Nonterminal Declarator 0 ∷ Terminal CloseParenthesis ∷ Nonterminal Suffixes 0 ∷ []
 symbols_of NoSuffix = []
-symbols_of Array = Token OpenBracket ∷ Part Length 0 ∷ Token CloseBracket ∷ Part Suffixes 0 ∷ []
-symbols_of Function = Token OpenParenthesis ∷ Part Params 0 ∷ Token CloseParenthesis ∷ Part Suffixes 0 ∷ []
+symbols_of Array = Terminal OpenBracket ∷ Nonterminal Length 0 ∷ Terminal CloseBracket ∷ Nonterminal Suffixes 0 ∷ []
+symbols_of Function = Terminal OpenParenthesis ∷ Nonterminal Params 0 ∷ Terminal CloseParenthesis ∷ Nonterminal Suffixes 0 ∷ []
 symbols_of NoLength = []
-symbols_of LengthRow = Part Expr 14 ∷ []
+symbols_of LengthRow = Nonterminal Expr 14 ∷ []
 symbols_of NoParam = []
-symbols_of OneParam = Part Param 0 ∷ Part ParamsMore 0 ∷ []
+symbols_of OneParam = Nonterminal Param 0 ∷ Nonterminal ParamsMore 0 ∷ []
 symbols_of ParamsEnd = []
-symbols_of ParamsNext = Token Comma ∷ Part Param 0 ∷ Part ParamsMore 0 ∷ []
-symbols_of ParamRow = Part (Base false NoWord) 0 ∷ Part (Optional true) 0 ∷ []
-symbols_of TypeRow = Part (Base false NoWord) 0 ∷ Part (Optional false) 0 ∷ []
+symbols_of ParamsNext = Terminal Comma ∷ Nonterminal Param 0 ∷ Nonterminal ParamsMore 0 ∷ []
+symbols_of ParamRow = Nonterminal (Base false NoWord) 0 ∷ Nonterminal (Optional true) 0 ∷ []
+symbols_of TypeRow = Nonterminal (Base false NoWord) 0 ∷ Nonterminal (Optional false) 0 ∷ []
 symbols_of (OptionalNone named) = []
-symbols_of (OptionalPointer named) = Token Star ∷ Part AfterStar 0 ∷ Part (DirectOptional named) 0 ∷ []
-symbols_of (OptionalDirect named) = Part (ParamDirect named) 0 ∷ []
-symbols_of (InnerPointer named) = Token Star ∷ Part AfterStar 0 ∷ Part (DirectOptional named) 0 ∷ []
-symbols_of (InnerDirect named) = Part (ParamDirect named) 0 ∷ []
+symbols_of (OptionalPointer named) = Terminal Star ∷ Nonterminal AfterStar 0 ∷ Nonterminal (DirectOptional named) 0 ∷ []
+symbols_of (OptionalDirect named) = Nonterminal (ParamDirect named) 0 ∷ []
+symbols_of (InnerPointer named) = Terminal Star ∷ Nonterminal AfterStar 0 ∷ Nonterminal (DirectOptional named) 0 ∷ []
+symbols_of (InnerDirect named) = Nonterminal (ParamDirect named) 0 ∷ []
 symbols_of (DirectNone named) = []
-symbols_of (DirectSome named) = Part (ParamDirect named) 0 ∷ []
-symbols_of (ParamName named) = Token Name ∷ Part Suffixes 0 ∷ []
-symbols_of (ParamNested named) = Token OpenParenthesis ∷ Part (Inner named) 0 ∷ Token CloseParenthesis ∷ Part Suffixes 0 ∷ []
-symbols_of (ParamFunction named) = Token OpenParenthesis ∷ Part Params 0 ∷ Token CloseParenthesis ∷ Part Suffixes 0 ∷ []
-symbols_of (ParamArray named) = Token OpenBracket ∷ Part Length 0 ∷ Token CloseBracket ∷ Part Suffixes 0 ∷ []
-symbols_of Block = Token OpenBrace ∷ Part BlockItems 0 ∷ []
-symbols_of Empty = Token Semicolon ∷ []
-symbols_of Expression = Part Expr 15 ∷ Token Semicolon ∷ []
-symbols_of IfRow = Token If ∷ Token OpenParenthesis ∷ Part Expr 15 ∷ Token CloseParenthesis ∷ Part Stmt 0 ∷ Part ElseOpt 0 ∷ []
-symbols_of WhileRow = Token While ∷ Token OpenParenthesis ∷ Part Expr 15 ∷ Token CloseParenthesis ∷ Part Stmt 0 ∷ []
-symbols_of DoRow = Token Do ∷ Part Stmt 0 ∷ Token While ∷ Token OpenParenthesis ∷ Part Expr 15 ∷ Token CloseParenthesis ∷ Token Semicolon ∷ []
-symbols_of ForRow = Token For ∷ Token OpenParenthesis ∷ Part ForFirst 0 ∷ Part ExprOpt 0 ∷ Token Semicolon ∷ Part ExprOpt 0 ∷ Token CloseParenthesis ∷ Part Stmt 0 ∷ []
-symbols_of SwitchRow = Token Switch ∷ Token OpenParenthesis ∷ Part Expr 15 ∷ Token CloseParenthesis ∷ Token OpenBrace ∷ Part SwitchItems 0 ∷ []
-symbols_of BreakRow = Token Break ∷ Token Semicolon ∷ []
-symbols_of ContinueRow = Token Continue ∷ Token Semicolon ∷ []
-symbols_of ReturnRow = Token Return ∷ Part ReturnValue 0 ∷ []
-symbols_of BodyRow = Token OpenBrace ∷ Part BlockItems 0 ∷ []
-symbols_of BlockEnd = Token CloseBrace ∷ []
-symbols_of BlockDeclaration = Part Declaration 0 ∷ Part BlockItems 0 ∷ []
-symbols_of BlockStatement = Part Stmt 0 ∷ Part BlockItems 0 ∷ []
-symbols_of DeclarationRow = Part (Base false NoWord) 0 ∷ Part Declarator 0 ∷ Part FirstValue 0 ∷ Part DeclaratorsMore 0 ∷ []
+symbols_of (DirectSome named) = Nonterminal (ParamDirect named) 0 ∷ []
+symbols_of (ParamName named) = Terminal Name ∷ Nonterminal Suffixes 0 ∷ []
+symbols_of (ParamNested named) = Terminal OpenParenthesis ∷ Nonterminal (Inner named) 0 ∷ Terminal CloseParenthesis ∷ Nonterminal Suffixes 0 ∷ []
+symbols_of (ParamFunction named) = Terminal OpenParenthesis ∷ Nonterminal Params 0 ∷ Terminal CloseParenthesis ∷ Nonterminal Suffixes 0 ∷ []
+symbols_of (ParamArray named) = Terminal OpenBracket ∷ Nonterminal Length 0 ∷ Terminal CloseBracket ∷ Nonterminal Suffixes 0 ∷ []
+symbols_of Block = Terminal OpenBrace ∷ Nonterminal BlockItems 0 ∷ []
+symbols_of Empty = Terminal Semicolon ∷ []
+symbols_of Expression = Nonterminal Expr 15 ∷ Terminal Semicolon ∷ []
+symbols_of IfRow = Terminal If ∷ Terminal OpenParenthesis ∷ Nonterminal Expr 15 ∷ Terminal CloseParenthesis ∷ Nonterminal Stmt 0 ∷ Nonterminal ElseOpt 0 ∷ []
+symbols_of WhileRow = Terminal While ∷ Terminal OpenParenthesis ∷ Nonterminal Expr 15 ∷ Terminal CloseParenthesis ∷ Nonterminal Stmt 0 ∷ []
+symbols_of DoRow = Terminal Do ∷ Nonterminal Stmt 0 ∷ Terminal While ∷ Terminal OpenParenthesis ∷ Nonterminal Expr 15 ∷ Terminal CloseParenthesis ∷ Terminal Semicolon ∷ []
+symbols_of ForRow = Terminal For ∷ Terminal OpenParenthesis ∷ Nonterminal ForFirst 0 ∷ Nonterminal ExprOpt 0 ∷ Terminal Semicolon ∷ Nonterminal ExprOpt 0 ∷ Terminal CloseParenthesis ∷ Nonterminal Stmt 0 ∷ []
+symbols_of SwitchRow = Terminal Switch ∷ Terminal OpenParenthesis ∷ Nonterminal Expr 15 ∷ Terminal CloseParenthesis ∷ Terminal OpenBrace ∷ Nonterminal SwitchItems 0 ∷ []
+symbols_of BreakRow = Terminal Break ∷ Terminal Semicolon ∷ []
+symbols_of ContinueRow = Terminal Continue ∷ Terminal Semicolon ∷ []
+symbols_of ReturnRow = Terminal Return ∷ Nonterminal ReturnValue 0 ∷ []
+symbols_of BodyRow = Terminal OpenBrace ∷ Nonterminal BlockItems 0 ∷ []
+symbols_of BlockEnd = Terminal CloseBrace ∷ []
+symbols_of BlockDeclaration = Nonterminal Declaration 0 ∷ Nonterminal BlockItems 0 ∷ []
+symbols_of BlockStatement = Nonterminal Stmt 0 ∷ Nonterminal BlockItems 0 ∷ []
+symbols_of DeclarationRow = Nonterminal (Base false NoWord) 0 ∷ Nonterminal Declarator 0 ∷ Nonterminal FirstValue 0 ∷ Nonterminal DeclaratorsMore 0 ∷ []
 symbols_of NoElse = []
-symbols_of ElseRow = Token Else ∷ Part Stmt 0 ∷ []
-symbols_of ForDeclaration = Part Declaration 0 ∷ []
-symbols_of ForEmpty = Token Semicolon ∷ []
-symbols_of ForExpression = Part Expr 15 ∷ Token Semicolon ∷ []
+symbols_of ElseRow = Terminal Else ∷ Nonterminal Stmt 0 ∷ []
+symbols_of ForDeclaration = Nonterminal Declaration 0 ∷ []
+symbols_of ForEmpty = Terminal Semicolon ∷ []
+symbols_of ForExpression = Nonterminal Expr 15 ∷ Terminal Semicolon ∷ []
 symbols_of NoExpr = []
-symbols_of SomeExpr = Part Expr 15 ∷ []
-symbols_of SwitchEnd = Token CloseBrace ∷ []
-symbols_of CaseRow = Token Case ∷ Part Expr 14 ∷ Token Colon ∷ Part SwitchItems 0 ∷ []
-symbols_of DefaultRow = Token Default ∷ Token Colon ∷ Part SwitchItems 0 ∷ []
-symbols_of SwitchStatement = Part Stmt 0 ∷ Part SwitchItems 0 ∷ []
-symbols_of ReturnNothing = Token Semicolon ∷ []
-symbols_of ReturnExpr = Part Expr 15 ∷ Token Semicolon ∷ []
-symbols_of (Single kind) = Token kind ∷ []
-symbols_of Text = Token Literal ∷ Part Literals 0 ∷ []
+symbols_of SomeExpr = Nonterminal Expr 15 ∷ []
+symbols_of SwitchEnd = Terminal CloseBrace ∷ []
+symbols_of CaseRow = Terminal Case ∷ Nonterminal Expr 14 ∷ Terminal Colon ∷ Nonterminal SwitchItems 0 ∷ []
+symbols_of DefaultRow = Terminal Default ∷ Terminal Colon ∷ Nonterminal SwitchItems 0 ∷ []
+symbols_of SwitchStatement = Nonterminal Stmt 0 ∷ Nonterminal SwitchItems 0 ∷ []
+symbols_of ReturnNothing = Terminal Semicolon ∷ []
+symbols_of ReturnExpr = Nonterminal Expr 15 ∷ Terminal Semicolon ∷ []
+symbols_of (Single kind) = Terminal kind ∷ []
+symbols_of Text = Terminal Literal ∷ Nonterminal Literals 0 ∷ []
 symbols_of NoLiteral = []
-symbols_of MoreLiteral = Token Literal ∷ Part Literals 0 ∷ []
-symbols_of Parenthesized = Token OpenParenthesis ∷ Part Expr 15 ∷ Token CloseParenthesis ∷ []
-symbols_of Cast = Token OpenParenthesis ∷ Part Type_name 0 ∷ Token CloseParenthesis ∷ Part Expr 3 ∷ []
-symbols_of SizeofRow = Token Sizeof ∷ Part SizeofOperand 0 ∷ []
-symbols_of SizeofType = Token OpenParenthesis ∷ Part Type_name 0 ∷ Token CloseParenthesis ∷ []
-symbols_of SizeofExpr = Part Expr 2 ∷ []
-symbols_of (Prefix kind operand) = Token kind ∷ Part Expr operand ∷ []
-symbols_of (Binary kind right) = Token kind ∷ Part Expr right ∷ []
-symbols_of (Assign kind) = Token kind ∷ Part Expr 15 ∷ []
-symbols_of Conditional = Token Question ∷ Part Expr 15 ∷ Token Colon ∷ Part Expr 14 ∷ []
-symbols_of Index = Token OpenBracket ∷ Part Expr 15 ∷ Token CloseBracket ∷ []
-symbols_of Call = Token OpenParenthesis ∷ Part Arguments 0 ∷ Token CloseParenthesis ∷ []
-symbols_of Member = Token Dot ∷ Token Name ∷ []
-symbols_of PointerMember = Token Arrow ∷ Token Name ∷ []
-symbols_of PostIncrement = Token PlusPlus ∷ []
-symbols_of PostDecrement = Token MinusMinus ∷ []
+symbols_of MoreLiteral = Terminal Literal ∷ Nonterminal Literals 0 ∷ []
+symbols_of Parenthesized = Terminal OpenParenthesis ∷ Nonterminal Expr 15 ∷ Terminal CloseParenthesis ∷ []
+symbols_of Cast = Terminal OpenParenthesis ∷ Nonterminal Type_name 0 ∷ Terminal CloseParenthesis ∷ Nonterminal Expr 3 ∷ []
+symbols_of SizeofRow = Terminal Sizeof ∷ Nonterminal SizeofOperand 0 ∷ []
+symbols_of SizeofType = Terminal OpenParenthesis ∷ Nonterminal Type_name 0 ∷ Terminal CloseParenthesis ∷ []
+symbols_of SizeofExpr = Nonterminal Expr 2 ∷ []
+symbols_of (Prefix kind operand) = Terminal kind ∷ Nonterminal Expr operand ∷ []
+symbols_of (Binary kind right) = Terminal kind ∷ Nonterminal Expr right ∷ []
+symbols_of (Assign kind) = Terminal kind ∷ Nonterminal Expr 15 ∷ []
+symbols_of Conditional = Terminal Question ∷ Nonterminal Expr 15 ∷ Terminal Colon ∷ Nonterminal Expr 14 ∷ []
+symbols_of Index = Terminal OpenBracket ∷ Nonterminal Expr 15 ∷ Terminal CloseBracket ∷ []
+symbols_of Call = Terminal OpenParenthesis ∷ Nonterminal Arguments 0 ∷ Terminal CloseParenthesis ∷ []
+symbols_of Member = Terminal Dot ∷ Terminal Name ∷ []
+symbols_of PointerMember = Terminal Arrow ∷ Terminal Name ∷ []
+symbols_of PostIncrement = Terminal PlusPlus ∷ []
+symbols_of PostDecrement = Terminal MinusMinus ∷ []
 symbols_of NoArgument = []
-symbols_of OneArgument = Part Expr 15 ∷ Part ArgumentsMore 0 ∷ []
+symbols_of OneArgument = Nonterminal Expr 15 ∷ Nonterminal ArgumentsMore 0 ∷ []
 symbols_of ArgumentsEnd = []
-symbols_of ArgumentsNext = Token Comma ∷ Part Expr 15 ∷ Part ArgumentsMore 0 ∷ []
+symbols_of ArgumentsNext = Terminal Comma ∷ Nonterminal Expr 15 ∷ Nonterminal ArgumentsMore 0 ∷ []
 
 -- Does a tree count for nesting? Each statement, expression, declarator and initializer does.
-abbrev pub weight_of : Form → ℕ
+abbrev pub weight_of : Production → ℕ
 weight_of InitValue = 1
 weight_of InitList = 1
 weight_of DeclaratorRow = 1
@@ -460,15 +460,15 @@ need_of Declaration = 1
 need_of Expr = 1
 need_of _ = 0
 
-abbrev pub needs_of : List (Sym Kind Sort) → ℕ
+abbrev pub needs_of : List (Symbol Kind Sort) → ℕ
 needs_of [] = 0
-needs_of (Token kind ∷ symbols) = needs_of symbols
-needs_of (Part sort level ∷ symbols) = max (need_of sort) (needs_of symbols)
+needs_of (Terminal kind ∷ symbols) = needs_of symbols
+needs_of (Nonterminal sort level ∷ symbols) = max (need_of sort) (needs_of symbols)
 
 -- of the trees of a row, but for a tree that it begins with
-abbrev pub row_need : Form → ℕ
+abbrev pub row_need : Production → ℕ
 row_need form = needs_of (symbols_of form) + weight_of form
 
 -- of a row that goes on behind a tree
-abbrev pub left_need : Form → ℕ
+abbrev pub left_need : Production → ℕ
 left_need form = row_need form

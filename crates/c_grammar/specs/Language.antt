@@ -13,11 +13,11 @@ use Rattle.c_grammar.specs.declared.words.Words.{Words}
 
 -- Do the parts of a tree end in an `if` without `else`? An `else` behind it would belong to that `if` (C17 6.8.4.1
 -- paragraph 3).
-abbrev pub is_no_else : Forms.Form → Bool
+abbrev pub is_no_else : Forms.Production → Bool
 is_no_else Forms.NoElse = true
 is_no_else _ = false
 
-abbrev pub ends_open : {Leaf : Type 0} → Tree Leaf Forms.Form → Bool
+abbrev pub ends_open : {Leaf : Type 0} → Tree Leaf Forms.Production → Bool
 ends_open (Alone leaf) = false
 ends_open Nothing = false
 ends_open (Node form parts) = is_no_else form || ends_open parts
@@ -26,48 +26,48 @@ ends_open (Then first (Alone leaf)) = false
 ends_open (Then first (Then next others)) = ends_open (Then next others)
 ends_open (Then first (Node form parts)) = is_no_else form || ends_open parts
 
-abbrev pub is_open : {Leaf : Type 0} → Tree Leaf Forms.Form → Bool
+abbrev pub is_open : {Leaf : Type 0} → Tree Leaf Forms.Production → Bool
 is_open (Alone leaf) = false
 is_open Nothing = false
 is_open (Then first others) = false
 is_open (Node form parts) = ends_open parts
 
 module _ {Leaf : Type 0} (kind_of : Leaf → Kind) (sample : Kind → Leaf) where
-  abbrev pub choose_at : Forms.Sort → ℕ → List Leaf → Choice Forms.Form
+  abbrev pub choose_at : Forms.Sort → ℕ → List Leaf → Choice Forms.Production
   choose_at sort level [] = Never
   choose_at sort level (leaf ∷ []) = choose_by sort level (kind_of leaf) End
   choose_at sort level (leaf ∷ next ∷ text) = choose_by sort level (kind_of leaf) (kind_of next)
 
-  abbrev pub end_of : Forms.Form → Kind → Tree Leaf Forms.Form
+  abbrev pub end_of : Forms.Production → Kind → Tree Leaf Forms.Production
   end_of form kind = Node form (Then (Alone (sample kind)) Nothing)
 
-  abbrev pub empty_of : Forms.Form → Tree Leaf Forms.Form
+  abbrev pub empty_of : Forms.Production → Tree Leaf Forms.Production
   empty_of form = Node form Nothing
 
-  abbrev pub least_name : Tree Leaf Forms.Form
+  abbrev pub least_name : Tree Leaf Forms.Production
   least_name = Node Forms.DeclaratorRow (Then (empty_of Forms.NoStar) (Then (Node Forms.DirectName (Then (Alone (sample Name)) (Then (empty_of Forms.NoSuffix) Nothing))) Nothing))
 
-  abbrev pub least_words : Bool → Words → Tree Leaf Forms.Form
+  abbrev pub least_words : Bool → Words → Tree Leaf Forms.Production
   least_words own NoWord = Node (Forms.BaseWord own NoWord Int (Integers NoSign NoSize true)) (Then (Alone (sample Int)) (Then (empty_of (Forms.BaseEnd own (Integers NoSign NoSize true))) Nothing))
   least_words own FullType = empty_of (Forms.BaseEnd own FullType)
   least_words own (Integers sign size has_int) = empty_of (Forms.BaseEnd own (Integers sign size has_int))
 
-  abbrev pub least_expr : Tree Leaf Forms.Form
+  abbrev pub least_expr : Tree Leaf Forms.Production
   least_expr = end_of (Forms.Single Integer) Integer
 
-  abbrev pub least_direct : Bool → Tree Leaf Forms.Form
+  abbrev pub least_direct : Bool → Tree Leaf Forms.Production
   least_direct named = Node (Forms.ParamArray named) (Then (Alone (sample OpenBracket)) (Then (empty_of Forms.NoLength) (Then (Alone (sample CloseBracket)) (Then (empty_of Forms.NoSuffix) Nothing))))
 
-  abbrev pub least_declared : Tree Leaf Forms.Form
+  abbrev pub least_declared : Tree Leaf Forms.Production
   least_declared = Node Forms.DeclaredRow (Then least_name (Then (Node Forms.DeclaredValues (Then (empty_of Forms.NoValue) (Then (end_of Forms.DeclarationEnd Semicolon) Nothing))) Nothing))
 
-  abbrev pub least_member : Tree Leaf Forms.Form
+  abbrev pub least_member : Tree Leaf Forms.Production
   least_member = Node Forms.MemberRow (Then (least_words false NoWord) (Then least_name (Then (end_of Forms.MemberEnd Semicolon) Nothing)))
 
-  abbrev pub least_type : Tree Leaf Forms.Form
+  abbrev pub least_type : Tree Leaf Forms.Production
   least_type = Node Forms.TypeRow (Then (least_words false NoWord) (Then (empty_of (Forms.OptionalNone false)) Nothing))
 
-  abbrev pub least_of : Forms.Sort → ℕ → Tree Leaf Forms.Form
+  abbrev pub least_of : Forms.Sort → ℕ → Tree Leaf Forms.Production
   least_of Forms.Program level = Node Forms.WholeProgram (Then (empty_of Forms.NoItem) (Then (Alone (sample End)) Nothing))
   least_of Forms.Items level = empty_of Forms.NoItem
   least_of Forms.Item level = Node Forms.ItemStruct (Then (Alone (sample Struct)) (Then (Alone (sample Name)) (Then (empty_of Forms.NoMembers) (Then (end_of Forms.TailAlone Semicolon) Nothing))))
@@ -113,7 +113,7 @@ module _ {Leaf : Type 0} (kind_of : Leaf → Kind) (sample : Kind → Leaf) wher
   least_of Forms.ArgumentsMore level = empty_of Forms.ArgumentsEnd
   least_of Forms.SizeofOperand level = Node Forms.SizeofType (Then (Alone (sample OpenParenthesis)) (Then least_type (Then (Alone (sample CloseParenthesis)) Nothing)))
 
-  abbrev pub language : Table Leaf Kind Forms.Sort Forms.Form
+  abbrev pub language : Table Leaf Kind Forms.Sort Forms.Production
   language = record {
     fits = λ kind leaf. is kind (kind_of leaf);
     is_row = Forms.is_row;

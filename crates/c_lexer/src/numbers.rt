@@ -127,7 +127,8 @@ fn digit_run(base: Base, bytes: &[u8]) -> usize
 
 /// The value of digits of a base, where it is below 2^64.
 fn value_of(base: Base, digits: &[u8]) -> Option<u64>
-    ensures { MatchOption result (2 ^ 64 ≤ digits_from hexadecimal_value (radix base) 0 digits.now) (λ value. value ≡ digits_from hexadecimal_value (radix base) 0 digits.now) }
+    ensures { MatchOption result (2 ^ 64 ≤ digits_from hexadecimal_value (radix base) 0 digits.now)
+        (λ value. value ≡ digits_from hexadecimal_value (radix base) 0 digits.now) }
 {
     let mut value: u64 = 0;
     for digit in digits {

@@ -3,7 +3,7 @@
 use Rattle.std.proofs.Common.{◌≡◌, ℕ, Bool, true, false, ◌||◌, List, [], ◌∷◌, ◌++◌, Some, sym, refl, ◌∙◌, ap, subst}
 use Rattle.std.proofs.lemmas.Bool.{or_parts, or_from}
 use Rattle.std.proofs.lemmas.List.{append-nil}
-use Rattle.grammar_table.specs.Table.{Sym, Token, Part, leaves, Is, nothing, token, part, IsPart, first, after}
+use Rattle.grammar_table.specs.Table.{Symbol, Terminal, Nonterminal, leaves, Is, nothing, token, part, IsPart, first, after}
 use Rattle.grammar_table.specs.Runs.{Whole, Bad, Failed, Run}
 use Rattle.grammar_table.specs.Prefixes.{Accepted}
 use Rattle.c_grammar.specs.declared.kind.Kind.{Kind}
@@ -28,13 +28,13 @@ is_program Forms.Program = true
 is_program _ = false
 
 -- May the end of a text stand in the trees of these symbols?
-abbrev may_end : List (Sym Kind Forms.Sort) → Bool
+abbrev may_end : List (Symbol Kind Forms.Sort) → Bool
 may_end [] = false
-may_end (Token kind ∷ symbols) = is kind End || may_end symbols
-may_end (Part sort level ∷ symbols) = is_program sort || may_end symbols
+may_end (Terminal kind ∷ symbols) = is kind End || may_end symbols
+may_end (Nonterminal sort level ∷ symbols) = is_program sort || may_end symbols
 
 -- No row begins with it.
-other_token : (kind : Kind) (row : Kind → Forms.Form) → Forms.is_row (row End) ≡ false → Forms.is_row (row kind) ≡ true → is kind End ≡ false
+other_token : (kind : Kind) (row : Kind → Forms.Production) → Forms.is_row (row End) ≡ false → Forms.is_row (row kind) ≡ true → is kind End ≡ false
 other_token kind row none is_row = by (is kind End) refl
   where
     by : (test : Bool) → is kind End ≡ test → is kind End ≡ false
@@ -43,7 +43,7 @@ other_token kind row none is_row = by (is kind End) refl
         let clash : true ≡ false = sym is_row ∙ ap (λ k. Forms.is_row (row k)) (is_same kind End e) ∙ none in
         absurd (cc clash)
 
-inside : (form : Forms.Form) → Forms.is_row form ≡ true → is_program (Forms.sort_of form) ≡ false → may_end (Forms.symbols_of form) ≡ false
+inside : (form : Forms.Production) → Forms.is_row form ≡ true → is_program (Forms.sort_of form) ≡ false → may_end (Forms.symbols_of form) ≡ false
 inside Forms.WholeProgram row other = absurd (cc other)
 inside (Forms.Storage kind) row other = or_from (is kind End) false (other_token kind Forms.Storage refl row) refl
 inside (Forms.ItemTyped kind next) row other = or_from (is kind End) false (other_token kind (λ k. Forms.ItemTyped k next) refl row) refl
@@ -70,7 +70,7 @@ beside (leaf ∷ xs) ys e h =
     or_from (is (kind_of leaf) End) (holds_end (xs ++ ys)) p.0 (beside xs ys p.1 h)
 
 mutual
-  parts_end : {symbols : List (Sym Kind Forms.Sort)} {tree : Parse} → Is grammar symbols tree → may_end symbols ≡ false → holds_end (leaves tree) ≡ false
+  parts_end : {symbols : List (Symbol Kind Forms.Sort)} {tree : Parse} → Is grammar symbols tree → may_end symbols ≡ false → holds_end (leaves tree) ≡ false
   parts_end nothing none = refl
   parts_end (token {kind = kind} {symbols = symbols} {others = others} leaf fits is_others) none =
       let p = or_parts (is kind End) (may_end symbols) none in
@@ -91,7 +91,7 @@ pub record EndsOnce (text : List Leaf) : Type 0 where
   pub parts : text ≡ items ++ last ∷ []
   pub none : holds_end items ≡ false
 
-no_program : {level : ℕ} (form : Forms.Form) → Forms.sort_of form ≡ Forms.Program → Forms.left_of form ≡ Some level → ⊥
+no_program : {level : ℕ} (form : Forms.Production) → Forms.sort_of form ≡ Forms.Program → Forms.left_of form ≡ Some level → ⊥
 no_program {level = level} form sorted left = let expr : Forms.Program ≡ Forms.Expr = sym sorted ∙ left_expr form level left in cc expr
 
 program_ends : {level : ℕ} {tree : Parse} → IsPart grammar Forms.Program level tree → EndsOnce (leaves tree)

@@ -2,7 +2,7 @@
 use Rattle.std.proofs.Common.{◌≡◌, ℕ, ◌≤◌, Bool, true, List, [], ◌∷◌, Result, Ok, Err, Option, Some, sym, refl, ◌∙◌, ap, subst, arith}
 use Rattle.std.specs.Prelude.{◌<◌, length, IfOk, IfSome}
 use Rattle.text_place.specs.declared.place.Pos.{Pos}
-use Rattle.grammar_table.specs.Table.{Sym, Token, Part, Alone, Nothing, Then, Node}
+use Rattle.grammar_table.specs.Table.{Symbol, Terminal, Nonterminal, Alone, Nothing, Then, Node}
 use Rattle.grammar_table.specs.Runs.{Job, Parts, Whole, Fault, Bad, Done, Failed, Run, at_end, unfit, token_done, token_failed, part_done, part_failed}
 use Rattle.c_grammar.specs.declared.kind.Kind.{Kind}
 use Rattle.c_grammar.specs.declared.kind.Kind.TheVariants as K
@@ -32,7 +32,7 @@ use Rattle.c_reader_tokens.proofs.Reaching.{Row, Reached, part_at}
 use Rattle.c_reader_tokens.proofs.WordRows.{begins_passed, ended, word_kinds}
 
 -- what the last symbol of a row gives
-pub part_through : {job : Job Leaf Kind Forms.Sort Forms.Form} {room below : ℕ} {text rest : List Leaf} {wrap : Parse → Parse} {sort : Forms.Sort} {B A : Type 0} (shape_of shape_mid : Parse → A) (tree_of : B → A) (result : Result (memory_part.Part B) SyntaxErr) → Reached job room text wrap (Part sort 0 ∷ []) below rest → ((parse : Parse) → shape_of (wrap (Then parse Nothing)) ≡ shape_mid parse) → GivesPart (Whole sort 0) below rest shape_mid tree_of result → GivesPart job room text shape_of tree_of result
+pub part_through : {job : Job Leaf Kind Forms.Sort Forms.Production} {room below : ℕ} {text rest : List Leaf} {wrap : Parse → Parse} {sort : Forms.Sort} {B A : Type 0} (shape_of shape_mid : Parse → A) (tree_of : B → A) (result : Result (memory_part.Part B) SyntaxErr) → Reached job room text wrap (Nonterminal sort 0 ∷ []) below rest → ((parse : Parse) → shape_of (wrap (Then parse Nothing)) ≡ shape_mid parse) → GivesPart (Whole sort 0) below rest shape_mid tree_of result → GivesPart job room text shape_of tree_of result
 part_through {wrap = wrap} shape_of shape_mid tree_of (Ok part) r e given = record {
   parse = wrap (Then given.parse Nothing);
   run = r.done (Then given.parse Nothing) (leaves_of part.rest.now) (part_done given.run at_end);
@@ -41,13 +41,13 @@ part_through {wrap = wrap} shape_of shape_mid tree_of (Ok part) r e given = reco
 part_through shape_of shape_mid tree_of (Err fault) r e given = part_at fault r given
 
 -- a name
-pub name : {job : Job Leaf Kind Forms.Sort Forms.Form} {room below : ℕ} {text rest rest' : List Leaf} {wrap : Parse → Parse} {symbols : List (Sym Kind Forms.Sort)} {tree : Trees.NameTree} → Reached job room text wrap (Token K.Name ∷ symbols) below rest → (p : PassesName rest tree rest') → Reached job room text (λ others. wrap (Then (Alone p.leaf) others)) symbols below rest'
+pub name : {job : Job Leaf Kind Forms.Sort Forms.Production} {room below : ℕ} {text rest rest' : List Leaf} {wrap : Parse → Parse} {symbols : List (Symbol Kind Forms.Sort)} {tree : Trees.NameTree} → Reached job room text wrap (Terminal K.Name ∷ symbols) below rest → (p : PassesName rest tree rest') → Reached job room text (λ others. wrap (Then (Alone p.leaf) others)) symbols below rest'
 name {below = below} {symbols = symbols} r p = record {
-  done = λ others behind run. r.done (Then (Alone p.leaf) others) behind (subst (λ x. Run grammar (Parts (Token K.Name ∷ symbols)) below x (Done (Then (Alone p.leaf) others) behind)) (sym p.parts) (token_done (ap (is K.Name) p.is_kind ∙ is_self K.Name) run));
-  failed = λ why behind run. r.failed why behind (subst (λ x. Run grammar (Parts (Token K.Name ∷ symbols)) below x (Failed why behind)) (sym p.parts) (token_failed (ap (is K.Name) p.is_kind ∙ is_self K.Name) run));
+  done = λ others behind run. r.done (Then (Alone p.leaf) others) behind (subst (λ x. Run grammar (Parts (Terminal K.Name ∷ symbols)) below x (Done (Then (Alone p.leaf) others) behind)) (sym p.parts) (token_done (ap (is K.Name) p.is_kind ∙ is_self K.Name) run));
+  failed = λ why behind run. r.failed why behind (subst (λ x. Run grammar (Parts (Terminal K.Name ∷ symbols)) below x (Failed why behind)) (sym p.parts) (token_failed (ap (is K.Name) p.is_kind ∙ is_self K.Name) run));
 }
 
-pub no_name_at : {job : Job Leaf Kind Forms.Sort Forms.Form} {room below : ℕ} {text rest : List Leaf} {wrap : Parse → Parse} {symbols : List (Sym Kind Forms.Sort)} (fault : SyntaxErr) → Reached job room text wrap (Token K.Name ∷ symbols) below rest → IsUnfit K.Name rest fault → Fails job room text fault
+pub no_name_at : {job : Job Leaf Kind Forms.Sort Forms.Production} {room below : ℕ} {text rest : List Leaf} {wrap : Parse → Parse} {symbols : List (Symbol Kind Forms.Sort)} (fault : SyntaxErr) → Reached job room text wrap (Terminal K.Name ∷ symbols) below rest → IsUnfit K.Name rest fault → Fails job room text fault
 no_name_at {rest = rest} (At place) r u = record { behind = rest; run = r.failed Bad rest (unfit u.0); stands = u.1 }
 no_name_at (TooDeep place) r u = absurd u
 no_name_at OutOfMemory r u = tt

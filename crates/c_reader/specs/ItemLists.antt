@@ -1,16 +1,18 @@
 -- The syntax trees of items and members, from the trees in memory and from parts that were read before.
-use Rattle.std.specs.Prelude.{List, [], ◌∷◌}
+use Rattle.std.specs.Prelude.{List, [], ◌∷◌, map, Box, Vec}
+use Rattle.std.specs.declared.alloc.Global.{Global}
 use Rattle.text_place.specs.declared.place.Pos.{Pos}
 use Rattle.grammar_table.specs.Table.{Then, Node, Nothing}
 use Rattle.c_grammar.specs.Forms
 use Rattle.c_syntax.specs.declared.name.Name as memory_name
 use Rattle.c_syntax.specs.declared.expr.Declarator.{Declarator}
+use Rattle.c_syntax.specs.declared.declaration.Base.{Base}
 use Rattle.c_syntax.specs.declared.declaration.Item.{Item}
 use Rattle.c_syntax.specs.declared.declaration.Member.{Member}
 use Rattle.c_syntax.specs.Trees
-use Rattle.c_syntax.specs.Views.{name_tree, declarator_tree, member_tree, item_tree}
+use Rattle.c_syntax.specs.Views.{name_tree, base_tree, declarator_tree, member_tree, item_tree}
 use Rattle.c_reader_tokens.specs.Grammar.{Parse}
-use Rattle.c_reader_tokens.specs.Shapes.{first_value_of, declarators_of, member_of, more_members_of, body_of}
+use Rattle.c_reader_tokens.specs.Shapes.{first_value_of, declarators_of, member_declarators_of, member_of, more_members_of, body_of}
 
 abbrev pub item_before : Item → List Trees.ItemTree → List Trees.ItemTree
 item_before item items = item_tree item ∷ items
@@ -31,3 +33,24 @@ abbrev pub after_of : Trees.BaseTree → Trees.DeclaratorTree → Parse → Tree
 after_of base declarator (Node Forms.FunctionBody (Then body Nothing)) = body_of base declarator body
 after_of base declarator (Node Forms.DeclaredValues (Then value (Then others Nothing))) = Trees.Declaration base (record { declarator = declarator; init = first_value_of value } ∷ declarators_of others)
 after_of base declarator after = Trees.Declaration base []
+
+-- the members of a declaration in memory, and one with those that are read behind it
+abbrev pub member_declarators_in : Vec Declarator Global → List Trees.DeclaratorTree
+member_declarators_in declarators = map declarator_tree declarators.items
+
+abbrev pub member_declarators_from : Declarator → Parse → List Trees.DeclaratorTree
+member_declarators_from first parse = declarator_tree first ∷ member_declarators_of parse
+
+-- the declarations of members in memory, and one with those that are read behind it
+abbrev pub members_in : Vec Member Global → List Trees.MemberTree
+members_in members = map member_tree members.items
+
+abbrev pub members_from : Member → Parse → List Trees.MemberTree
+members_from first parse = member_tree first ∷ more_members_of parse
+
+-- what follows the first declarator of an item in memory, and a body there
+abbrev pub after_in : Box Base Global → Box Declarator Global → Parse → Trees.ItemTree
+after_in base declarator parse = after_of (base_tree base.value) (declarator_tree declarator.value) parse
+
+abbrev pub body_in : Box Base Global → Box Declarator Global → Parse → Trees.ItemTree
+body_in base declarator parse = body_of (base_tree base.value) (declarator_tree declarator.value) parse

@@ -2,7 +2,6 @@
 -- read.
 use Rattle.std.specs.Prelude.{◌≡◌, ℕ, List, [], ◌∷◌, Result, Ok, Err}
 use Rattle.text_place.specs.declared.place.Pos.{Pos}
-use Rattle.grammar_table.specs.Runs.{Deep}
 use Rattle.grammar_table.specs.Prefixes.{Accepted, IsMisfit, IsTooDeep}
 use Rattle.c_grammar.specs.declared.kind.Kind.TheVariants.{End}
 use Rattle.c_grammar.specs.Forms.{Program}
@@ -10,7 +9,6 @@ use Rattle.c_token.specs.Leaves.{Leaf, kind_of}
 use Rattle.c_syntax.specs.Trees.{ProgramTree}
 use Rattle.c_syntax.specs.declared.declaration.Program as memory_program
 use Rattle.c_syntax.specs.Views.{program_tree}
-use Rattle.c_reader_tokens.specs.declared.token.Read.{Read}
 use Rattle.c_reader_tokens.specs.declared.syntax_err.SyntaxErr.{SyntaxErr}
 use Rattle.c_reader_tokens.specs.declared.syntax_err.SyntaxErr.TheVariants.{At, TooDeep, OutOfMemory}
 use Rattle.c_reader_tokens.specs.Grammar.{grammar}

@@ -9,10 +9,10 @@ ghost use Rattle.c_token.specs.Leaves.{leaves_of};
 ghost use Rattle.c_syntax.specs.Views.{base_tree, declarator_tree, item_tree, member_tree};
 ghost use Rattle.c_reader_tokens.specs.Shapes as shapes;
 ghost use Rattle.c_reader_tokens.specs.Lists.{folds};
-ghost use Rattle.c_reader_tokens.specs.Rows.{GivesPart, GivesElement, TellsRow, Tells};
+ghost use Rattle.c_reader_tokens.specs.Rows.{GivesPart, GivesElement, GivesForm, GivesMore, TellsRow, Tells};
 ghost use Rattle.c_reader_tokens.specs.Steps.{EndsWords};
 ghost use Rattle.c_reader.specs.ItemForms.{item_form, items_form, tail_form, after_form, members_opt_form, members_form, member_more_form};
-ghost use Rattle.c_reader.specs.ItemLists.{item_before, member_before, member_declarator_before, struct_from, after_of};
+ghost use Rattle.c_reader.specs.ItemLists.{item_before, member_before, member_declarator_before, member_declarators_in, member_declarators_from, members_in, members_from, struct_from, after_of, after_in, body_in};
 
 use c_grammar::{Kind, Words};
 use c_reader_expressions::{read_declarator, read_simple};
@@ -52,7 +52,7 @@ fn read_next_member_declarator(
     tokens: &[Token],
     room: u32,
 ) -> Result<Part<'_, Option<Declarator>>, SyntaxErr>
-    ensures gives { GivesElement (Whole forms.MemberMore 0) room (leaves_of tokens.now) shapes.member_declarators_of member_declarator_before [] (Whole forms.MemberMore 0) shapes.member_declarators_of result }
+    ensures gives { GivesMore forms.MemberMore room (leaves_of tokens.now) shapes.member_declarators_of member_declarator_before [] result }
     ensures shorter { IfOk result (λ part. length part.rest.now < length tokens.now) }
 {
     match member_more_row(first_kind(tokens)?) {
@@ -83,7 +83,7 @@ fn read_member_declarators(
     room: u32,
     first: Declarator,
 ) -> Result<Part<'_, Vec<Declarator>>, SyntaxErr>
-    ensures gives { GivesPart (Whole forms.MemberMore 0) room (leaves_of tokens.now) (λ parse. declarator_tree first ∷ shapes.member_declarators_of parse) (λ declarators. map declarator_tree declarators.items) result }
+    ensures gives { GivesPart (Whole forms.MemberMore 0) room (leaves_of tokens.now) (member_declarators_from first) member_declarators_in result }
     ensures shorter { IfOk result (λ part. length part.rest.now < length tokens.now) }
 {
     let mut declarators = Vec::new(alloc);
@@ -148,7 +148,7 @@ fn read_next_member(
     tokens: &[Token],
     room: u32,
 ) -> Result<Part<'_, Option<Member>>, SyntaxErr>
-    ensures gives { GivesElement (Whole forms.MembersMore 0) room (leaves_of tokens.now) shapes.more_members_of member_before [] (Whole forms.MembersMore 0) shapes.more_members_of result }
+    ensures gives { GivesMore forms.MembersMore room (leaves_of tokens.now) shapes.more_members_of member_before [] result }
     ensures shorter { IfOk result (λ part. length part.rest.now < length tokens.now) }
 {
     match members_row(first_kind(tokens)?) {
@@ -178,7 +178,7 @@ fn read_members(
     room: u32,
     first: Member,
 ) -> Result<Part<'_, Vec<Member>>, SyntaxErr>
-    ensures gives { GivesPart (Whole forms.MembersMore 0) room (leaves_of tokens.now) (λ parse. member_tree first ∷ shapes.more_members_of parse) (λ members. map member_tree members.items) result }
+    ensures gives { GivesPart (Whole forms.MembersMore 0) room (leaves_of tokens.now) (members_from first) members_in result }
     ensures shorter { IfOk result (λ part. length part.rest.now < length tokens.now) }
 {
     let mut members = Vec::new(alloc);
@@ -277,7 +277,7 @@ fn read_function(
     base: Box<Base>,
     declarator: Box<Declarator>,
 ) -> Result<Part<'_, Item>, SyntaxErr>
-    ensures gives { GivesPart (Whole forms.Body 0) room (leaves_of tokens.now) (shapes.body_of (base_tree base.value) (declarator_tree declarator.value)) item_tree result }
+    ensures gives { GivesPart (Whole forms.Body 0) room (leaves_of tokens.now) (body_in base declarator) item_tree result }
     ensures shorter { IfOk result (λ part. length part.rest.now < length tokens.now) }
 {
     if !first_kind(tokens)?.is(Kind::OpenBrace) {
@@ -326,7 +326,7 @@ fn read_after_declarator(
     base: Box<Base>,
     declarator: Box<Declarator>,
 ) -> Result<Part<'_, Item>, SyntaxErr>
-    ensures gives { GivesPart (Whole forms.AfterDeclarator 0) room (leaves_of tokens.now) (after_of (base_tree base.value) (declarator_tree declarator.value)) item_tree result }
+    ensures gives { GivesPart (Whole forms.AfterDeclarator 0) room (leaves_of tokens.now) (after_in base declarator) item_tree result }
     ensures shorter { IfOk result (λ part. length part.rest.now < length tokens.now) }
 {
     match after_row(first_kind(tokens)?) {
@@ -405,7 +405,7 @@ fn read_struct_tail(
 
 /// Reads an item that begins with a struct.
 fn read_struct_item(alloc: Global, tokens: &[Token], room: u32) -> Result<Part<'_, Item>, SyntaxErr>
-    ensures gives { GivesPart (Parts (forms.symbols_of forms.ItemStruct)) room (leaves_of tokens.now) (λ parts. shapes.item_of (Node forms.ItemStruct parts)) item_tree result }
+    ensures gives { GivesForm forms.ItemStruct room (leaves_of tokens.now) shapes.item_of item_tree result }
     ensures shorter { IfOk result (λ part. length part.rest.now < length tokens.now) }
 {
     let word = pass(tokens, Kind::Struct)?;
@@ -473,7 +473,7 @@ fn read_typed_item(
     kind: Kind,
     words: Words,
 ) -> Result<Part<'_, Item>, SyntaxErr>
-    ensures gives { GivesPart (Parts (forms.symbols_of (forms.ItemTyped kind words))) room (leaves_of tokens.now) (λ parts. shapes.item_of (Node (forms.ItemTyped kind words) parts)) item_tree result }
+    ensures gives { GivesForm (forms.ItemTyped kind words) room (leaves_of tokens.now) shapes.item_of item_tree result }
     ensures shorter { IfOk result (λ part. length part.rest.now < length tokens.now) }
 {
     let word = pass(tokens, kind)?;
@@ -550,7 +550,7 @@ fn read_next_item(
     tokens: &[Token],
     room: u32,
 ) -> Result<Part<'_, Option<Item>>, SyntaxErr>
-    ensures gives { GivesElement (Whole forms.Items 0) room (leaves_of tokens.now) shapes.items_of item_before [] (Whole forms.Items 0) shapes.items_of result }
+    ensures gives { GivesMore forms.Items room (leaves_of tokens.now) shapes.items_of item_before [] result }
     ensures shorter { IfOk result (λ part. IfSome part.value (λ item. length part.rest.now < length tokens.now)) }
 {
     match items_row(first_kind(tokens)?) {

@@ -3,7 +3,7 @@ use Rattle.std.proofs.Common.{◌≡◌, ℕ, suc, ◌+◌, ◌<◌, ◌≤◌, 
 use Rattle.std.proofs.lemmas.Bool.{or_parts}
 use Rattle.std.proofs.lemmas.List.{length-map}
 use Rattle.text_place.specs.declared.place.Pos.{Pos}
-use Rattle.grammar_table.specs.Table.{Sym, Token, Part, Alone, Nothing, Then, Node, Never, Take, Stuck, height}
+use Rattle.grammar_table.specs.Table.{Symbol, Terminal, Nonterminal, Alone, Nothing, Then, Node, Never, Take, Stuck, height}
 use Rattle.grammar_table.specs.Runs.{Parts, Whole, More, Fault, Outcome, Run, Done, Failed, fits_first, no_memory, at_end, unfit, token_done, token_failed, part_done, part_failed, never, stuck, stuck_deep, first_deep, second_deep, row_failed, row_done, no_more, more_deep, more_failed, more_done}
 use Rattle.grammar_table.proofs.Exact.{shrinks}
 use Rattle.c_grammar.specs.declared.kind.Kind.{Kind}
@@ -43,7 +43,7 @@ use Rattle.c_reader_tokens.proofs.Rows.{Within, Chosen, chosen, no_tokens, no_ro
 
 -- ---- the length of an array
 
-length_row : {kind : Kind} {room : ℕ} {text : List Leaf} → Begins kind text → begins_expr kind ≡ true → 1 ≤ room → Within Forms.Length 0 room text room (Part Forms.Expr 14 ∷ []) text (Node Forms.LengthRow)
+length_row : {kind : Kind} {room : ℕ} {text : List Leaf} → Begins kind text → begins_expr kind ≡ true → 1 ≤ room → Within Forms.Length 0 room text room (Nonterminal Forms.Expr 14 ∷ []) text (Node Forms.LengthRow)
 length_row {room = room} begins told fits =
     start room (chosen Forms.Length 0 begins (ap (λ t. take_if t Forms.LengthRow (take Forms.NoLength)) told)) fits fits (omega arith)
 
@@ -76,7 +76,7 @@ type_chosen : (named : Bool) {kind : Kind} {text : List Leaf} → Begins kind te
 type_chosen true begins told = chosen Forms.Param 0 begins (ap (λ t. take_if t Forms.ParamRow Never) told)
 type_chosen false begins told = chosen Forms.Type_name 0 begins (ap (λ t. take_if t Forms.TypeRow Never) told)
 
-type_row : (named : Bool) {kind : Kind} {room : ℕ} {text : List Leaf} → Begins kind text → is_type_word kind ≡ true → Within (Forms.sort_of (type_form named)) 0 room text room (Part (Forms.Base false NoWord) 0 ∷ Part (Forms.Optional named) 0 ∷ []) text (Node (type_form named))
+type_row : (named : Bool) {kind : Kind} {room : ℕ} {text : List Leaf} → Begins kind text → is_type_word kind ≡ true → Within (Forms.sort_of (type_form named)) 0 room text room (Nonterminal (Forms.Base false NoWord) 0 ∷ Nonterminal (Forms.Optional named) 0 ∷ []) text (Node (type_form named))
 type_row true begins told = begin (type_chosen true begins told) refl
 type_row false begins told = begin (type_chosen false begins told) refl
 
@@ -113,7 +113,7 @@ type_read named begins told words declarator same high_is =
 
 -- ---- a declarator that has a name
 
-declarator_row : {kind : Kind} {room : ℕ} {text : List Leaf} (below : ℕ) → Begins kind text → begins_declarator kind ≡ true → 1 ≤ room → below + 1 ≡ room → Within Forms.Declarator 0 room text below (Part Forms.Stars 0 ∷ Part Forms.Direct 0 ∷ []) text (Node Forms.DeclaratorRow)
+declarator_row : {kind : Kind} {room : ℕ} {text : List Leaf} (below : ℕ) → Begins kind text → begins_declarator kind ≡ true → 1 ≤ room → below + 1 ≡ room → Within Forms.Declarator 0 room text below (Nonterminal Forms.Stars 0 ∷ Nonterminal Forms.Direct 0 ∷ []) text (Node Forms.DeclaratorRow)
 declarator_row below begins told fits down =
     start below (chosen Forms.Declarator 0 begins (ap (λ t. take_if t Forms.DeclaratorRow Never) told)) fits fits down
 
@@ -203,7 +203,7 @@ direct_named room stars (Ok read) begins same named =
     }
 direct_named room stars (Err fault) begins same fails = lift fault (record { run = λ run. (begin (by_name begins same) refl).failed run }) fails
 
-nested_row : {kind : Kind} {room : ℕ} {text : List Leaf} → Begins kind text → kind ≡ K.OpenParenthesis → 1 ≤ room → Within Forms.Direct 0 room text room (Token K.OpenParenthesis ∷ Part Forms.Declarator 0 ∷ Token K.CloseParenthesis ∷ Part Forms.Suffixes 0 ∷ []) text (Node Forms.DirectNested)
+nested_row : {kind : Kind} {room : ℕ} {text : List Leaf} → Begins kind text → kind ≡ K.OpenParenthesis → 1 ≤ room → Within Forms.Direct 0 room text room (Terminal K.OpenParenthesis ∷ Nonterminal Forms.Declarator 0 ∷ Terminal K.CloseParenthesis ∷ Nonterminal Forms.Suffixes 0 ∷ []) text (Node Forms.DirectNested)
 nested_row {room = room} begins same fits = start room (by_nested begins same) fits fits (omega arith)
 
 pub nested_deep : {kind : Kind} {text : List Leaf} (room : ℕ) (fault : SyntaxErr) → Begins kind text → kind ≡ K.OpenParenthesis → room < 1 → fault ≡ TooDeep (place_of text) → Fails (Whole Forms.Direct 0) room text fault
@@ -236,7 +236,7 @@ nested_read begins same fits opens inner closes suffixes tree_is high_is =
 
 -- ---- what a declarator is built on that may lack its name
 
-some_row : (named : Bool) {kind : Kind} {room : ℕ} {text : List Leaf} → Begins kind text → begins_direct named kind ≡ true → Within (Forms.DirectOptional named) 0 room text room (Part (Forms.ParamDirect named) 0 ∷ []) text (Node (Forms.DirectSome named))
+some_row : (named : Bool) {kind : Kind} {room : ℕ} {text : List Leaf} → Begins kind text → begins_direct named kind ≡ true → Within (Forms.DirectOptional named) 0 room text room (Nonterminal (Forms.ParamDirect named) 0 ∷ []) text (Node (Forms.DirectSome named))
 some_row named begins told =
     let taken : Chosen (Forms.DirectOptional named) 0 _ (Take (Forms.DirectSome named) 0 0) = chosen (Forms.DirectOptional named) 0 begins (ap (λ t. take_if t (Forms.DirectSome named) (take (Forms.DirectNone named))) told) in
     begin taken refl
@@ -262,7 +262,7 @@ direct_none named begins told same =
     let taken : Chosen (Forms.DirectOptional named) 0 _ (Take (Forms.DirectNone named) 0 0) = chosen (Forms.DirectOptional named) 0 begins (ap (λ t. take_if t (Forms.DirectSome named) (take (Forms.DirectNone named))) told) in
     record { parse = Node (Forms.DirectNone named) Nothing; run = finished (λ level own kind. refl) (begin taken refl); shape = same; measured = refl }
 
-param_row : {named : Bool} {room : ℕ} {text : List Leaf} {form : Forms.Form} → BeginsRow (Forms.ParamDirect named) 0 room text form → Forms.weight_of form ≡ 0 → Within (Forms.ParamDirect named) 0 room text room (Forms.symbols_of form) text (Node form)
+param_row : {named : Bool} {room : ℕ} {text : List Leaf} {form : Forms.Production} → BeginsRow (Forms.ParamDirect named) 0 room text form → Forms.weight_of form ≡ 0 → Within (Forms.ParamDirect named) 0 room text room (Forms.symbols_of form) text (Node form)
 param_row {room = room} row light = start room (record { told = row.chosen }) row.first_fits row.second_fits (omega (arith, light))
 
 pub param_named : (named : Bool) {room stars high : ℕ} {text behind : List Leaf} {tree : Trees.DeclaratorTree} → BeginsRow (Forms.ParamDirect named) 0 room text (Forms.ParamName named) → ReadsNamed room text stars tree high behind → IsRead (Whole (Forms.ParamDirect named) 0) room text (built_of stars) tree high behind
@@ -278,7 +278,7 @@ param_named named {behind = behind} row given =
 pub param_named_fault : (named : Bool) {text : List Leaf} (room : ℕ) (fault : SyntaxErr) → BeginsRow (Forms.ParamDirect named) 0 room text (Forms.ParamName named) → Fails (Parts (Forms.symbols_of Forms.DirectName)) room text fault → Fails (Whole (Forms.ParamDirect named) 0) room text fault
 param_named_fault named room fault row fails = lift fault (record { run = λ run. (param_row row refl).failed run }) fails
 
-nested_param : {named : Bool} {room : ℕ} {text : List Leaf} → BeginsRow (Forms.ParamDirect named) 0 room text (Forms.ParamNested named) → Within (Forms.ParamDirect named) 0 room text room (Token K.OpenParenthesis ∷ Part (Forms.Inner named) 0 ∷ Token K.CloseParenthesis ∷ Part Forms.Suffixes 0 ∷ []) text (Node (Forms.ParamNested named))
+nested_param : {named : Bool} {room : ℕ} {text : List Leaf} → BeginsRow (Forms.ParamDirect named) 0 room text (Forms.ParamNested named) → Within (Forms.ParamDirect named) 0 room text room (Terminal K.OpenParenthesis ∷ Nonterminal (Forms.Inner named) 0 ∷ Terminal K.CloseParenthesis ∷ Nonterminal Forms.Suffixes 0 ∷ []) text (Node (Forms.ParamNested named))
 nested_param row = param_row row refl
 
 pub param_unopened : {named : Bool} {text : List Leaf} (room : ℕ) (fault : SyntaxErr) → BeginsRow (Forms.ParamDirect named) 0 room text (Forms.ParamNested named) → fits_first grammar K.OpenParenthesis text ≡ false → fault ≡ At (place_of text) → Fails (Whole (Forms.ParamDirect named) 0) room text fault
@@ -310,16 +310,16 @@ param_read {named = named} row opens inner closes suffixes tree_is high_is =
 
 -- its row where it begins with a star
 pub record PointerRow {A : Type 0} (sort : Forms.Sort) (named : Bool) (room below : ℕ) (text : List Leaf) (shape_of : Parse → A) (wrap : Trees.DeclaratorTree → A) : Type 0 where
-  pub form : Forms.Form
-  pub row : Within sort 0 room text below (Token K.Star ∷ Part Forms.AfterStar 0 ∷ Part (Forms.DirectOptional named) 0 ∷ []) text (Node form)
+  pub form : Forms.Production
+  pub row : Within sort 0 room text below (Terminal K.Star ∷ Nonterminal Forms.AfterStar 0 ∷ Nonterminal (Forms.DirectOptional named) 0 ∷ []) text (Node form)
   pub ends : EndsThere sort
   pub shape : (star stars direct : Parse) → shape_of (Node form (Then star (Then stars (Then direct Nothing)))) ≡ wrap (Trees.Declarator (suc (stars_after stars)) (direct_of direct) (suffixes_of direct))
   pub high : (parts : Parse) → height grammar (Node form parts) ≡ height grammar parts + 1
 
 -- and where it has none
 pub record PlainRow {A : Type 0} (sort : Forms.Sort) (named : Bool) (room below : ℕ) (text : List Leaf) (shape_of : Parse → A) (wrap : Trees.DeclaratorTree → A) : Type 0 where
-  pub form : Forms.Form
-  pub row : Within sort 0 room text below (Part (Forms.ParamDirect named) 0 ∷ []) text (Node form)
+  pub form : Forms.Production
+  pub row : Within sort 0 room text below (Nonterminal (Forms.ParamDirect named) 0 ∷ []) text (Node form)
   pub ends : EndsThere sort
   pub shape : (direct : Parse) → shape_of (Node form (Then direct Nothing)) ≡ wrap (Trees.Declarator 0 (direct_of direct) (suffixes_of direct))
   pub high : (parts : Parse) → height grammar (Node form parts) ≡ height grammar parts + 1
@@ -417,10 +417,10 @@ by_array begins = chosen Forms.Suffixes 0 begins refl
 by_function : {text : List Leaf} → Begins K.OpenParenthesis text → Chosen Forms.Suffixes 0 text (Take Forms.Function 0 0)
 by_function begins = chosen Forms.Suffixes 0 begins refl
 
-array_row : {room : ℕ} {text : List Leaf} → Begins K.OpenBracket text → Within Forms.Suffixes 0 room text room (Token K.OpenBracket ∷ Part Forms.Length 0 ∷ Token K.CloseBracket ∷ Part Forms.Suffixes 0 ∷ []) text (Node Forms.Array)
+array_row : {room : ℕ} {text : List Leaf} → Begins K.OpenBracket text → Within Forms.Suffixes 0 room text room (Terminal K.OpenBracket ∷ Nonterminal Forms.Length 0 ∷ Terminal K.CloseBracket ∷ Nonterminal Forms.Suffixes 0 ∷ []) text (Node Forms.Array)
 array_row begins = begin (by_array begins) refl
 
-function_row : {room : ℕ} {text : List Leaf} → Begins K.OpenParenthesis text → Within Forms.Suffixes 0 room text room (Token K.OpenParenthesis ∷ Part Forms.Params 0 ∷ Token K.CloseParenthesis ∷ Part Forms.Suffixes 0 ∷ []) text (Node Forms.Function)
+function_row : {room : ℕ} {text : List Leaf} → Begins K.OpenParenthesis text → Within Forms.Suffixes 0 room text room (Terminal K.OpenParenthesis ∷ Nonterminal Forms.Params 0 ∷ Terminal K.CloseParenthesis ∷ Nonterminal Forms.Suffixes 0 ∷ []) text (Node Forms.Function)
 function_row begins = begin (by_function begins) refl
 
 pub array_unopened : {text : List Leaf} (room : ℕ) (fault : SyntaxErr) → Begins K.OpenBracket text → fits_first grammar K.OpenBracket text ≡ false → fault ≡ At (place_of text) → Fails (Whole Forms.Suffixes 0) room text fault
@@ -533,7 +533,7 @@ stays {sort = sort} {level = level} {left = left} {text = text} ends (more_done 
     absurd (cc none_is_some)
 
 -- So the only fault there is want of memory, which any job may come to.
-nothing_fails : {sort : Forms.Sort} {level room : ℕ} {left : Parse} {text behind : List Leaf} {fault : Fault} {symbols : List (Sym Kind Forms.Sort)} {start : List Leaf} → EndsThere sort → Run grammar (More sort level left) room text (Failed fault behind) → Run grammar (Parts symbols) room start (Failed fault behind)
+nothing_fails : {sort : Forms.Sort} {level room : ℕ} {left : Parse} {text behind : List Leaf} {fault : Fault} {symbols : List (Symbol Kind Forms.Sort)} {start : List Leaf} → EndsThere sort → Run grammar (More sort level left) room text (Failed fault behind) → Run grammar (Parts symbols) room start (Failed fault behind)
 nothing_fails ends (no_memory behind) = no_memory behind
 nothing_fails {sort = sort} {level = level} {left = left} {text = text} ends (more_deep {form = form} next short) =
     let none_is_some : None ≡ Some form = sym (nothing_more sort level left text ends) ∙ next in
@@ -546,28 +546,28 @@ nothing_fails {sort = sort} {level = level} {left = left} {text = text} ends (mo
     absurd (cc none_is_some)
 
 -- The same row, with all of the room.
-as_row : {form form' : Forms.Form} {room below : ℕ} {text : List Leaf} {outcome : Outcome Leaf Forms.Form} → Forms.weight_of form ≡ 0 → form' ≡ form → below + Forms.weight_of form' ≡ room → Run grammar (Parts (Forms.symbols_of form')) below text outcome → Run grammar (Parts (Forms.symbols_of form)) room text outcome
+as_row : {form form' : Forms.Production} {room below : ℕ} {text : List Leaf} {outcome : Outcome Leaf Forms.Production} → Forms.weight_of form ≡ 0 → form' ≡ form → below + Forms.weight_of form' ≡ room → Run grammar (Parts (Forms.symbols_of form')) below text outcome → Run grammar (Parts (Forms.symbols_of form)) room text outcome
 as_row {form = form} {room = room} {below = below} {text = text} {outcome = outcome} light same down run =
     let weight_is = ap Forms.weight_of same in
     let low : below ≡ room = omega (arith, light, weight_is, down) in
     subst (λ n. Run grammar (Parts (Forms.symbols_of form)) n text outcome) low (subst (λ f. Run grammar (Parts (Forms.symbols_of f)) below text outcome) same run)
 
-same_form : {form form' : Forms.Form} {first second first' second' : ℕ} → Take form first second ≡ Take form' first' second' → form ≡ form'
+same_form : {form form' : Forms.Production} {first second first' second' : ℕ} → Take form first second ≡ Take form' first' second' → form ≡ form'
 same_form e = cc e
 
-first_is : {form form' : Forms.Form} {first second first' second' : ℕ} → Take form first second ≡ Take form' first' second' → first ≡ first'
+first_is : {form form' : Forms.Production} {first second first' second' : ℕ} → Take form first second ≡ Take form' first' second' → first ≡ first'
 first_is e = cc e
 
-second_is : {form form' : Forms.Form} {first second first' second' : ℕ} → Take form first second ≡ Take form' first' second' → second ≡ second'
+second_is : {form form' : Forms.Production} {first second first' second' : ℕ} → Take form first second ≡ Take form' first' second' → second ≡ second'
 second_is e = cc e
 
 -- the trees of a row's symbols, of which a tree was made
-record ByRow (form : Forms.Form) (room : ℕ) (text : List Leaf) (tree : Parse) (behind : List Leaf) : Type 0 where
+record ByRow (form : Forms.Production) (room : ℕ) (text : List Leaf) (tree : Parse) (behind : List Leaf) : Type 0 where
   parts : Parse
   run : Run grammar (Parts (Forms.symbols_of form)) room text (Done parts behind)
   tree_is : Node form parts ≡ tree
 
-by_row : {sort : Forms.Sort} {level room : ℕ} {form : Forms.Form} {text behind : List Leaf} {tree : Parse} → EndsThere sort → Forms.weight_of form ≡ 0 → Chosen sort level text (Take form 0 0) → Run grammar (Whole sort level) room text (Done tree behind) → ByRow form room text tree behind
+by_row : {sort : Forms.Sort} {level room : ℕ} {form : Forms.Production} {text behind : List Leaf} {tree : Parse} → EndsThere sort → Forms.weight_of form ≡ 0 → Chosen sort level text (Take form 0 0) → Run grammar (Whole sort level) room text (Done tree behind) → ByRow form room text tree behind
 by_row {room = room} {form = form} {text = text} ends light choice (row_done {parts = parts} told fits fits' down run more) =
     let same = same_form (sym told ∙ choice.told) in
     let end = stays ends more in
@@ -578,7 +578,7 @@ by_row {room = room} {form = form} {text = text} ends light choice (row_done {pa
     }
 
 -- and a fault in one of them
-fault_by_row : {sort : Forms.Sort} {level room : ℕ} {form : Forms.Form} {text behind : List Leaf} {why : Fault} → EndsThere sort → Forms.weight_of form ≡ 0 → Chosen sort level text (Take form 0 0) → Run grammar (Whole sort level) room text (Failed why behind) → Run grammar (Parts (Forms.symbols_of form)) room text (Failed why behind)
+fault_by_row : {sort : Forms.Sort} {level room : ℕ} {form : Forms.Production} {text behind : List Leaf} {why : Fault} → EndsThere sort → Forms.weight_of form ≡ 0 → Chosen sort level text (Take form 0 0) → Run grammar (Whole sort level) room text (Failed why behind) → Run grammar (Parts (Forms.symbols_of form)) room text (Failed why behind)
 fault_by_row ends light choice (no_memory behind) = no_memory behind
 fault_by_row {form = form} ends light choice (never told) =
     let e : Never ≡ Take form 0 0 = sym told ∙ choice.told in absurd (cc e)
@@ -629,7 +629,7 @@ bare_read {named = named} {stars = stars} {behind = behind} D.Array no_name no_n
     }
 
 -- It passes a token at least.
-passes_one : {kind : Kind} {symbols : List (Sym Kind Forms.Sort)} {room : ℕ} {text behind : List Leaf} {parts : Parse} → Run grammar (Parts (Token kind ∷ symbols)) room text (Done parts behind) → length behind < length text
+passes_one : {kind : Kind} {symbols : List (Symbol Kind Forms.Sort)} {room : ℕ} {text behind : List Leaf} {parts : Parse} → Run grammar (Parts (Terminal kind ∷ symbols)) room text (Done parts behind) → length behind < length text
 passes_one (token_done fits run) = let less = shrinks grammar run in omega (arith, less)
 
 pub bare_shorter : {room high : ℕ} {suffixes : Trees.SuffixesTree} (tokens rest : List token_type) (row : DirectRow) → (row ≡ D.Name → ⊥) → (row ≡ D.Nested → ⊥) → direct_starts row (leaves_of tokens) → IsRead (Whole Forms.Suffixes 0) room (leaves_of tokens) suffixes_of suffixes high (leaves_of rest) → length rest < length tokens
@@ -698,7 +698,7 @@ pub record ParametersSoFar (room : ℕ) (text rest : List Leaf) (read : List Par
   pub shape : (tree : Parse) → parameters_of (build tree) ≡ parameters_with read (parameters_of tree)
   pub high_is : (tree : Parse) → height grammar (build tree) ≡ max high (height grammar tree)
 
-parameters_row : {kind : Kind} {room : ℕ} {text : List Leaf} → Begins kind text → is_type_word kind ≡ true → Within Forms.Params 0 room text room (Part Forms.Param 0 ∷ Part Forms.ParamsMore 0 ∷ []) text (Node Forms.OneParam)
+parameters_row : {kind : Kind} {room : ℕ} {text : List Leaf} → Begins kind text → is_type_word kind ≡ true → Within Forms.Params 0 room text room (Nonterminal Forms.Param 0 ∷ Nonterminal Forms.ParamsMore 0 ∷ []) text (Node Forms.OneParam)
 parameters_row begins told = begin (chosen Forms.Params 0 begins (ap (λ t. take_if t Forms.OneParam (take Forms.NoParam)) told)) refl
 
 pub no_parameters : {kind : Kind} {room : ℕ} {text : List Leaf} → Begins kind text → is_type_word kind ≡ false → IsRead (Whole Forms.Params 0) room text parameters_of Trees.NoParameters 0 text
@@ -719,7 +719,7 @@ first_parameter parameter begins told typed same =
       high_is = λ tree. omega (arith, low);
     }
 
-comma_row : {room : ℕ} {text middle : List Leaf} {place : Pos} → Passes K.Comma text place middle → Within Forms.ParamsMore 0 room text room (Token K.Comma ∷ Part Forms.Param 0 ∷ Part Forms.ParamsMore 0 ∷ []) text (Node Forms.ParamsNext)
+comma_row : {room : ℕ} {text middle : List Leaf} {place : Pos} → Passes K.Comma text place middle → Within Forms.ParamsMore 0 room text room (Terminal K.Comma ∷ Nonterminal Forms.Param 0 ∷ Nonterminal Forms.ParamsMore 0 ∷ []) text (Node Forms.ParamsNext)
 comma_row {text = text} {middle = middle} comma =
     let begins : Begins K.Comma text = record { leaf = comma.leaf; behind = middle; parts = comma.parts; is_kind = comma.is_kind } in
     begin (chosen Forms.ParamsMore 0 begins refl) refl

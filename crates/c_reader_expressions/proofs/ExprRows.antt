@@ -1,27 +1,25 @@
 -- The rows of expressions.
-use Rattle.std.proofs.Common.{◌≡◌, ℕ, suc, ◌+◌, ◌<◌, ◌≤◌, max, Bool, true, false, List, [], ◌∷◌, ◌++◌, Option, Some, None, refl, sym, ◌∙◌, ap, subst, append_assoc, arith}
+use Rattle.std.proofs.Common.{◌≡◌, ℕ, ◌+◌, ◌<◌, ◌≤◌, max, false, List, [], ◌∷◌, ◌++◌, Some, None, refl, sym, ◌∙◌, ap, append_assoc, arith}
 use Rattle.std.proofs.lemmas.List.{append-nil}
 use Rattle.text_place.specs.declared.place.Pos.{Pos}
-use Rattle.grammar_table.specs.Table.{Sym, Token, Part, Alone, Nothing, Then, Node, Choice, Never, Take, height, leaves}
-use Rattle.grammar_table.specs.Runs.{Parts, Whole, More, Outcome, Done, Failed, Bad, Deep, Fault, fits_first, level_of, next_row, Run, at_end, no_more, more_deep, more_failed, more_done}
+use Rattle.grammar_table.specs.Table.{Nonterminal, Alone, Nothing, Then, Node, Never, height}
+use Rattle.grammar_table.specs.Runs.{Whole, Done, Failed, Deep, fits_first, level_of, next_row, at_end, no_more, more_deep, more_failed, more_done}
 use Rattle.c_grammar.specs.declared.kind.Kind.{Kind}
 use Rattle.c_grammar.specs.declared.kind.Kind.TheVariants as K
-use Rattle.c_grammar.specs.Kinds.{is}
 use Rattle.c_grammar.specs.Forms
 use Rattle.c_grammar.specs.Chooses.{take, take_if, choose_expr, goes_on_by}
-use Rattle.c_grammar.specs.Language.{choose_at}
-use Rattle.c_token.specs.Leaves.{Leaf, kind_of, sample}
+use Rattle.c_token.specs.Leaves.{Leaf, kind_of}
 use Rattle.c_syntax.specs.Trees
 use Rattle.c_reader_tokens.specs.declared.syntax_err.SyntaxErr.{SyntaxErr}
-use Rattle.c_reader_tokens.specs.declared.syntax_err.SyntaxErr.TheVariants.{At, TooDeep, OutOfMemory}
+use Rattle.c_reader_tokens.specs.declared.syntax_err.SyntaxErr.TheVariants.{At, TooDeep}
 use Rattle.c_reader_tokens.specs.Grammar.{grammar, Parse}
-use Rattle.c_reader_tokens.specs.Shapes.{place_of, bytes_of, name_of, single_of, literals_of, expr_of}
+use Rattle.c_reader_tokens.specs.Shapes.{place_of, bytes_of, literals_of, expr_of}
 use Rattle.c_reader_tokens.specs.Readings.{Fails, IsRead, Begins, Passes}
 use Rattle.c_reader_tokens.specs.Choices.{next_form}
-use Rattle.c_reader_tokens.specs.Steps.{second_kind_of, first_bytes, IsUnfit, Onto, PassesName}
+use Rattle.c_reader_tokens.specs.Steps.{second_kind_of, first_bytes, Onto}
 use Rattle.c_reader_expressions.specs.Steps.{first_single, joined, Chooses, Starts}
 use Rattle.c_reader_tokens.proofs.KindTests.{is_other}
-use Rattle.c_reader_tokens.proofs.Rows.{Within, Chosen, chosen, chosen_by, no_tokens, no_row, no_room, lift, onto_lifts, part_lifts, start, begin, behind_token, behind_part, tail, nothing_yet, finished, misfit, unfit_fault, deep}
+use Rattle.c_reader_tokens.proofs.Rows.{Within, chosen, chosen_by, no_tokens, no_row, no_room, lift, onto_lifts, part_lifts, start, begin, behind_token, behind_part, tail, nothing_yet, finished, misfit, deep}
 
 -- A row of an expression is read.
 pub starts : {level room below : ℕ} {text middle : List Leaf} {build : Parse → Parse} {tree : Trees.ExprTree} {high own : ℕ} → Within Forms.Expr level room text below [] middle build → expr_of (build Nothing) ≡ tree → height grammar (build Nothing) ≡ high → level_of grammar (build Nothing) ≡ own → Starts level room text tree high own middle
@@ -29,11 +27,11 @@ starts {build = build} within shape measured binds =
     record { parse = build Nothing; goes = λ outcome more. within.done at_end more; shape = shape; measured = measured; binds = binds }
 
 -- The row is chosen, and there is room for it.
-pub operand_row : {level room : ℕ} {form : Forms.Form} {text : List Leaf} (below : ℕ) → Chooses level form text → Forms.row_need form ≤ room → below + Forms.weight_of form ≡ room → Within Forms.Expr level room text below (Forms.symbols_of form) text (Node form)
+pub operand_row : {level room : ℕ} {form : Forms.Production} {text : List Leaf} (below : ℕ) → Chooses level form text → Forms.row_need form ≤ room → below + Forms.weight_of form ≡ room → Within Forms.Expr level room text below (Forms.symbols_of form) text (Node form)
 operand_row below chooses fits down = start below (record { told = chooses.told }) fits fits down
 
 -- no room for it
-pub too_deep : {level : ℕ} {form : Forms.Form} {text : List Leaf} (room : ℕ) (fault : SyntaxErr) → Chooses level form text → room < Forms.row_need form → fault ≡ TooDeep (place_of text) → Fails (Whole Forms.Expr level) room text fault
+pub too_deep : {level : ℕ} {form : Forms.Production} {text : List Leaf} (room : ℕ) (fault : SyntaxErr) → Chooses level form text → room < Forms.row_need form → fault ≡ TooDeep (place_of text) → Fails (Whole Forms.Expr level) room text fault
 too_deep room fault chooses short same = no_room room fault (record { told = chooses.told }) short same
 
 -- ---- a token alone
@@ -83,7 +81,7 @@ last_literal {kind = kind} {now = now} so_far begins no_literal =
 pub literals_cut : {text rest : List Leaf} {first now : List ℕ} (room : ℕ) (fault : SyntaxErr) → LiteralsSoFar room text rest first now → rest ≡ [] → fault ≡ At (place_of rest) → Fails (Whole Forms.Literals 0) room text fault
 literals_cut room fault so_far none same = lift fault (onto_lifts so_far.onto) (no_row room fault (no_tokens Forms.Literals 0 none) same)
 
-text_row : {level room : ℕ} {text middle : List Leaf} {place : Pos} (below : ℕ) (passes : Passes K.Literal text place middle) → Chooses level Forms.Text text → 1 ≤ room → below + 1 ≡ room → Within Forms.Expr level room text below (Part Forms.Literals 0 ∷ []) middle (λ others. Node Forms.Text (Then (Alone passes.leaf) others))
+text_row : {level room : ℕ} {text middle : List Leaf} {place : Pos} (below : ℕ) (passes : Passes K.Literal text place middle) → Chooses level Forms.Text text → 1 ≤ room → below + 1 ≡ room → Within Forms.Expr level room text below (Nonterminal Forms.Literals 0 ∷ []) middle (λ others. Node Forms.Text (Then (Alone passes.leaf) others))
 text_row below passes chooses fits down =
     behind_token passes.leaf (operand_row below chooses fits down) passes.parts passes.is_kind
 
@@ -103,7 +101,7 @@ text_misfit room below fault chooses fits down none same = misfit fault (operand
 
 -- ---- what an expression begins with
 
-pub chooses : {level : ℕ} {kind next : Kind} {form : Forms.Form} {text : List Leaf} → Begins kind text → next ≡ second_kind_of text → choose_expr level kind next ≡ take form → Chooses level form text
+pub chooses : {level : ℕ} {kind next : Kind} {form : Forms.Production} {text : List Leaf} → Begins kind text → next ≡ second_kind_of text → choose_expr level kind next ≡ take form → Chooses level form text
 chooses {level = level} {kind = kind} begins second row =
     record { told = chosen_by Forms.Expr level begins ∙ ap (choose_expr level kind) (sym second) ∙ row }
 
@@ -128,7 +126,7 @@ ended {level = level} {rest = rest} begun none =
     }
 
 -- The row goes on, and there is room for it.
-pub extend : {level room high own : ℕ} {text rest : List Leaf} {tree : Trees.ExprTree} {form : Forms.Form} (below : ℕ) (begun : Starts level room text tree high own rest) → next_form level own rest ≡ Some form → Forms.row_need form ≤ room → high ≤ below → below + Forms.weight_of form ≡ room → Within Forms.Expr level room text below (Forms.symbols_of form) rest (λ parts. Node form (Then begun.parse parts))
+pub extend : {level room high own : ℕ} {text rest : List Leaf} {tree : Trees.ExprTree} {form : Forms.Production} (below : ℕ) (begun : Starts level room text tree high own rest) → next_form level own rest ≡ Some form → Forms.row_need form ≤ room → high ≤ below → below + Forms.weight_of form ≡ room → Within Forms.Expr level room text below (Forms.symbols_of form) rest (λ parts. Node form (Then begun.parse parts))
 extend {level = level} {rest = rest} below begun told fits left_fits down =
     let next = next_is level begun.parse rest begun.binds ∙ told in
     let low = begun.measured in
@@ -137,7 +135,7 @@ extend {level = level} {rest = rest} below begun told fits left_fits down =
       failed = λ {fault} {behind = end} run. begun.goes (Failed fault end) (more_failed next fits (omega (arith, left_fits, low)) down run);
     }
 
-pub extend_deep : {level high own : ℕ} {text rest : List Leaf} {tree : Trees.ExprTree} {form : Forms.Form} (room : ℕ) (fault : SyntaxErr) → Starts level room text tree high own rest → next_form level own rest ≡ Some form → Forms.weight_of form ≡ 1 → room < max (Forms.row_need form) (high + 1) → fault ≡ TooDeep (place_of rest) → Fails (Whole Forms.Expr level) room text fault
+pub extend_deep : {level high own : ℕ} {text rest : List Leaf} {tree : Trees.ExprTree} {form : Forms.Production} (room : ℕ) (fault : SyntaxErr) → Starts level room text tree high own rest → next_form level own rest ≡ Some form → Forms.weight_of form ≡ 1 → room < max (Forms.row_need form) (high + 1) → fault ≡ TooDeep (place_of rest) → Fails (Whole Forms.Expr level) room text fault
 extend_deep {level = level} {rest = rest} {form = form} room fault begun told weighs short same =
     let low = begun.measured in
     let less : room < max (Forms.row_need form) (height grammar begun.parse + Forms.weight_of form) = omega (arith, short, low, weighs) in

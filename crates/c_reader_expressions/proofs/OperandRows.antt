@@ -1,7 +1,7 @@
 -- Types in parentheses, what is built of them, and the arguments of calls.
 use Rattle.std.proofs.Common.{◌≡◌, ℕ, zero, suc, ◌+◌, ◌<◌, ◌≤◌, max, Bool, true, false, List, [], ◌∷◌, ◌++◌, refl, sym, ◌∙◌, ap, subst, arith}
 use Rattle.text_place.specs.declared.place.Pos.{Pos}
-use Rattle.grammar_table.specs.Table.{Sym, Token, Part, Alone, Nothing, Then, Node, Choice, Never, Take, Stuck, height}
+use Rattle.grammar_table.specs.Table.{Symbol, Terminal, Nonterminal, Alone, Nothing, Then, Node, Choice, Never, Take, Stuck, height}
 use Rattle.grammar_table.specs.Runs.{Parts, Whole, More, Fault, Done, Failed, fits_first, Run, no_memory, unfit, token_failed, part_failed, then_failed, never, stuck, stuck_deep, first_deep, second_deep, row_failed, row_done}
 use Rattle.c_grammar.specs.declared.kind.Kind.{Kind}
 use Rattle.c_grammar.specs.declared.kind.Kind.TheVariants as K
@@ -31,21 +31,21 @@ use Rattle.c_reader_expressions.proofs.ExprRows.{starts, operand_row, too_deep}
 -- ---- a type in parentheses
 
 -- the symbols of one, and those behind it
-abbrev pub enclosed_symbols : List (Sym Kind Forms.Sort) → List (Sym Kind Forms.Sort)
-enclosed_symbols more = Token K.OpenParenthesis ∷ Part Forms.Type_name 0 ∷ Token K.CloseParenthesis ∷ more
+abbrev pub enclosed_symbols : List (Symbol Kind Forms.Sort) → List (Symbol Kind Forms.Sort)
+enclosed_symbols more = Terminal K.OpenParenthesis ∷ Nonterminal Forms.Type_name 0 ∷ Terminal K.CloseParenthesis ∷ more
 
-pub enclosed_unopened : (text : List Leaf) (room : ℕ) (fault : SyntaxErr) (more : List (Sym Kind Forms.Sort)) → fits_first grammar K.OpenParenthesis text ≡ false → fault ≡ At (place_of text) → Fails (Parts (enclosed_symbols more)) room text fault
+pub enclosed_unopened : (text : List Leaf) (room : ℕ) (fault : SyntaxErr) (more : List (Symbol Kind Forms.Sort)) → fits_first grammar K.OpenParenthesis text ≡ false → fault ≡ At (place_of text) → Fails (Parts (enclosed_symbols more)) room text fault
 enclosed_unopened text room fault more none same = bad fault (unfit none) same
 
 -- What the symbols behind the first token come to, all come to.
-opened : {text inside behind : List Leaf} {place : Pos} {room : ℕ} {why : Fault} {more : List (Sym Kind Forms.Sort)} → Passes K.OpenParenthesis text place inside → Run grammar (Parts (Part Forms.Type_name 0 ∷ Token K.CloseParenthesis ∷ more)) room inside (Failed why behind) → Run grammar (Parts (enclosed_symbols more)) room text (Failed why behind)
+opened : {text inside behind : List Leaf} {place : Pos} {room : ℕ} {why : Fault} {more : List (Symbol Kind Forms.Sort)} → Passes K.OpenParenthesis text place inside → Run grammar (Parts (Nonterminal Forms.Type_name 0 ∷ Terminal K.CloseParenthesis ∷ more)) room inside (Failed why behind) → Run grammar (Parts (enclosed_symbols more)) room text (Failed why behind)
 opened {behind = behind} {room = room} {why = why} {more = more} opens run =
     subst (λ leaves. Run grammar (Parts (enclosed_symbols more)) room leaves (Failed why behind)) (sym opens.parts) (token_failed (is_fit K.OpenParenthesis opens.leaf opens.is_kind) run)
 
-pub enclosed_fault : {text inside : List Leaf} {place : Pos} (room : ℕ) (fault : SyntaxErr) (more : List (Sym Kind Forms.Sort)) → Passes K.OpenParenthesis text place inside → Fails (Whole Forms.Type_name 0) room inside fault → Fails (Parts (enclosed_symbols more)) room text fault
+pub enclosed_fault : {text inside : List Leaf} {place : Pos} (room : ℕ) (fault : SyntaxErr) (more : List (Symbol Kind Forms.Sort)) → Passes K.OpenParenthesis text place inside → Fails (Whole Forms.Type_name 0) room inside fault → Fails (Parts (enclosed_symbols more)) room text fault
 enclosed_fault room fault more opens fails = lift fault (record { run = λ run. opened opens (part_failed run) }) fails
 
-pub enclosed_unclosed : {high : ℕ} {text inside rest : List Leaf} {place : Pos} {tree : Trees.TypeTree} (room : ℕ) (fault : SyntaxErr) (more : List (Sym Kind Forms.Sort)) → Passes K.OpenParenthesis text place inside → ReadsType false room inside tree high rest → fits_first grammar K.CloseParenthesis rest ≡ false → fault ≡ At (place_of rest) → Fails (Parts (enclosed_symbols more)) room text fault
+pub enclosed_unclosed : {high : ℕ} {text inside rest : List Leaf} {place : Pos} {tree : Trees.TypeTree} (room : ℕ) (fault : SyntaxErr) (more : List (Symbol Kind Forms.Sort)) → Passes K.OpenParenthesis text place inside → ReadsType false room inside tree high rest → fits_first grammar K.CloseParenthesis rest ≡ false → fault ≡ At (place_of rest) → Fails (Parts (enclosed_symbols more)) room text fault
 enclosed_unclosed room fault more opens named none same = bad fault (opened opens (then_failed named.run (unfit none))) same
 
 pub enclosed_read : {room high : ℕ} {text inside rest behind : List Leaf} {place closing : Pos} {tree : Trees.TypeTree} → Passes K.OpenParenthesis text place inside → ReadsType false room inside tree high rest → Passes K.CloseParenthesis rest closing behind → ReadsEnclosedType room text place tree high behind
@@ -59,12 +59,12 @@ pub enclosed_fits : {room high : ℕ} {text behind : List Leaf} {place : Pos} {t
 enclosed_fits named = type_fits named.named
 
 -- Its symbols are read.
-behind_type : {sort : Forms.Sort} {level room below high : ℕ} {text middle behind : List Leaf} {place : Pos} {tree : Trees.TypeTree} {symbols : List (Sym Kind Forms.Sort)} {build : Parse → Parse} → Within sort level room text below (enclosed_symbols symbols) middle build → (named : ReadsEnclosedType below middle place tree high behind) → Within sort level room text below symbols behind (λ others. build (Then (Alone named.opens.leaf) (Then (Node Forms.TypeRow (Then named.named.base (Then named.named.declarator Nothing))) (Then (Alone named.closes.leaf) others))))
+behind_type : {sort : Forms.Sort} {level room below high : ℕ} {text middle behind : List Leaf} {place : Pos} {tree : Trees.TypeTree} {symbols : List (Symbol Kind Forms.Sort)} {build : Parse → Parse} → Within sort level room text below (enclosed_symbols symbols) middle build → (named : ReadsEnclosedType below middle place tree high behind) → Within sort level room text below symbols behind (λ others. build (Then (Alone named.opens.leaf) (Then (Node Forms.TypeRow (Then named.named.base (Then named.named.declarator Nothing))) (Then (Alone named.closes.leaf) others))))
 behind_type within named =
     behind_token named.closes.leaf (behind_part (after within named.opens) named.named.run) named.closes.parts named.closes.is_kind
 
 -- It has a fault.
-within_fault : {sort : Forms.Sort} {level room below : ℕ} {text middle : List Leaf} {symbols : List (Sym Kind Forms.Sort)} {build : Parse → Parse} (fault : SyntaxErr) → Within sort level room text below symbols middle build → Fails (Parts symbols) below middle fault → Fails (Whole sort level) room text fault
+within_fault : {sort : Forms.Sort} {level room below : ℕ} {text middle : List Leaf} {symbols : List (Symbol Kind Forms.Sort)} {build : Parse → Parse} (fault : SyntaxErr) → Within sort level room text below symbols middle build → Fails (Parts symbols) below middle fault → Fails (Whole sort level) room text fault
 within_fault fault within fails = lift fault (record { run = λ run. within.failed run }) fails
 
 -- ---- what was read, by other names
@@ -84,8 +84,8 @@ renamed {level = level} {room = room} {text = text} same_tree same_own same_high
 pub cast_deep : {level : ℕ} {text : List Leaf} (room : ℕ) (fault : SyntaxErr) → Chooses level Forms.Cast text → room < 2 → fault ≡ TooDeep (place_of text) → Fails (Whole Forms.Expr level) room text fault
 cast_deep room fault chooses short same = too_deep room fault chooses short same
 
-pub cast_type_fault : {level : ℕ} {text : List Leaf} (room below : ℕ) (fault : SyntaxErr) → Chooses level Forms.Cast text → 2 ≤ room → below + 1 ≡ room → ((more : List (Sym Kind Forms.Sort)) → Fails (Parts (enclosed_symbols more)) below text fault) → Fails (Whole Forms.Expr level) room text fault
-cast_type_fault room below fault chooses fits down fails = within_fault fault (operand_row below chooses fits down) (fails (Part Forms.Expr 3 ∷ []))
+pub cast_type_fault : {level : ℕ} {text : List Leaf} (room below : ℕ) (fault : SyntaxErr) → Chooses level Forms.Cast text → 2 ≤ room → below + 1 ≡ room → ((more : List (Symbol Kind Forms.Sort)) → Fails (Parts (enclosed_symbols more)) below text fault) → Fails (Whole Forms.Expr level) room text fault
+cast_type_fault room below fault chooses fits down fails = within_fault fault (operand_row below chooses fits down) (fails (Nonterminal Forms.Expr 3 ∷ []))
 
 pub cast_operand_fault : {level high : ℕ} {text middle : List Leaf} {place : Pos} {tree : Trees.TypeTree} (room below : ℕ) (fault : SyntaxErr) → Chooses level Forms.Cast text → 2 ≤ room → below + 1 ≡ room → ReadsEnclosedType below text place tree high middle → Fails (Whole Forms.Expr 3) below middle fault → Fails (Whole Forms.Expr level) room text fault
 cast_operand_fault room below fault chooses fits down named fails = part_fault fault (behind_type (operand_row below chooses fits down) named) fails
@@ -107,19 +107,19 @@ sizeof_deep room fault chooses short same = too_deep room fault chooses short sa
 pub sizeof_misfit : {level : ℕ} {text : List Leaf} (room below : ℕ) (fault : SyntaxErr) → Chooses level Forms.SizeofRow text → 1 ≤ room → below + 1 ≡ room → fits_first grammar K.Sizeof text ≡ false → fault ≡ At (place_of text) → Fails (Whole Forms.Expr level) room text fault
 sizeof_misfit room below fault chooses fits down none same = misfit fault (operand_row below chooses fits down) none same
 
-sizeof_row : {level room : ℕ} {text middle : List Leaf} {place : Pos} (below : ℕ) → Chooses level Forms.SizeofRow text → 1 ≤ room → below + 1 ≡ room → (word : Passes K.Sizeof text place middle) → Within Forms.Expr level room text below (Part Forms.SizeofOperand 0 ∷ []) middle (λ others. Node Forms.SizeofRow (Then (Alone word.leaf) others))
+sizeof_row : {level room : ℕ} {text middle : List Leaf} {place : Pos} (below : ℕ) → Chooses level Forms.SizeofRow text → 1 ≤ room → below + 1 ≡ room → (word : Passes K.Sizeof text place middle) → Within Forms.Expr level room text below (Nonterminal Forms.SizeofOperand 0 ∷ []) middle (λ others. Node Forms.SizeofRow (Then (Alone word.leaf) others))
 sizeof_row below chooses fits down word = after (operand_row below chooses fits down) word
 
 pub sizeof_operand_fault : {level : ℕ} {text middle : List Leaf} {place : Pos} (room below : ℕ) (fault : SyntaxErr) → Chooses level Forms.SizeofRow text → 1 ≤ room → below + 1 ≡ room → Passes K.Sizeof text place middle → Fails (Whole Forms.SizeofOperand 0) below middle fault → Fails (Whole Forms.Expr level) room text fault
 sizeof_operand_fault room below fault chooses fits down word fails = part_fault fault (sizeof_row below chooses fits down word) fails
 
-operand_of : {room : ℕ} {text : List Leaf} {form : Forms.Form} → BeginsRow Forms.SizeofOperand 0 room text form → Forms.weight_of form ≡ 0 → Within Forms.SizeofOperand 0 room text room (Forms.symbols_of form) text (Node form)
+operand_of : {room : ℕ} {text : List Leaf} {form : Forms.Production} → BeginsRow Forms.SizeofOperand 0 room text form → Forms.weight_of form ≡ 0 → Within Forms.SizeofOperand 0 room text room (Forms.symbols_of form) text (Node form)
 operand_of {room = room} row light = start room (record { told = row.chosen }) row.first_fits row.second_fits (omega (arith, light))
 
 pub at_form : {room : ℕ} {text : List Leaf} {row row' : SizeofRow} → BeginsRow Forms.SizeofOperand 0 room text (sizeof_form row) → row ≡ row' → BeginsRow Forms.SizeofOperand 0 room text (sizeof_form row')
 at_form {room = room} {text = text} begins same = subst (λ r. BeginsRow Forms.SizeofOperand 0 room text (sizeof_form r)) same begins
 
-pub of_type_fault : {level : ℕ} {text middle : List Leaf} {place : Pos} (room below : ℕ) (fault : SyntaxErr) → Chooses level Forms.SizeofRow text → 1 ≤ room → below + 1 ≡ room → Passes K.Sizeof text place middle → BeginsRow Forms.SizeofOperand 0 below middle Forms.SizeofType → ((more : List (Sym Kind Forms.Sort)) → Fails (Parts (enclosed_symbols more)) below middle fault) → Fails (Whole Forms.Expr level) room text fault
+pub of_type_fault : {level : ℕ} {text middle : List Leaf} {place : Pos} (room below : ℕ) (fault : SyntaxErr) → Chooses level Forms.SizeofRow text → 1 ≤ room → below + 1 ≡ room → Passes K.Sizeof text place middle → BeginsRow Forms.SizeofOperand 0 below middle Forms.SizeofType → ((more : List (Symbol Kind Forms.Sort)) → Fails (Parts (enclosed_symbols more)) below middle fault) → Fails (Whole Forms.Expr level) room text fault
 of_type_fault room below fault chooses fits down word row fails =
     sizeof_operand_fault room below fault chooses fits down word (within_fault fault (operand_of row refl) (fails []))
 
@@ -145,12 +145,12 @@ of_expr_read below chooses fits down word row operand =
 
 -- ---- an argument, which takes room
 
-abbrev pub TakesRoom : Choice Forms.Form → Type 0
+abbrev pub TakesRoom : Choice Forms.Production → Type 0
 TakesRoom Never = ⊥
 TakesRoom (Take form first second) = 1 ≤ first
 TakesRoom (Stuck first) = ⊥
 
-either : (told : Bool) (form : Forms.Form) (otherwise : Choice Forms.Form) → TakesRoom (take form) → TakesRoom otherwise → TakesRoom (take_if told form otherwise)
+either : (told : Bool) (form : Forms.Production) (otherwise : Choice Forms.Production) → TakesRoom (take form) → TakesRoom otherwise → TakesRoom (take_if told form otherwise)
 either true form otherwise one other = one
 either false form otherwise one other = other
 
@@ -216,7 +216,7 @@ pub record ArgumentsSoFar (room : ℕ) (text rest : List Leaf) (read : List Expr
 by_argument : {kind : Kind} {text : List Leaf} → Begins kind text → begins_expr kind ≡ true → Chosen Forms.Arguments 0 text (Take Forms.OneArgument 1 1)
 by_argument begins told = chosen Forms.Arguments 0 begins (ap (λ t. take_if t Forms.OneArgument (take Forms.NoArgument)) told)
 
-arguments_row : {kind : Kind} {room : ℕ} {text : List Leaf} → Begins kind text → begins_expr kind ≡ true → 1 ≤ room → Within Forms.Arguments 0 room text room (Part Forms.Expr 15 ∷ Part Forms.ArgumentsMore 0 ∷ []) text (Node Forms.OneArgument)
+arguments_row : {kind : Kind} {room : ℕ} {text : List Leaf} → Begins kind text → begins_expr kind ≡ true → 1 ≤ room → Within Forms.Arguments 0 room text room (Nonterminal Forms.Expr 15 ∷ Nonterminal Forms.ArgumentsMore 0 ∷ []) text (Node Forms.OneArgument)
 arguments_row {room = room} begins told fits = start room (by_argument begins told) fits fits (omega arith)
 
 pub no_arguments : {kind : Kind} {room : ℕ} {text : List Leaf} → Begins kind text → begins_expr kind ≡ false → IsRead (Whole Forms.Arguments 0) room text arguments_of Trees.NoArguments 0 text
@@ -241,7 +241,7 @@ first_argument value begins told read =
       fits = fits;
     }
 
-comma_row : {room : ℕ} {text middle : List Leaf} {place : Pos} → Passes K.Comma text place middle → 1 ≤ room → Within Forms.ArgumentsMore 0 room text room (Token K.Comma ∷ Part Forms.Expr 15 ∷ Part Forms.ArgumentsMore 0 ∷ []) text (Node Forms.ArgumentsNext)
+comma_row : {room : ℕ} {text middle : List Leaf} {place : Pos} → Passes K.Comma text place middle → 1 ≤ room → Within Forms.ArgumentsMore 0 room text room (Terminal K.Comma ∷ Nonterminal Forms.Expr 15 ∷ Nonterminal Forms.ArgumentsMore 0 ∷ []) text (Node Forms.ArgumentsNext)
 comma_row {room = room} {text = text} {middle = middle} comma fits =
     let begins : Begins K.Comma text = record { leaf = comma.leaf; behind = middle; parts = comma.parts; is_kind = comma.is_kind } in
     let taken : Chosen Forms.ArgumentsMore 0 text (Take Forms.ArgumentsNext 1 1) = chosen Forms.ArgumentsMore 0 begins refl in

@@ -1,7 +1,7 @@
 -- The rows of expressions in which tokens and operands stand as frames tell.
 use Rattle.std.proofs.Common.{◌≡◌, ℕ, ◌+◌, ◌<◌, ◌≤◌, max, false, List, [], ◌∷◌, Option, Some, None, refl, sym, ◌∙◌, ap, subst, arith}
 use Rattle.text_place.specs.declared.place.Pos.{Pos}
-use Rattle.grammar_table.specs.Table.{Sym, Token, Part, Alone, Nothing, Then, Node, height}
+use Rattle.grammar_table.specs.Table.{Symbol, Terminal, Nonterminal, Alone, Nothing, Then, Node, height}
 use Rattle.grammar_table.specs.Runs.{Parts, Whole, Fault, Failed, fits_first, Run, unfit, token_failed, part_failed, then_failed}
 use Rattle.c_grammar.specs.declared.kind.Kind.{Kind}
 use Rattle.c_grammar.specs.declared.kind.Kind.TheVariants as K
@@ -29,23 +29,23 @@ use Rattle.c_reader_expressions.proofs.ExprRows.{starts, operand_row, chooses, e
 
 -- ---- one symbol after another
 
-behind_opening : {kind : Kind} {symbols : List (Sym Kind Forms.Sort)} {room : ℕ} {text inside behind : List Leaf} {place : Pos} {fault : Fault} → Passes kind text place inside → Run grammar (Parts symbols) room inside (Failed fault behind) → Run grammar (Parts (Token kind ∷ symbols)) room text (Failed fault behind)
+behind_opening : {kind : Kind} {symbols : List (Symbol Kind Forms.Sort)} {room : ℕ} {text inside behind : List Leaf} {place : Pos} {fault : Fault} → Passes kind text place inside → Run grammar (Parts symbols) room inside (Failed fault behind) → Run grammar (Parts (Terminal kind ∷ symbols)) room text (Failed fault behind)
 behind_opening {kind = kind} {symbols = symbols} {room = room} {behind = behind} {fault = fault} opens run =
-    subst (λ leaves. Run grammar (Parts (Token kind ∷ symbols)) room leaves (Failed fault behind)) (sym opens.parts) (token_failed (is_fit kind opens.leaf opens.is_kind) run)
+    subst (λ leaves. Run grammar (Parts (Terminal kind ∷ symbols)) room leaves (Failed fault behind)) (sym opens.parts) (token_failed (is_fit kind opens.leaf opens.is_kind) run)
 
 -- ---- the faults of a frame
 
-pub closing_fault : {kind : Kind} {last : Option Kind} (text : List Leaf) (fault : SyntaxErr) → last ≡ Some kind → fits_first grammar kind text ≡ false → fault ≡ At (place_of text) → (room : ℕ) (more : List (Sym Kind Forms.Sort)) → Fails (Parts (closing_symbols last more)) room text fault
+pub closing_fault : {kind : Kind} {last : Option Kind} (text : List Leaf) (fault : SyntaxErr) → last ≡ Some kind → fits_first grammar kind text ≡ false → fault ≡ At (place_of text) → (room : ℕ) (more : List (Symbol Kind Forms.Sort)) → Fails (Parts (closing_symbols last more)) room text fault
 closing_fault text fault same none stands room more =
     subst (λ l. Fails (Parts (closing_symbols l more)) room text fault) (sym same) (bad fault (unfit none) stands)
 
-pub opening_fault : (frame : Frame) (text : List Leaf) (room : ℕ) (fault : SyntaxErr) → fits_first grammar frame.first text ≡ false → fault ≡ At (place_of text) → (more : List (Sym Kind Forms.Sort)) → Fails (Parts (frame_symbols frame more)) room text fault
+pub opening_fault : (frame : Frame) (text : List Leaf) (room : ℕ) (fault : SyntaxErr) → fits_first grammar frame.first text ≡ false → fault ≡ At (place_of text) → (more : List (Symbol Kind Forms.Sort)) → Fails (Parts (frame_symbols frame more)) room text fault
 opening_fault frame text room fault none stands more = bad fault (unfit none) stands
 
-pub value_fault : (frame : Frame) {text inside : List Leaf} {place : Pos} (room : ℕ) (fault : SyntaxErr) → Passes frame.first text place inside → Fails (Whole Forms.Expr frame.level) room inside fault → (more : List (Sym Kind Forms.Sort)) → Fails (Parts (frame_symbols frame more)) room text fault
+pub value_fault : (frame : Frame) {text inside : List Leaf} {place : Pos} (room : ℕ) (fault : SyntaxErr) → Passes frame.first text place inside → Fails (Whole Forms.Expr frame.level) room inside fault → (more : List (Symbol Kind Forms.Sort)) → Fails (Parts (frame_symbols frame more)) room text fault
 value_fault frame room fault opens fails more = lift fault (record { run = λ run. behind_opening opens (part_failed run) }) fails
 
-pub last_fault : (frame : Frame) {text inside rest : List Leaf} {place : Pos} {tree : Trees.ExprTree} {high : ℕ} (room : ℕ) (fault : SyntaxErr) → Passes frame.first text place inside → IsRead (Whole Forms.Expr frame.level) room inside expr_of tree high rest → ((room' : ℕ) (more : List (Sym Kind Forms.Sort)) → Fails (Parts (closing_symbols frame.last more)) room' rest fault) → (more : List (Sym Kind Forms.Sort)) → Fails (Parts (frame_symbols frame more)) room text fault
+pub last_fault : (frame : Frame) {text inside rest : List Leaf} {place : Pos} {tree : Trees.ExprTree} {high : ℕ} (room : ℕ) (fault : SyntaxErr) → Passes frame.first text place inside → IsRead (Whole Forms.Expr frame.level) room inside expr_of tree high rest → ((room' : ℕ) (more : List (Symbol Kind Forms.Sort)) → Fails (Parts (closing_symbols frame.last more)) room' rest fault) → (more : List (Symbol Kind Forms.Sort)) → Fails (Parts (frame_symbols frame more)) room text fault
 last_fault frame room fault opens value fails more = lift fault (record { run = λ run. behind_opening opens (then_failed value.run run) }) (fails room more)
 
 -- ---- a frame in a row
@@ -55,14 +55,14 @@ abbrev pub closed : (last : Option Kind) (rest behind : List Leaf) → Closes la
 closed None rest behind closes others = others
 closed (Some last) rest behind closes others = Then (Alone closes.leaf) others
 
-behind_closing : (last : Option Kind) {level room below : ℕ} {text rest behind : List Leaf} {more : List (Sym Kind Forms.Sort)} {build : Parse → Parse} → Within Forms.Expr level room text below (closing_symbols last more) rest build → (closes : Closes last rest behind) → Within Forms.Expr level room text below more behind (λ others. build (closed last rest behind closes others))
+behind_closing : (last : Option Kind) {level room below : ℕ} {text rest behind : List Leaf} {more : List (Symbol Kind Forms.Sort)} {build : Parse → Parse} → Within Forms.Expr level room text below (closing_symbols last more) rest build → (closes : Closes last rest behind) → Within Forms.Expr level room text below more behind (λ others. build (closed last rest behind closes others))
 behind_closing None {level = level} {room = room} {below = below} {text = text} {more = more} {build = build} within closes = subst (λ leaves. Within Forms.Expr level room text below more leaves build) closes within
 behind_closing (Some last) within closes = behind_token closes.leaf within closes.parts closes.is_kind
 
-pub behind_frame : (frame : Frame) {level room below high : ℕ} {text middle behind : List Leaf} {more : List (Sym Kind Forms.Sort)} {build : Parse → Parse} {place : Pos} {tree : Trees.ExprTree} → Within Forms.Expr level room text below (frame_symbols frame more) middle build → (term : ReadsTerm frame below middle place tree high behind) → Within Forms.Expr level room text below more behind (λ others. build (Then (Alone term.opens.leaf) (Then term.value.parse (closed frame.last term.rest behind term.closes others))))
+pub behind_frame : (frame : Frame) {level room below high : ℕ} {text middle behind : List Leaf} {more : List (Symbol Kind Forms.Sort)} {build : Parse → Parse} {place : Pos} {tree : Trees.ExprTree} → Within Forms.Expr level room text below (frame_symbols frame more) middle build → (term : ReadsTerm frame below middle place tree high behind) → Within Forms.Expr level room text below more behind (λ others. build (Then (Alone term.opens.leaf) (Then term.value.parse (closed frame.last term.rest behind term.closes others))))
 behind_frame frame within term = behind_closing frame.last (behind_part (after within term.opens) term.value.run) term.closes
 
-pub frame_fault : {level room below : ℕ} {text middle : List Leaf} {symbols : List (Sym Kind Forms.Sort)} {build : Parse → Parse} (fault : SyntaxErr) → Within Forms.Expr level room text below symbols middle build → Fails (Parts symbols) below middle fault → Fails (Whole Forms.Expr level) room text fault
+pub frame_fault : {level room below : ℕ} {text middle : List Leaf} {symbols : List (Symbol Kind Forms.Sort)} {build : Parse → Parse} (fault : SyntaxErr) → Within Forms.Expr level room text below symbols middle build → Fails (Parts symbols) below middle fault → Fails (Whole Forms.Expr level) room text fault
 frame_fault fault within fails = lift fault (record { run = λ run. within.failed run }) fails
 
 closed_high : (last : Option Kind) (rest behind : List Leaf) (closes : Closes last rest behind) → height grammar (closed last rest behind closes Nothing) ≡ 0
@@ -70,21 +70,21 @@ closed_high None rest behind closes = refl
 closed_high (Some last) rest behind closes = refl
 
 -- Are there three symbols?
-abbrev HasThree : List (Sym Kind Forms.Sort) → Type 0
+abbrev HasThree : List (Symbol Kind Forms.Sort) → Type 0
 HasThree [] = ⊥
 HasThree (one ∷ []) = ⊥
 HasThree (one ∷ two ∷ []) = ⊥
 HasThree (one ∷ two ∷ three ∷ more) = Unit {0}
 
 -- A frame of two symbols has no token that closes it.
-closed_by_none : (first kind : Kind) (level level' : ℕ) (last : Option Kind) (rest behind : List Leaf) (closes : Closes last rest behind) → Token first ∷ Part Forms.Expr level ∷ closing_symbols last [] ≡ Token kind ∷ Part Forms.Expr level' ∷ [] → closed last rest behind closes Nothing ≡ Nothing
+closed_by_none : (first kind : Kind) (level level' : ℕ) (last : Option Kind) (rest behind : List Leaf) (closes : Closes last rest behind) → Terminal first ∷ Nonterminal Forms.Expr level ∷ closing_symbols last [] ≡ Terminal kind ∷ Nonterminal Forms.Expr level' ∷ [] → closed last rest behind closes Nothing ≡ Nothing
 closed_by_none first kind level level' None rest behind closes same = refl
 closed_by_none first kind level level' (Some last) rest behind closes same = absurd (subst HasThree same tt)
 
 -- ---- what stands before an operand
 
 -- The row that the reader chooses is that of the grammar.
-pub first_row : {level : ℕ} {kind next : Kind} {text : List Leaf} {first first' : First} {form : Forms.Form} → Begins kind text → next ≡ second_kind_of text → first_choice kind (Some first) ≡ choose_expr level kind next → first ≡ first' → first_choice kind (Some first') ≡ take form → Chooses level form text
+pub first_row : {level : ℕ} {kind next : Kind} {text : List Leaf} {first first' : First} {form : Forms.Production} → Begins kind text → next ≡ second_kind_of text → first_choice kind (Some first) ≡ choose_expr level kind next → first ≡ first' → first_choice kind (Some first') ≡ take form → Chooses level form text
 first_row {kind = kind} begins second told same row = chooses begins second (sym told ∙ ap (λ f. first_choice kind (Some f)) same ∙ row)
 
 wrapped_need : (wrapping : Wrapping) → Forms.row_need (wrapped_form wrapping) ≡ 2
@@ -168,13 +168,13 @@ joined_read {behind = behind} joining frame begun within same term shape measure
 abbrev pub question_frame : Frame
 question_frame = record { first = K.Question; level = 15; last = Some K.Colon }
 
-pub conditional_row : {level room high own : ℕ} {text rest : List Leaf} {tree : Trees.ExprTree} (below : ℕ) (begun : Starts level room text tree high own rest) → next_form level own rest ≡ Some Forms.Conditional → 2 ≤ room → high ≤ below → below + 1 ≡ room → Within Forms.Expr level room text below (frame_symbols question_frame (Part Forms.Expr 14 ∷ [])) rest (λ parts. Node Forms.Conditional (Then begun.parse parts))
+pub conditional_row : {level room high own : ℕ} {text rest : List Leaf} {tree : Trees.ExprTree} (below : ℕ) (begun : Starts level room text tree high own rest) → next_form level own rest ≡ Some Forms.Conditional → 2 ≤ room → high ≤ below → below + 1 ≡ room → Within Forms.Expr level room text below (frame_symbols question_frame (Nonterminal Forms.Expr 14 ∷ [])) rest (λ parts. Node Forms.Conditional (Then begun.parse parts))
 conditional_row below begun told fits left_fits down = extend below begun told fits left_fits down
 
-pub otherwise_fault : {level room below high : ℕ} {text middle behind : List Leaf} {build : Parse → Parse} {place : Pos} {tree : Trees.ExprTree} (fault : SyntaxErr) → Within Forms.Expr level room text below (frame_symbols question_frame (Part Forms.Expr 14 ∷ [])) middle build → ReadsTerm question_frame below middle place tree high behind → Fails (Whole Forms.Expr 14) below behind fault → Fails (Whole Forms.Expr level) room text fault
+pub otherwise_fault : {level room below high : ℕ} {text middle behind : List Leaf} {build : Parse → Parse} {place : Pos} {tree : Trees.ExprTree} (fault : SyntaxErr) → Within Forms.Expr level room text below (frame_symbols question_frame (Nonterminal Forms.Expr 14 ∷ [])) middle build → ReadsTerm question_frame below middle place tree high behind → Fails (Whole Forms.Expr 14) below behind fault → Fails (Whole Forms.Expr level) room text fault
 otherwise_fault fault within term fails = part_fault fault (behind_frame question_frame within term) fails
 
-pub conditional_read : {level room below high own low least total : ℕ} {text rest middle behind : List Leaf} {condition taken otherwise whole : Trees.ExprTree} {place : Pos} (begun : Starts level room text condition high own rest) → Within Forms.Expr level room text below (frame_symbols question_frame (Part Forms.Expr 14 ∷ [])) rest (λ parts. Node Forms.Conditional (Then begun.parse parts)) → ReadsTerm question_frame below rest place taken low middle → IsRead (Whole Forms.Expr 14) below middle expr_of otherwise least behind → whole ≡ Trees.Conditional condition taken otherwise → total ≡ max (max high low) least + 1 → Starts level room text whole total 14 behind
+pub conditional_read : {level room below high own low least total : ℕ} {text rest middle behind : List Leaf} {condition taken otherwise whole : Trees.ExprTree} {place : Pos} (begun : Starts level room text condition high own rest) → Within Forms.Expr level room text below (frame_symbols question_frame (Nonterminal Forms.Expr 14 ∷ [])) rest (λ parts. Node Forms.Conditional (Then begun.parse parts)) → ReadsTerm question_frame below rest place taken low middle → IsRead (Whole Forms.Expr 14) below middle expr_of otherwise least behind → whole ≡ Trees.Conditional condition taken otherwise → total ≡ max (max high low) least + 1 → Starts level room text whole total 14 behind
 conditional_read begun within term other shape measured =
     let first = begun.shape in
     let second = term.value.shape in
@@ -186,13 +186,13 @@ conditional_read begun within term other shape measured =
 
 -- ---- calls
 
-pub call_row : {level room high own : ℕ} {text rest middle : List Leaf} {tree : Trees.ExprTree} {place : Pos} (below : ℕ) (begun : Starts level room text tree high own rest) → next_form level own rest ≡ Some Forms.Call → 1 ≤ room → high ≤ below → below + 1 ≡ room → (opens : Passes K.OpenParenthesis rest place middle) → Within Forms.Expr level room text below (Part Forms.Arguments 0 ∷ Token K.CloseParenthesis ∷ []) middle (λ parts. Node Forms.Call (Then begun.parse (Then (Alone opens.leaf) parts)))
+pub call_row : {level room high own : ℕ} {text rest middle : List Leaf} {tree : Trees.ExprTree} {place : Pos} (below : ℕ) (begun : Starts level room text tree high own rest) → next_form level own rest ≡ Some Forms.Call → 1 ≤ room → high ≤ below → below + 1 ≡ room → (opens : Passes K.OpenParenthesis rest place middle) → Within Forms.Expr level room text below (Nonterminal Forms.Arguments 0 ∷ Terminal K.CloseParenthesis ∷ []) middle (λ parts. Node Forms.Call (Then begun.parse (Then (Alone opens.leaf) parts)))
 call_row below begun told fits left_fits down opens = after (extend below begun told fits left_fits down) opens
 
-pub call_unclosed : {level room below high : ℕ} {text middle behind : List Leaf} {build : Parse → Parse} {arguments : Trees.ArgumentsTree} (fault : SyntaxErr) → Within Forms.Expr level room text below (Part Forms.Arguments 0 ∷ Token K.CloseParenthesis ∷ []) middle build → IsRead (Whole Forms.Arguments 0) below middle arguments_of arguments high behind → fits_first grammar K.CloseParenthesis behind ≡ false → fault ≡ At (place_of behind) → Fails (Whole Forms.Expr level) room text fault
+pub call_unclosed : {level room below high : ℕ} {text middle behind : List Leaf} {build : Parse → Parse} {arguments : Trees.ArgumentsTree} (fault : SyntaxErr) → Within Forms.Expr level room text below (Nonterminal Forms.Arguments 0 ∷ Terminal K.CloseParenthesis ∷ []) middle build → IsRead (Whole Forms.Arguments 0) below middle arguments_of arguments high behind → fits_first grammar K.CloseParenthesis behind ≡ false → fault ≡ At (place_of behind) → Fails (Whole Forms.Expr level) room text fault
 call_unclosed fault within arguments none stands = misfit fault (behind_part within arguments.run) none stands
 
-pub call_read : {level room below high own low total : ℕ} {text rest middle last behind : List Leaf} {function whole : Trees.ExprTree} {arguments : Trees.ArgumentsTree} {place place' : Pos} (begun : Starts level room text function high own rest) (opens : Passes K.OpenParenthesis rest place middle) → Within Forms.Expr level room text below (Part Forms.Arguments 0 ∷ Token K.CloseParenthesis ∷ []) middle (λ parts. Node Forms.Call (Then begun.parse (Then (Alone opens.leaf) parts))) → IsRead (Whole Forms.Arguments 0) below middle arguments_of arguments low last → Passes K.CloseParenthesis last place' behind → whole ≡ Trees.Call function place arguments → total ≡ max high low + 1 → Starts level room text whole total 1 behind
+pub call_read : {level room below high own low total : ℕ} {text rest middle last behind : List Leaf} {function whole : Trees.ExprTree} {arguments : Trees.ArgumentsTree} {place place' : Pos} (begun : Starts level room text function high own rest) (opens : Passes K.OpenParenthesis rest place middle) → Within Forms.Expr level room text below (Nonterminal Forms.Arguments 0 ∷ Terminal K.CloseParenthesis ∷ []) middle (λ parts. Node Forms.Call (Then begun.parse (Then (Alone opens.leaf) parts))) → IsRead (Whole Forms.Arguments 0) below middle arguments_of arguments low last → Passes K.CloseParenthesis last place' behind → whole ≡ Trees.Call function place arguments → total ≡ max high low + 1 → Starts level room text whole total 1 behind
 call_read begun opens within arguments closes shape measured =
     let one = begun.shape in
     let other = arguments.shape in

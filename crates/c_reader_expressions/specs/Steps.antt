@@ -1,9 +1,9 @@
 -- What the smaller parts of the reader answer.
-use Rattle.std.specs.Prelude.{Box, ◌≡◌, ℕ, max, Bool, true, false, ◌||◌, List, [], ◌∷◌, ◌++◌, Option, Some, Result, Ok, Err}
+use Rattle.std.specs.Prelude.{Box, ◌≡◌, ℕ, max, Bool, true, false, ◌||◌, List, [], ◌∷◌, ◌++◌, Some, Result, Ok, Err}
 use Rattle.std.specs.declared.alloc.Global.{Global}
 use Rattle.text_place.specs.declared.place.Pos.{Pos}
 use Rattle.text_place.specs.Places.{first_place}
-use Rattle.grammar_table.specs.Table.{Sym, Alone, Nothing, Then, Node, height, leaves}
+use Rattle.grammar_table.specs.Table.{Alone, Nothing, Then, Node, height, leaves}
 use Rattle.grammar_table.specs.Runs.{Parts, Whole, More, Outcome, Done, level_of, Run}
 use Rattle.c_grammar.specs.declared.kind.Kind.TheVariants as K
 use Rattle.c_grammar.specs.Forms
@@ -29,7 +29,7 @@ use Rattle.c_reader_tokens.specs.declared.token.Read.{Read}
 use Rattle.c_reader_tokens.specs.Grammar.{grammar, Parse}
 use Rattle.c_reader_tokens.specs.Shapes.{name_of, single_of, literals_of, words_of, expr_of, direct_of, suffixes_of, optional_of}
 use Rattle.c_reader_tokens.specs.Choices.{next_form}
-use Rattle.c_reader_tokens.specs.Readings.{Fails, IsRead, Begins}
+use Rattle.c_reader_tokens.specs.Readings.{Fails, IsRead, IsReading}
 use Rattle.c_reader_tokens.specs.Steps.{Onto}
 
 -- ---- expressions
@@ -39,13 +39,13 @@ abbrev pub expr_in : Box Expr Global → Trees.ExprTree
 expr_in boxed = expr_tree boxed.value
 
 -- This row of an expression is chosen.
-pub record Chooses (level : ℕ) (form : Forms.Form) (leaves : List Leaf) : Type 0 where
+pub record Chooses (level : ℕ) (form : Forms.Production) (leaves : List Leaf) : Type 0 where
   pub told : choose_at kind_of sample Forms.Expr level leaves ≡ take form
 
 -- An expression of a level was read so far as this tree, which may go on; `own` is how loosely it binds.
 pub record Starts (level room : ℕ) (text : List Leaf) (tree : Trees.ExprTree) (high own : ℕ) (behind : List Leaf) : Type 0 where
   pub parse : Parse
-  pub goes : (outcome : Outcome Leaf Forms.Form) → Run grammar (More Forms.Expr level parse) room behind outcome → Run grammar (Whole Forms.Expr level) room text outcome
+  pub goes : (outcome : Outcome Leaf Forms.Production) → Run grammar (More Forms.Expr level parse) room behind outcome → Run grammar (Whole Forms.Expr level) room text outcome
   pub shape : expr_of parse ≡ tree
   pub measured : height grammar parse ≡ high
   pub binds : level_of grammar parse ≡ own
@@ -68,8 +68,16 @@ GivesLiterals room first leaves (Ok read) = IsRead (Whole Forms.Literals 0) room
 GivesLiterals room first leaves (Err fault) = Fails (Whole Forms.Literals 0) room leaves fault
 
 -- The row goes on behind the expression that was read so far.
-abbrev pub Extends : Forms.Form → Trees.ExprTree → ℕ → ℕ → List Leaf → ℕ → Result Operand SyntaxErr → Type 0
+abbrev pub Extends : Forms.Production → Trees.ExprTree → ℕ → ℕ → List Leaf → ℕ → Result Operand SyntaxErr → Type 0
 Extends form left high own rest room result = (level : ℕ) (text : List Leaf) → Starts level room text left high own rest → next_form level own rest ≡ Some form → GivesOperand level room text result
+
+-- the tree of an operand
+abbrev pub operand_tree : Operand → Trees.ExprTree
+operand_tree operand = expr_tree operand.expr.value
+
+-- a postfix operator of this form is read behind an operand
+abbrev pub ExtendsOperand : Forms.Production → Operand → ℕ → Result Operand SyntaxErr → Type 0
+ExtendsOperand form left room result = Extends form (operand_tree left) left.height left.level (leaves_of left.rest.now) room result
 
 -- the expression of a `sizeof` at a place with this operand
 abbrev pub sizeof_of : Pos → Parse → Trees.ExprTree
@@ -98,7 +106,7 @@ GivesNamed stars room text (Err fault) = Fails (Parts (Forms.symbols_of Forms.Di
 
 -- The words of a type and a declarator that may lack its name: a parameter where it may have one, else the name of a
 -- type.
-abbrev pub type_form : Bool → Forms.Form
+abbrev pub type_form : Bool → Forms.Production
 type_form true = Forms.ParamRow
 type_form false = Forms.TypeRow
 
@@ -121,6 +129,10 @@ BeginsOptional named (leaf ∷ text) = (is (kind_of leaf) K.Star || begins_direc
 abbrev pub EndsOptional : Bool → List Leaf → Type 0
 EndsOptional named [] = ⊥
 EndsOptional named (leaf ∷ text) = (is (kind_of leaf) K.Star || begins_direct named (kind_of leaf)) ≡ false
+
+-- a declarator is read that could have been left out
+abbrev pub GivesOptional : Bool → ℕ → List Leaf → Result (Read Declarator) SyntaxErr → Type 0
+GivesOptional named room text result = IsReading (Whole (Forms.Optional named) 0) room text optional_of (λ declarator. Trees.Declared (declarator_tree declarator)) result
 
 -- one length of an array or one list of parameters, with what follows
 abbrev pub suffix_onto : Suffix → Trees.SuffixesTree → Trees.SuffixesTree

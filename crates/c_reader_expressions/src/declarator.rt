@@ -11,7 +11,7 @@ ghost use Rattle.c_syntax.specs.Views as views;
 ghost use Rattle.c_reader_tokens.specs.Shapes.{words_of, place_of, declarator_of, optional_of, parameters_of, suffixes_of};
 ghost use Rattle.c_reader_tokens.specs.Readings.{IsReading, Begins};
 ghost use Rattle.c_reader_tokens.specs.Steps.{EndsWords, GivesTag};
-ghost use Rattle.c_reader_expressions.specs.Steps.{built_of, parameter_type, GivesType, GivesNamed, GivesSuffix, BeginsOptional, EndsOptional};
+ghost use Rattle.c_reader_expressions.specs.Steps.{built_of, parameter_type, GivesType, GivesNamed, GivesSuffix, BeginsOptional, EndsOptional, GivesOptional};
 
 use crate::expr::read_expr;
 use c_grammar::{Kind, Words};
@@ -130,7 +130,7 @@ fn read_inner(
     room: u32,
 ) -> Result<Read<'_, Declarator>, SyntaxErr>
     ensures gives { IsReading (Whole (forms.Inner named) 0) room (leaves_of tokens.now) declarator_of declarator_tree result }
-    ensures optional { BeginsOptional named (leaves_of tokens.now) → IsReading (Whole (forms.Optional named) 0) room (leaves_of tokens.now) optional_of (λ declarator. Declared (declarator_tree declarator)) result }
+    ensures optional { BeginsOptional named (leaves_of tokens.now) → GivesOptional named room (leaves_of tokens.now) result }
     ensures shorter { IfOk result (λ read. length read.rest.now < length tokens.now) }
 {
     let kind = first_kind(tokens)?;

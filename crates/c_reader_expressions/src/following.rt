@@ -4,7 +4,7 @@ ghost use Rattle.std.specs.Prelude.{◌≡◌, ◌+◌, ◌<◌, ◌≤◌, ℕ,
 ghost use Rattle.c_grammar.specs.Forms as forms;
 ghost use Rattle.c_token.specs.Leaves.{leaves_of};
 ghost use Rattle.c_syntax.specs.Views.{expr_tree};
-ghost use Rattle.c_reader_expressions.specs.Steps.{Extends};
+ghost use Rattle.c_reader_expressions.specs.Steps.{ExtendsOperand};
 
 use crate::operand::{Operand, boxed};
 use c_grammar::Kind;
@@ -19,7 +19,7 @@ pub(crate) fn read_member<'a>(
     left: Operand<'a>,
     room: u32,
 ) -> Result<Operand<'a>, SyntaxErr>
-    ensures gives { Extends forms.Member (expr_tree left.entry.expr.value) left.entry.height left.entry.level (leaves_of left.entry.rest.now) room result }
+    ensures gives { ExtendsOperand forms.Member left.entry room result }
     ensures shorter { IfOk result (λ read. length read.rest.now < length left.entry.rest.now) }
 {
     room_behind(left.rest, 1, left.height, room)?;
@@ -43,7 +43,7 @@ pub(crate) fn read_pointer_member<'a>(
     left: Operand<'a>,
     room: u32,
 ) -> Result<Operand<'a>, SyntaxErr>
-    ensures gives { Extends forms.PointerMember (expr_tree left.entry.expr.value) left.entry.height left.entry.level (leaves_of left.entry.rest.now) room result }
+    ensures gives { ExtendsOperand forms.PointerMember left.entry room result }
     ensures shorter { IfOk result (λ read. length read.rest.now < length left.entry.rest.now) }
 {
     room_behind(left.rest, 1, left.height, room)?;
@@ -67,7 +67,7 @@ pub(crate) fn read_post_increment<'a>(
     left: Operand<'a>,
     room: u32,
 ) -> Result<Operand<'a>, SyntaxErr>
-    ensures gives { Extends forms.PostIncrement (expr_tree left.entry.expr.value) left.entry.height left.entry.level (leaves_of left.entry.rest.now) room result }
+    ensures gives { ExtendsOperand forms.PostIncrement left.entry room result }
     ensures shorter { IfOk result (λ read. length read.rest.now < length left.entry.rest.now) }
 {
     room_behind(left.rest, 1, left.height, room)?;
@@ -87,7 +87,7 @@ pub(crate) fn read_post_decrement<'a>(
     left: Operand<'a>,
     room: u32,
 ) -> Result<Operand<'a>, SyntaxErr>
-    ensures gives { Extends forms.PostDecrement (expr_tree left.entry.expr.value) left.entry.height left.entry.level (leaves_of left.entry.rest.now) room result }
+    ensures gives { ExtendsOperand forms.PostDecrement left.entry room result }
     ensures shorter { IfOk result (λ read. length read.rest.now < length left.entry.rest.now) }
 {
     room_behind(left.rest, 1, left.height, room)?;

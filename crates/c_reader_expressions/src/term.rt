@@ -1,7 +1,7 @@
 // What stands before or behind an operand: a token, an expression, and perhaps a token behind that.
 
 ghost use Rattle.std.specs.Prelude.{◌≡◌, ℕ, ◌+◌, ◌<◌, ◌≤◌, max, List, [], length, IfOk, IfErr};
-ghost use Rattle.grammar_table.specs.Table.{Sym};
+ghost use Rattle.grammar_table.specs.Table.{Symbol};
 ghost use Rattle.grammar_table.specs.Runs.{Parts};
 ghost use Rattle.c_grammar.specs.Forms as forms;
 ghost use Rattle.c_token.specs.Leaves.{leaves_of};
@@ -10,7 +10,8 @@ ghost use Rattle.c_syntax.specs.Views.{expr_tree, type_tree};
 ghost use Rattle.c_syntax.specs.Views as views;
 ghost use Rattle.c_reader_tokens.specs.Choices.{wrapped_form, joined_form, level_of_joined};
 ghost use Rattle.c_reader_tokens.specs.Readings.{Fails};
-ghost use Rattle.c_reader_expressions.specs.Terms.{frame_symbols, closing_symbols, wrapped_tree, joined_tree, Closes};
+ghost use Rattle.c_reader_expressions.specs.Steps.{expr_in, operand_tree};
+ghost use Rattle.c_reader_expressions.specs.Terms.{frame_symbols, wrapped_tree, joined_tree, chosen_tree, called_tree, Closes, FailsToClose};
 
 use crate::operand::{Operand, boxed};
 use c_grammar::Kind;
@@ -108,7 +109,7 @@ pub(crate) fn joining_frame(joining: Joining) -> Frame
 pub(crate) fn pass_last(tokens: &[Token], last: Option<Kind>) -> Result<&[Token], SyntaxErr>
     ensures closes { IfOk result (λ rest. Closes last (leaves_of tokens.now) (leaves_of rest.now)) }
     ensures shorter { IfOk result (λ rest. length rest.now ≤ length tokens.now) }
-    ensures fails { IfErr result (λ fault. (room : ℕ) (more : List (Sym Kind forms.Sort)) → Fails (Parts (closing_symbols last more)) room (leaves_of tokens.now) fault) }
+    ensures fails { IfErr result (FailsToClose last (leaves_of tokens.now)) }
 {
     match last {
         Some(kind) => Ok(pass(tokens, kind)?.rest),
@@ -123,7 +124,7 @@ pub(crate) fn wrapped(
     term: Term<'_>,
 ) -> Result<Operand<'_>, AllocError>
     requires { term.height < 4294967295 }
-    ensures tree { IfOk result (λ operand. expr_tree operand.expr.value ≡ wrapped_tree wrapping term.entry.place (expr_tree term.entry.value.value)) }
+    ensures tree { IfOk result (λ operand. operand_tree operand ≡ wrapped_tree wrapping term.entry.place (expr_in term.entry.value)) }
     ensures level { IfOk result (λ operand. operand.level ≡ forms.level_of_form (wrapped_form wrapping)) }
     ensures height { IfOk result (λ operand. operand.height ≡ term.entry.height + 1) }
     ensures rest { IfOk result (λ operand. operand.rest.now ≡ term.entry.rest.now) }
@@ -179,7 +180,7 @@ pub(crate) fn joined<'a>(
 ) -> Result<Operand<'a>, AllocError>
     requires left_fits { left.height < 4294967295 }
     requires right_fits { term.height < 4294967295 }
-    ensures tree { IfOk result (λ operand. expr_tree operand.expr.value ≡ joined_tree joining (expr_tree left.entry.expr.value) (expr_tree term.entry.value.value)) }
+    ensures tree { IfOk result (λ operand. operand_tree operand ≡ joined_tree joining (operand_tree left.entry) (expr_in term.entry.value)) }
     ensures level { IfOk result (λ operand. operand.level ≡ level_of_joined joining) }
     ensures height { IfOk result (λ operand. operand.height ≡ max left.entry.height term.entry.height + 1) }
     ensures rest { IfOk result (λ operand. operand.rest.now ≡ term.entry.rest.now) }
@@ -244,7 +245,7 @@ pub(crate) fn conditional<'a>(
     requires condition_fits { condition.height < 4294967295 }
     requires then_fits { then.height < 4294967295 }
     requires otherwise_fits { otherwise.height < 4294967295 }
-    ensures tree { IfOk result (λ operand. expr_tree operand.expr.value ≡ trees.Conditional (expr_tree condition.entry.expr.value) (expr_tree then.entry.value.value) (expr_tree otherwise.entry.value.value)) }
+    ensures tree { IfOk result (λ operand. operand_tree operand ≡ chosen_tree condition.entry then.entry otherwise.entry) }
     ensures level { IfOk result (λ operand. operand.level ≡ 14) }
     ensures height { IfOk result (λ operand. operand.height ≡ max (max condition.entry.height then.entry.height) otherwise.entry.height + 1) }
     ensures rest { IfOk result (λ operand. operand.rest.now ≡ otherwise.entry.rest.now) }
@@ -274,7 +275,7 @@ pub(crate) fn called<'a>(
 ) -> Result<Operand<'a>, AllocError>
     requires function_fits { function.height < 4294967295 }
     requires arguments_fit { arguments.height < 4294967295 }
-    ensures tree { IfOk result (λ operand. expr_tree operand.expr.value ≡ trees.Call (expr_tree function.entry.expr.value) opening (views.arguments_of arguments.entry.value.items)) }
+    ensures tree { IfOk result (λ operand. operand_tree operand ≡ called_tree function.entry opening arguments.entry) }
     ensures level { IfOk result (λ operand. operand.level ≡ 1) }
     ensures height { IfOk result (λ operand. operand.height ≡ max function.entry.height arguments.entry.height + 1) }
     ensures rest { IfOk result (λ operand. operand.rest.now ≡ rest.now) }
@@ -301,7 +302,8 @@ pub(crate) fn cast<'a>(
 ) -> Result<Operand<'a>, AllocError>
     requires type_fits { named.height < 4294967295 }
     requires operand_fits { operand.height < 4294967295 }
-    ensures tree { IfOk result (λ cast. expr_tree cast.expr.value ≡ trees.Cast named.entry.place (type_tree named.entry.type_name.value) (expr_tree operand.entry.value.value)) }
+    ensures tree { IfOk result (λ cast.
+        operand_tree cast ≡ trees.Cast named.entry.place (type_tree named.entry.type_name.value) (expr_in operand.entry.value)) }
     ensures level { IfOk result (λ cast. cast.level ≡ 3) }
     ensures height { IfOk result (λ cast. cast.height ≡ max named.entry.height operand.entry.height + 1) }
     ensures rest { IfOk result (λ cast. cast.rest.now ≡ operand.entry.rest.now) }
@@ -327,7 +329,7 @@ pub(crate) fn sizeof_type<'a>(
     named: EnclosedType<'a>,
 ) -> Result<Operand<'a>, AllocError>
     requires { named.height < 4294967295 }
-    ensures tree { IfOk result (λ operand. expr_tree operand.expr.value ≡ trees.SizeofType place (type_tree named.entry.type_name.value)) }
+    ensures tree { IfOk result (λ operand. operand_tree operand ≡ trees.SizeofType place (type_tree named.entry.type_name.value)) }
     ensures level { IfOk result (λ operand. operand.level ≡ 2) }
     ensures height { IfOk result (λ operand. operand.height ≡ named.entry.height + 1) }
     ensures rest { IfOk result (λ operand. operand.rest.now ≡ named.entry.rest.now) }
@@ -351,7 +353,7 @@ pub(crate) fn sizeof_expr<'a>(
     operand: Read<'a, Box<Expr>>,
 ) -> Result<Operand<'a>, AllocError>
     requires { operand.height < 4294967295 }
-    ensures tree { IfOk result (λ sizeof. expr_tree sizeof.expr.value ≡ trees.SizeofExpr place (expr_tree operand.entry.value.value)) }
+    ensures tree { IfOk result (λ sizeof. expr_tree sizeof.expr.value ≡ trees.SizeofExpr place (expr_in operand.entry.value)) }
     ensures level { IfOk result (λ sizeof. sizeof.level ≡ 2) }
     ensures height { IfOk result (λ sizeof. sizeof.height ≡ operand.entry.height + 1) }
     ensures rest { IfOk result (λ sizeof. sizeof.rest.now ≡ operand.entry.rest.now) }

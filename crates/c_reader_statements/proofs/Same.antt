@@ -5,7 +5,7 @@ use Rattle.c_syntax.specs.declared.declaration.Init as memory_init
 use Rattle.c_syntax.specs.declared.declaration.Init.TheBlock.{hidden-the_row-Init-0, items_hidden-the_row-Init-0}
 use Rattle.c_syntax.specs.declared.declaration.Init.TheVariants as I
 use Rattle.c_syntax.specs.Trees
-use Rattle.c_syntax.specs.Views.{init_tree, inits_tree, inits_of}
+use Rattle.c_syntax.specs.Views.{init_tree, inits_tree}
 use Rattle.c_reader_tokens.specs.Lists.{folds}
 use Rattle.c_reader_statements.specs.Lists.{init_before}
 

@@ -1,6 +1,5 @@
 -- Statements of a row.
-use Rattle.std.proofs.Common.{◌≡◌, ℕ, ◌+◌, ◌<◌, ◌≤◌, List, Result, Err, Option, Vec, Global, refl, ap, sym, ◌∙◌, subst, arith}
-use Rattle.text_place.specs.declared.place.Pos.{Pos}
+use Rattle.std.proofs.Common.{◌≡◌, ℕ, ◌+◌, ◌<◌, ◌≤◌, List, Result, Err, refl, ap, sym, ◌∙◌, subst}
 use Rattle.grammar_table.specs.Table.{Node}
 use Rattle.grammar_table.specs.Runs.{Parts, Whole}
 use Rattle.c_grammar.specs.declared.kind.Kind.{Kind}
@@ -14,7 +13,6 @@ use Rattle.c_reader_statements.specs.declared.statement.StmtRow.{StmtRow}
 use Rattle.c_reader_statements.specs.declared.statement.StmtRow.TheVariants as R
 use Rattle.c_reader_tokens.specs.declared.syntax_err.SyntaxErr.{SyntaxErr}
 use Rattle.c_reader_tokens.specs.declared.syntax_err.SyntaxErr.TheVariants.{TooDeep}
-use Rattle.c_reader_tokens.specs.Grammar.{Parse}
 use Rattle.c_reader_tokens.specs.Shapes.{place_of, stmt_of}
 use Rattle.c_reader_tokens.specs.Readings.{Begins, Fails}
 use Rattle.c_reader_tokens.specs.Rows.{Tells, Found, GivesPart}

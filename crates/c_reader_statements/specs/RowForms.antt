@@ -11,22 +11,22 @@ use Rattle.c_reader_statements.specs.declared.declaration.FirstValueRow.TheVaria
 use Rattle.c_reader_statements.specs.declared.declaration.DeclaratorsRow.{DeclaratorsRow}
 use Rattle.c_reader_statements.specs.declared.declaration.DeclaratorsRow.TheVariants as D
 
-abbrev pub init_form : InitRow → Forms.Form
+abbrev pub init_form : InitRow → Forms.Production
 init_form I.Value = Forms.InitValue
 init_form I.List = Forms.InitList
 
-abbrev pub init_more_form : InitMoreRow → Forms.Form
+abbrev pub init_more_form : InitMoreRow → Forms.Production
 init_more_form M.End = Forms.InitEnd
 init_more_form M.Comma = Forms.InitComma
 
-abbrev pub init_next_form : InitNextRow → Forms.Form
+abbrev pub init_next_form : InitNextRow → Forms.Production
 init_next_form N.Close = Forms.InitClose
 init_next_form N.Other = Forms.InitOther
 
-abbrev pub first_value_form : FirstValueRow → Forms.Form
+abbrev pub first_value_form : FirstValueRow → Forms.Production
 first_value_form V.Value = Forms.Value
 first_value_form V.Nothing = Forms.NoValue
 
-abbrev pub declarators_form : DeclaratorsRow → Forms.Form
+abbrev pub declarators_form : DeclaratorsRow → Forms.Production
 declarators_form D.End = Forms.DeclarationEnd
 declarators_form D.Next = Forms.DeclarationNext

@@ -15,7 +15,7 @@ use Rattle.c_reader_statements.specs.declared.statement.BlockRow.TheVariants as 
 use Rattle.c_reader_statements.specs.declared.statement.SwitchRow.{SwitchRow}
 use Rattle.c_reader_statements.specs.declared.statement.SwitchRow.TheVariants as switch_form_rows
 
-abbrev pub stmt_form : StmtRow → Forms.Form
+abbrev pub stmt_form : StmtRow → Forms.Production
 stmt_form stmt_form_rows.Block = Forms.Block
 stmt_form stmt_form_rows.Empty = Forms.Empty
 stmt_form stmt_form_rows.Expression = Forms.Expression
@@ -28,29 +28,29 @@ stmt_form stmt_form_rows.Break = Forms.BreakRow
 stmt_form stmt_form_rows.Continue = Forms.ContinueRow
 stmt_form stmt_form_rows.Return = Forms.ReturnRow
 
-abbrev pub else_form : ElseRow → Forms.Form
+abbrev pub else_form : ElseRow → Forms.Production
 else_form else_form_rows.Else = Forms.ElseRow
 else_form else_form_rows.Nothing = Forms.NoElse
 
-abbrev pub for_form : ForRow → Forms.Form
+abbrev pub for_form : ForRow → Forms.Production
 for_form for_form_rows.Declaration = Forms.ForDeclaration
 for_form for_form_rows.Nothing = Forms.ForEmpty
 for_form for_form_rows.Expression = Forms.ForExpression
 
-abbrev pub optional_form : OptionalRow → Forms.Form
+abbrev pub optional_form : OptionalRow → Forms.Production
 optional_form optional_form_rows.Value = Forms.SomeExpr
 optional_form optional_form_rows.Nothing = Forms.NoExpr
 
-abbrev pub return_form : ReturnRow → Forms.Form
+abbrev pub return_form : ReturnRow → Forms.Production
 return_form return_form_rows.Nothing = Forms.ReturnNothing
 return_form return_form_rows.Value = Forms.ReturnExpr
 
-abbrev pub block_form : BlockRow → Forms.Form
+abbrev pub block_form : BlockRow → Forms.Production
 block_form block_form_rows.End = Forms.BlockEnd
 block_form block_form_rows.Declaration = Forms.BlockDeclaration
 block_form block_form_rows.Statement = Forms.BlockStatement
 
-abbrev pub switch_form : SwitchRow → Forms.Form
+abbrev pub switch_form : SwitchRow → Forms.Production
 switch_form switch_form_rows.End = Forms.SwitchEnd
 switch_form switch_form_rows.Case = Forms.CaseRow
 switch_form switch_form_rows.Default = Forms.DefaultRow

@@ -8,10 +8,10 @@ ghost use Rattle.c_token.specs.Leaves.{leaves_of};
 ghost use Rattle.c_syntax.specs.Views.{init_tree, init_declarator_tree, declaration_tree};
 ghost use Rattle.c_syntax.specs.Trees as trees;
 ghost use Rattle.c_reader_tokens.specs.Shapes.{init_of, inits_of, first_value_of, declarators_of, declaration_of};
-ghost use Rattle.c_reader_tokens.specs.Rows.{GivesPart, GivesElement, TellsRow, Tells};
+ghost use Rattle.c_reader_tokens.specs.Rows.{GivesPart, GivesElement, GivesForm, GivesMore, TellsRow, Tells};
 ghost use Rattle.c_reader_statements.specs.RowForms.{init_form, init_more_form, init_next_form, first_value_form, declarators_form};
 ghost use Rattle.c_reader_tokens.specs.Lists.{folds};
-ghost use Rattle.c_reader_statements.specs.Lists.{init_before, inits_behind, declarator_before};
+ghost use Rattle.c_reader_statements.specs.Lists.{init_before, inits_behind, inits_in, inits_from, declarator_before, declarators_in, declarators_from};
 
 use c_grammar::Kind;
 use c_reader_expressions::{LOOSEST, read_declarator, read_expr, read_simple};
@@ -64,7 +64,7 @@ fn read_init(alloc: Global, tokens: &[Token], room: u32) -> Result<Part<'_, Init
 /// Reads initializers in braces.
 #[cycle(init)]
 fn read_init_list(alloc: Global, tokens: &[Token], room: u32) -> Result<Part<'_, Init>, SyntaxErr>
-    ensures gives { GivesPart (Parts (forms.symbols_of forms.InitList)) room (leaves_of tokens.now) (λ parts. init_of (Node forms.InitList parts)) init_tree result }
+    ensures gives { GivesForm forms.InitList room (leaves_of tokens.now) init_of init_tree result }
     ensures shorter { IfOk result (λ part. length part.rest.now < length tokens.now) }
 {
     let opening = pass(tokens, Kind::OpenBrace)?;
@@ -89,7 +89,7 @@ fn read_inits(
     room: u32,
     before: Vec<Init>,
 ) -> Result<Part<'_, Vec<Init>>, SyntaxErr>
-    ensures gives { GivesPart (Whole forms.InitMore 0) room (leaves_of tokens.now) (λ parse. folds init_before before.items (inits_of parse)) (λ inits. folds init_before inits.items trees.NoInits) result }
+    ensures gives { GivesPart (Whole forms.InitMore 0) room (leaves_of tokens.now) (inits_from before.items) inits_in result }
     ensures shorter { IfOk result (λ part. length part.rest.now < length tokens.now) }
 {
     let mut inits = before;
@@ -129,7 +129,7 @@ fn read_next_init(
     tokens: &[Token],
     room: u32,
 ) -> Result<Part<'_, Option<Init>>, SyntaxErr>
-    ensures gives { GivesElement (Whole forms.InitMore 0) room (leaves_of tokens.now) inits_of init_before trees.NoInits (Whole forms.InitMore 0) inits_of result }
+    ensures gives { GivesMore forms.InitMore room (leaves_of tokens.now) inits_of init_before trees.NoInits result }
     ensures shorter { IfOk result (λ part. length part.rest.now < length tokens.now) }
 {
     match init_more_row(first_kind(tokens)?) {
@@ -173,7 +173,8 @@ fn read_init_behind_comma(
     tokens: &[Token],
     room: u32,
 ) -> Result<Part<'_, Option<Init>>, SyntaxErr>
-    ensures gives { GivesElement (Whole forms.InitNext 0) room (leaves_of tokens.now) inits_behind init_before trees.NoInits (Whole forms.InitMore 0) inits_of result }
+    ensures gives { GivesElement (Whole forms.InitNext 0) room (leaves_of tokens.now) inits_behind init_before trees.NoInits
+        (Whole forms.InitMore 0) inits_of result }
     ensures shorter { IfOk result (λ part. length part.rest.now < length tokens.now) }
 {
     match init_next_row(first_kind(tokens)?) {
@@ -262,7 +263,7 @@ fn read_next_declarator(
     tokens: &[Token],
     room: u32,
 ) -> Result<Part<'_, Option<InitDeclarator>>, SyntaxErr>
-    ensures gives { GivesElement (Whole forms.DeclaratorsMore 0) room (leaves_of tokens.now) declarators_of declarator_before [] (Whole forms.DeclaratorsMore 0) declarators_of result }
+    ensures gives { GivesMore forms.DeclaratorsMore room (leaves_of tokens.now) declarators_of declarator_before [] result }
     ensures shorter { IfOk result (λ part. length part.rest.now < length tokens.now) }
 {
     match declarators_row(first_kind(tokens)?) {
@@ -297,7 +298,7 @@ pub fn read_declarators(
     room: u32,
     first: InitDeclarator,
 ) -> Result<Part<'_, Vec<InitDeclarator>>, SyntaxErr>
-    ensures gives { GivesPart (Whole forms.DeclaratorsMore 0) room (leaves_of tokens.now) (λ parse. init_declarator_tree first ∷ declarators_of parse) (λ declarators. map init_declarator_tree declarators.items) result }
+    ensures gives { GivesPart (Whole forms.DeclaratorsMore 0) room (leaves_of tokens.now) (declarators_from first) declarators_in result }
     ensures shorter { IfOk result (λ part. length part.rest.now < length tokens.now) }
 {
     let mut declarators = Vec::new(alloc);

@@ -10,10 +10,10 @@ ghost use Rattle.c_syntax.specs.Views.{stmt_tree, for_tree, value_tree};
 ghost use Rattle.c_syntax.specs.Trees as trees;
 ghost use Rattle.c_reader_tokens.specs.Shapes as shapes;
 ghost use Rattle.c_reader_tokens.specs.Lists.{folds};
-ghost use Rattle.c_reader_tokens.specs.Rows.{GivesPart, GivesElement, TellsRow, Tells};
+ghost use Rattle.c_reader_tokens.specs.Rows.{GivesPart, GivesElement, GivesForm, GivesMore, GivesRow, TellsRow, Tells};
 ghost use Rattle.c_reader_statements.specs.StmtForms.{stmt_form, block_form, else_form, for_form, optional_form, switch_form, return_form};
 ghost use Rattle.c_reader_expressions.specs.Steps.{expr_in};
-ghost use Rattle.c_reader_statements.specs.StmtLists.{stmt_in, block_before, switch_before};
+ghost use Rattle.c_reader_statements.specs.StmtLists.{stmt_in, block_before, switch_before, block_in, switch_in};
 
 use crate::declaration::read_declaration;
 use c_grammar::Kind;
@@ -139,7 +139,7 @@ fn read_stmt_row(
     room: u32,
     row: StmtRow,
 ) -> Result<Part<'_, Stmt>, SyntaxErr>
-    ensures gives { GivesPart (Parts (forms.symbols_of (stmt_form row))) room (leaves_of tokens.now) (λ parts. shapes.stmt_of (Node (stmt_form row) parts)) stmt_tree result }
+    ensures gives { GivesForm (stmt_form row) room (leaves_of tokens.now) shapes.stmt_of stmt_tree result }
     ensures shorter { IfOk result (λ part. length part.rest.now < length tokens.now) }
 {
     match row {
@@ -160,7 +160,7 @@ fn read_stmt_row(
 /// Reads a block.
 #[cycle(stmt)]
 fn read_block_stmt(alloc: Global, tokens: &[Token], room: u32) -> Result<Part<'_, Stmt>, SyntaxErr>
-    ensures gives { GivesPart (Parts (forms.symbols_of forms.Block)) room (leaves_of tokens.now) (λ parts. shapes.stmt_of (Node forms.Block parts)) stmt_tree result }
+    ensures gives { GivesForm forms.Block room (leaves_of tokens.now) shapes.stmt_of stmt_tree result }
     ensures shorter { IfOk result (λ part. length part.rest.now < length tokens.now) }
 {
     let opening = pass(tokens, Kind::OpenBrace)?;
@@ -177,7 +177,7 @@ fn read_block_stmt(alloc: Global, tokens: &[Token], room: u32) -> Result<Part<'_
 
 /// Reads a semicolon alone.
 fn read_empty(_alloc: Global, tokens: &[Token], room: u32) -> Result<Part<'_, Stmt>, SyntaxErr>
-    ensures gives { GivesPart (Parts (forms.symbols_of forms.Empty)) room (leaves_of tokens.now) (λ parts. shapes.stmt_of (Node forms.Empty parts)) stmt_tree result }
+    ensures gives { GivesForm forms.Empty room (leaves_of tokens.now) shapes.stmt_of stmt_tree result }
     ensures shorter { IfOk result (λ part. length part.rest.now < length tokens.now) }
 {
     let semicolon = pass(tokens, Kind::Semicolon)?;
@@ -191,7 +191,7 @@ fn read_empty(_alloc: Global, tokens: &[Token], room: u32) -> Result<Part<'_, St
 
 /// Reads an expression whose value is dropped.
 fn read_expression(alloc: Global, tokens: &[Token], room: u32) -> Result<Part<'_, Stmt>, SyntaxErr>
-    ensures gives { GivesPart (Parts (forms.symbols_of forms.Expression)) room (leaves_of tokens.now) (λ parts. shapes.stmt_of (Node forms.Expression parts)) stmt_tree result }
+    ensures gives { GivesForm forms.Expression room (leaves_of tokens.now) shapes.stmt_of stmt_tree result }
     ensures shorter { IfOk result (λ part. length part.rest.now < length tokens.now) }
 {
     let value = read_expr(alloc, tokens, LOOSEST, room)?;
@@ -205,7 +205,7 @@ fn read_expression(alloc: Global, tokens: &[Token], room: u32) -> Result<Part<'_
 /// Reads `if`.
 #[cycle(stmt)]
 fn read_if(alloc: Global, tokens: &[Token], room: u32) -> Result<Part<'_, Stmt>, SyntaxErr>
-    ensures gives { GivesPart (Parts (forms.symbols_of forms.IfRow)) room (leaves_of tokens.now) (λ parts. shapes.stmt_of (Node forms.IfRow parts)) stmt_tree result }
+    ensures gives { GivesForm forms.IfRow room (leaves_of tokens.now) shapes.stmt_of stmt_tree result }
     ensures shorter { IfOk result (λ part. length part.rest.now < length tokens.now) }
 {
     let word = pass(tokens, Kind::If)?;
@@ -287,7 +287,7 @@ fn read_else(
 /// Reads `while`.
 #[cycle(stmt)]
 fn read_while(alloc: Global, tokens: &[Token], room: u32) -> Result<Part<'_, Stmt>, SyntaxErr>
-    ensures gives { GivesPart (Parts (forms.symbols_of forms.WhileRow)) room (leaves_of tokens.now) (λ parts. shapes.stmt_of (Node forms.WhileRow parts)) stmt_tree result }
+    ensures gives { GivesForm forms.WhileRow room (leaves_of tokens.now) shapes.stmt_of stmt_tree result }
     ensures shorter { IfOk result (λ part. length part.rest.now < length tokens.now) }
 {
     let word = pass(tokens, Kind::While)?;
@@ -308,7 +308,7 @@ fn read_while(alloc: Global, tokens: &[Token], room: u32) -> Result<Part<'_, Stm
 /// Reads `do`.
 #[cycle(stmt)]
 fn read_do(alloc: Global, tokens: &[Token], room: u32) -> Result<Part<'_, Stmt>, SyntaxErr>
-    ensures gives { GivesPart (Parts (forms.symbols_of forms.DoRow)) room (leaves_of tokens.now) (λ parts. shapes.stmt_of (Node forms.DoRow parts)) stmt_tree result }
+    ensures gives { GivesForm forms.DoRow room (leaves_of tokens.now) shapes.stmt_of stmt_tree result }
     ensures shorter { IfOk result (λ part. length part.rest.now < length tokens.now) }
 {
     let word = pass(tokens, Kind::Do)?;
@@ -331,7 +331,7 @@ fn read_do(alloc: Global, tokens: &[Token], room: u32) -> Result<Part<'_, Stmt>,
 /// Reads `for`.
 #[cycle(stmt)]
 fn read_for(alloc: Global, tokens: &[Token], room: u32) -> Result<Part<'_, Stmt>, SyntaxErr>
-    ensures gives { GivesPart (Parts (forms.symbols_of forms.ForRow)) room (leaves_of tokens.now) (λ parts. shapes.stmt_of (Node forms.ForRow parts)) stmt_tree result }
+    ensures gives { GivesForm forms.ForRow room (leaves_of tokens.now) shapes.stmt_of stmt_tree result }
     ensures shorter { IfOk result (λ part. length part.rest.now < length tokens.now) }
 {
     let word = pass(tokens, Kind::For)?;
@@ -470,7 +470,7 @@ fn unboxed(value: Option<Box<Expr>>) -> Option<Expr>
 /// Reads `switch`.
 #[cycle(stmt)]
 fn read_switch(alloc: Global, tokens: &[Token], room: u32) -> Result<Part<'_, Stmt>, SyntaxErr>
-    ensures gives { GivesPart (Parts (forms.symbols_of forms.SwitchRow)) room (leaves_of tokens.now) (λ parts. shapes.stmt_of (Node forms.SwitchRow parts)) stmt_tree result }
+    ensures gives { GivesForm forms.SwitchRow room (leaves_of tokens.now) shapes.stmt_of stmt_tree result }
     ensures shorter { IfOk result (λ part. length part.rest.now < length tokens.now) }
 {
     let word = pass(tokens, Kind::Switch)?;
@@ -491,7 +491,7 @@ fn read_switch(alloc: Global, tokens: &[Token], room: u32) -> Result<Part<'_, St
 
 /// Reads `break`.
 fn read_break(_alloc: Global, tokens: &[Token], room: u32) -> Result<Part<'_, Stmt>, SyntaxErr>
-    ensures gives { GivesPart (Parts (forms.symbols_of forms.BreakRow)) room (leaves_of tokens.now) (λ parts. shapes.stmt_of (Node forms.BreakRow parts)) stmt_tree result }
+    ensures gives { GivesForm forms.BreakRow room (leaves_of tokens.now) shapes.stmt_of stmt_tree result }
     ensures shorter { IfOk result (λ part. length part.rest.now < length tokens.now) }
 {
     let word = pass(tokens, Kind::Break)?;
@@ -504,7 +504,7 @@ fn read_break(_alloc: Global, tokens: &[Token], room: u32) -> Result<Part<'_, St
 
 /// Reads `continue`.
 fn read_continue(_alloc: Global, tokens: &[Token], room: u32) -> Result<Part<'_, Stmt>, SyntaxErr>
-    ensures gives { GivesPart (Parts (forms.symbols_of forms.ContinueRow)) room (leaves_of tokens.now) (λ parts. shapes.stmt_of (Node forms.ContinueRow parts)) stmt_tree result }
+    ensures gives { GivesForm forms.ContinueRow room (leaves_of tokens.now) shapes.stmt_of stmt_tree result }
     ensures shorter { IfOk result (λ part. length part.rest.now < length tokens.now) }
 {
     let word = pass(tokens, Kind::Continue)?;
@@ -517,7 +517,7 @@ fn read_continue(_alloc: Global, tokens: &[Token], room: u32) -> Result<Part<'_,
 
 /// Reads `return`.
 fn read_return(alloc: Global, tokens: &[Token], room: u32) -> Result<Part<'_, Stmt>, SyntaxErr>
-    ensures gives { GivesPart (Parts (forms.symbols_of forms.ReturnRow)) room (leaves_of tokens.now) (λ parts. shapes.stmt_of (Node forms.ReturnRow parts)) stmt_tree result }
+    ensures gives { GivesForm forms.ReturnRow room (leaves_of tokens.now) shapes.stmt_of stmt_tree result }
     ensures shorter { IfOk result (λ part. length part.rest.now < length tokens.now) }
 {
     let word = pass(tokens, Kind::Return)?;
@@ -609,7 +609,7 @@ pub fn read_block_items(
     tokens: &[Token],
     room: u32,
 ) -> Result<Part<'_, Vec<BlockItem>>, SyntaxErr>
-    ensures gives { GivesPart (Whole forms.BlockItems 0) room (leaves_of tokens.now) shapes.block_of (λ items. folds block_before items.items trees.Close) result }
+    ensures gives { GivesPart (Whole forms.BlockItems 0) room (leaves_of tokens.now) shapes.block_of block_in result }
     ensures shorter { IfOk result (λ part. length part.rest.now < length tokens.now) }
 {
     let mut items = Vec::new(alloc);
@@ -631,7 +631,7 @@ fn read_block_item(
     tokens: &[Token],
     room: u32,
 ) -> Result<Part<'_, Option<BlockItem>>, SyntaxErr>
-    ensures gives { GivesElement (Whole forms.BlockItems 0) room (leaves_of tokens.now) shapes.block_of block_before trees.Close (Whole forms.BlockItems 0) shapes.block_of result }
+    ensures gives { GivesMore forms.BlockItems room (leaves_of tokens.now) shapes.block_of block_before trees.Close result }
     ensures shorter { IfOk result (λ part. length part.rest.now < length tokens.now) }
 {
     match block_row(first_kind(tokens)?) {
@@ -694,7 +694,7 @@ fn read_switch_items(
     tokens: &[Token],
     room: u32,
 ) -> Result<Part<'_, Vec<SwitchItem>>, SyntaxErr>
-    ensures gives { GivesPart (Whole forms.SwitchItems 0) room (leaves_of tokens.now) shapes.switch_of (λ items. folds switch_before items.items trees.SwitchEnd) result }
+    ensures gives { GivesPart (Whole forms.SwitchItems 0) room (leaves_of tokens.now) shapes.switch_of switch_in result }
     ensures shorter { IfOk result (λ part. length part.rest.now < length tokens.now) }
 {
     let mut items = Vec::new(alloc);
@@ -716,7 +716,7 @@ fn read_switch_item(
     tokens: &[Token],
     room: u32,
 ) -> Result<Part<'_, Option<SwitchItem>>, SyntaxErr>
-    ensures gives { GivesElement (Whole forms.SwitchItems 0) room (leaves_of tokens.now) shapes.switch_of switch_before trees.SwitchEnd (Whole forms.SwitchItems 0) shapes.switch_of result }
+    ensures gives { GivesMore forms.SwitchItems room (leaves_of tokens.now) shapes.switch_of switch_before trees.SwitchEnd result }
     ensures shorter { IfOk result (λ part. length part.rest.now < length tokens.now) }
 {
     match switch_row(first_kind(tokens)?) {
@@ -750,7 +750,7 @@ fn read_case(
     tokens: &[Token],
     room: u32,
 ) -> Result<Part<'_, Option<SwitchItem>>, SyntaxErr>
-    ensures gives { GivesElement (Parts (forms.symbols_of forms.CaseRow)) room (leaves_of tokens.now) (λ parts. shapes.switch_of (Node forms.CaseRow parts)) switch_before trees.SwitchEnd (Whole forms.SwitchItems 0) shapes.switch_of result }
+    ensures gives { GivesRow forms.CaseRow forms.SwitchItems room (leaves_of tokens.now) shapes.switch_of switch_before trees.SwitchEnd result }
     ensures shorter { IfOk result (λ part. length part.rest.now < length tokens.now) }
 {
     let word = pass(tokens, Kind::Case)?;
@@ -767,7 +767,7 @@ fn read_case(
 
 /// Reads `default`.
 fn read_default(tokens: &[Token], room: u32) -> Result<Part<'_, Option<SwitchItem>>, SyntaxErr>
-    ensures gives { GivesElement (Parts (forms.symbols_of forms.DefaultRow)) room (leaves_of tokens.now) (λ parts. shapes.switch_of (Node forms.DefaultRow parts)) switch_before trees.SwitchEnd (Whole forms.SwitchItems 0) shapes.switch_of result }
+    ensures gives { GivesRow forms.DefaultRow forms.SwitchItems room (leaves_of tokens.now) shapes.switch_of switch_before trees.SwitchEnd result }
     ensures shorter { IfOk result (λ part. length part.rest.now < length tokens.now) }
 {
     let word = pass(tokens, Kind::Default)?;

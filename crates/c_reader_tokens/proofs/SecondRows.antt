@@ -22,7 +22,7 @@ use Rattle.c_reader_tokens.proofs.Rows.{chosen_by, chosen, no_row, bad, deep}
 -- ---- the operand of `sizeof`, which begins with `(`
 
 -- what the kind behind the `(` tells
-abbrev by_tests : Bool → Bool → Choice Forms.Form
+abbrev by_tests : Bool → Bool → Choice Forms.Production
 by_tests of_type of_expr = if of_type then Take Forms.SizeofType 0 0 else if of_expr then Take Forms.SizeofExpr 0 2 else Stuck 0
 
 operand_at : {next : Kind} {text : List Leaf} {of_type of_expr : Bool} → Begins K.OpenParenthesis text → next ≡ second_kind_of text → is_type_word next ≡ of_type → begins_expr next ≡ of_expr → choose_at kind_of sample Forms.SizeofOperand 0 text ≡ by_tests of_type of_expr
@@ -62,7 +62,7 @@ plain_misfit room fault begins other told same = bad fault (never (plain_at begi
 
 -- ---- a declarator that begins with `(` and may lack its name
 
-nested_at : {next : Kind} {text : List Leaf} {choice : Choice Forms.Form} (named : Bool) → Begins K.OpenParenthesis text → next ≡ second_kind_of text → choice ≡ choose_nested named next → choose_at kind_of sample (Forms.ParamDirect named) 0 text ≡ choice
+nested_at : {next : Kind} {text : List Leaf} {choice : Choice Forms.Production} (named : Bool) → Begins K.OpenParenthesis text → next ≡ second_kind_of text → choice ≡ choose_nested named next → choose_at kind_of sample (Forms.ParamDirect named) 0 text ≡ choice
 nested_at named begins second row = chosen_by (Forms.ParamDirect named) 0 begins ∙ ap (choose_nested named) (sym second) ∙ sym row
 
 pub nested_deep : {next : Kind} {named : Bool} {text middle : List Leaf} {place : Pos} (room : ℕ) (fault : SyntaxErr) → Passes K.OpenParenthesis text place middle → Begins K.OpenParenthesis text → next ≡ second_kind_of text → Take (Forms.ParamNested named) 0 1 ≡ choose_nested named next → room < 1 → fault ≡ TooDeep (place_of middle) → Fails (Whole (Forms.ParamDirect named) 0) room text fault
@@ -80,7 +80,7 @@ nested_misfit {middle = middle} named room fault passes begins second row same =
 -- a name that it can't have
 pub no_named : {kind : Kind} {named : Bool} {text : List Leaf} (room : ℕ) (fault : SyntaxErr) → Begins kind text → kind ≡ K.Name → named ≡ false → fault ≡ At (place_of text) → Fails (Whole (Forms.ParamDirect named) 0) room text fault
 no_named {kind = kind} {named = named} {text = text} room fault begins name unnamed same =
-    let Row : Bool → Kind → Choice Forms.Form = λ b k. choose_by (Forms.ParamDirect b) 0 k (second_kind_of text) in
+    let Row : Bool → Kind → Choice Forms.Production = λ b k. choose_by (Forms.ParamDirect b) 0 k (second_kind_of text) in
     no_row room fault (chosen (Forms.ParamDirect named) 0 begins (ap (Row named) name ∙ ap (λ b. Row b K.Name) unnamed)) same
 
 and_none : (named test : Bool) → take_if (test && false) (Forms.ParamName named) Never ≡ Never
@@ -89,5 +89,5 @@ and_none named false = refl
 
 pub no_param : {kind : Kind} {text : List Leaf} (named : Bool) (room : ℕ) (fault : SyntaxErr) → Begins kind text → (kind ≡ K.OpenParenthesis → ⊥) → (kind ≡ K.OpenBracket → ⊥) → (kind ≡ K.Name → ⊥) → fault ≡ At (place_of text) → Fails (Whole (Forms.ParamDirect named) 0) room text fault
 no_param {kind = kind} {text = text} named room fault begins no_parenthesis no_bracket no_name same =
-    let Row : Bool → Bool → Bool → Choice Forms.Form = λ parenthesis bracket name. if parenthesis then choose_nested named (second_kind_of text) else take_if bracket (Forms.ParamArray named) (take_if (named && name) (Forms.ParamName named) Never) in
+    let Row : Bool → Bool → Bool → Choice Forms.Production = λ parenthesis bracket name. if parenthesis then choose_nested named (second_kind_of text) else take_if bracket (Forms.ParamArray named) (take_if (named && name) (Forms.ParamName named) Never) in
     no_row room fault (chosen (Forms.ParamDirect named) 0 begins (ap (λ p. Row p (is kind K.OpenBracket) (is kind K.Name)) (is_other kind K.OpenParenthesis no_parenthesis) ∙ ap (λ b. Row false b (is kind K.Name)) (is_other kind K.OpenBracket no_bracket) ∙ ap (Row false false) (is_other kind K.Name no_name) ∙ and_none named named)) same

@@ -1,7 +1,7 @@
 -- The stars of a declarator, read one after another.
 use Rattle.std.proofs.Common.{◌≡◌, ℕ, suc, ◌+◌, ◌≤◌, List, [], ◌∷◌, refl, sym, ◌∙◌, ap, subst, arith}
 use Rattle.text_place.specs.declared.place.Pos.{Pos}
-use Rattle.grammar_table.specs.Table.{Token, Part, Alone, Nothing, Then, Node, Choice, Never, Take, height}
+use Rattle.grammar_table.specs.Table.{Terminal, Nonterminal, Alone, Nothing, Then, Node, Choice, Never, Take, height}
 use Rattle.grammar_table.specs.Runs.{Parts, Whole, Run, row_done, no_more, at_end}
 use Rattle.c_grammar.specs.declared.kind.Kind.{Kind}
 use Rattle.c_grammar.specs.declared.kind.Kind.TheVariants as K

@@ -1,7 +1,7 @@
 -- The words of a type, read one after another.
 use Rattle.std.proofs.Common.{◌≡◌, ℕ, ◌+◌, ◌<◌, ◌≤◌, Bool, true, false, ◌&&◌, ◌⊎◌, inl, inr, List, [], ◌∷◌, Option, Some, None, refl, sym, ◌∙◌, ap, subst, arith}
 use Rattle.text_place.specs.declared.place.Pos.{Pos}
-use Rattle.grammar_table.specs.Table.{Token, Part, Alone, Nothing, Then, Node, Choice, Never, Take, height, leaves}
+use Rattle.grammar_table.specs.Table.{Terminal, Nonterminal, Alone, Nothing, Then, Node, Choice, Never, Take, height, leaves}
 use Rattle.grammar_table.specs.Runs.{Parts, Whole, Run, Done, fits_first}
 use Rattle.c_grammar.specs.declared.kind.Kind.{Kind}
 use Rattle.c_grammar.specs.declared.kind.Kind.TheVariants as K
@@ -150,7 +150,7 @@ moved (inr less) other = less
 pub begins_passed : {kind : Kind} {text behind : List Leaf} {place : Pos} → Passes kind text place behind → Begins kind text
 begins_passed {behind = behind} passes = record { leaf = passes.leaf; behind = behind; parts = passes.parts; is_kind = passes.is_kind }
 
-tag_row : {text middle : List Leaf} {place : Pos} (room : ℕ) (passes : Passes K.Struct text place middle) → Within (Forms.Base false NoWord) 0 room text room (Token K.Name ∷ Part (Forms.Base false FullType) 0 ∷ []) middle (λ others. Node (Forms.BaseStruct false) (Then (Alone passes.leaf) others))
+tag_row : {text middle : List Leaf} {place : Pos} (room : ℕ) (passes : Passes K.Struct text place middle) → Within (Forms.Base false NoWord) 0 room text room (Terminal K.Name ∷ Nonterminal (Forms.Base false FullType) 0 ∷ []) middle (λ others. Node (Forms.BaseStruct false) (Then (Alone passes.leaf) others))
 tag_row room passes = behind_token passes.leaf (begin (chosen (Forms.Base false NoWord) 0 (begins_passed passes) refl) refl) passes.parts passes.is_kind
 
 -- Where no word can stand, and no `struct`, no type begins.
@@ -167,7 +167,7 @@ no_tag own (leaf ∷ text) room fault ends none same =
 pub no_name : {text middle : List Leaf} {place : Pos} (room : ℕ) (fault : SyntaxErr) → Passes K.Struct text place middle → IsUnfit K.Name middle fault → Fails (Whole (Forms.Base false NoWord) 0) room text fault
 no_name room fault passes is_unfit = unfit_fault fault (tag_row room passes) is_unfit
 
-name_row : {text middle behind : List Leaf} {place : Pos} {name : Trees.NameTree} (room : ℕ) (passes : Passes K.Struct text place middle) (named : PassesName middle name behind) → Within (Forms.Base false NoWord) 0 room text room (Part (Forms.Base false FullType) 0 ∷ []) behind (λ others. Node (Forms.BaseStruct false) (Then (Alone passes.leaf) (Then (Alone named.leaf) others)))
+name_row : {text middle behind : List Leaf} {place : Pos} {name : Trees.NameTree} (room : ℕ) (passes : Passes K.Struct text place middle) (named : PassesName middle name behind) → Within (Forms.Base false NoWord) 0 room text room (Nonterminal (Forms.Base false FullType) 0 ∷ []) behind (λ others. Node (Forms.BaseStruct false) (Then (Alone passes.leaf) (Then (Alone named.leaf) others)))
 name_row room passes named = behind_token named.leaf (tag_row room passes) named.parts named.is_kind
 
 pub tag_cut : {text middle behind rest : List Leaf} {place : Pos} {name : Trees.NameTree} {now : Words} (room : ℕ) (fault : SyntaxErr) → Passes K.Struct text place middle → PassesName middle name behind → PassesWords false room behind FullType rest now → rest ≡ [] → fault ≡ At (place_of rest) → Fails (Whole (Forms.Base false NoWord) 0) room text fault

@@ -55,7 +55,7 @@ GivesName leaves (Err fault) = IsUnfit K.Name leaves fault
 -- ---- expressions
 
 -- This row is chosen, and there is room for it.
-pub record BeginsRow (sort : Forms.Sort) (level room : ℕ) (text : List Leaf) (form : Forms.Form) : Type 0 where
+pub record BeginsRow (sort : Forms.Sort) (level room : ℕ) (text : List Leaf) (form : Forms.Production) : Type 0 where
   pub first : ℕ
   pub second : ℕ
   pub chosen : choose_at kind_of sample sort level text ≡ Take form first second
@@ -71,7 +71,7 @@ direct_starts row text = Unit {0}
 -- ---- lists
 
 -- What one job comes to, another one comes to, with what was read in front.
-pub record Onto (job job' : Job Leaf Kind Forms.Sort Forms.Form) (room : ℕ) (text middle : List Leaf) (build : Parse → Parse) : Type 0 where
+pub record Onto (job job' : Job Leaf Kind Forms.Sort Forms.Production) (room : ℕ) (text middle : List Leaf) (build : Parse → Parse) : Type 0 where
   pub done : {tree : Parse} {behind : List Leaf} → Run grammar job' room middle (Done tree behind) → Run grammar job room text (Done (build tree) behind)
   pub failed : {fault : Fault} {behind : List Leaf} → Run grammar job' room middle (Failed fault behind) → Run grammar job room text (Failed fault behind)
 

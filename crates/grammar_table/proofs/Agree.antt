@@ -6,20 +6,20 @@ use Rattle.grammar_table.specs.Laws.{Bounds}
 use Rattle.grammar_table.proofs.Exact.{grows, chosen_row}
 
 -- the tree that was read, or want of memory or room
-abbrev pub Agrees : {Leaf Kind Sort Form : Type 0} → (T : Table Leaf Kind Sort Form) → (room : ℕ) → (tree' : Tree Leaf Form) → (behind' : List Leaf) → Outcome Leaf Form → Type 0
+abbrev pub Agrees : {Leaf Kind Sort Production : Type 0} → (T : Table Leaf Kind Sort Production) → (room : ℕ) → (tree' : Tree Leaf Production) → (behind' : List Leaf) → Outcome Leaf Production → Type 0
 Agrees T room tree' behind' (Done tree behind) = (tree ≡ tree') × (behind ≡ behind')
 Agrees T room tree' behind' (Failed Bad behind) = ⊥
 Agrees T room tree' behind' (Failed Deep behind) = room < height T tree'
 Agrees T room tree' behind' (Failed Memory behind) = Unit {0}
 
-module _ {Leaf Kind Sort Form : Type 0} (T : Table Leaf Kind Sort Form) where
-  higher : (fault : Fault) (behind behind' behind2 : List Leaf) (room room2 : ℕ) (tree' tree2 : Tree Leaf Form) → (room < height T tree' → room2 < height T tree2) → Agrees T room tree' behind' (Failed fault behind) → Agrees T room2 tree2 behind2 (Failed fault behind)
+module _ {Leaf Kind Sort Production : Type 0} (T : Table Leaf Kind Sort Production) where
+  higher : (fault : Fault) (behind behind' behind2 : List Leaf) (room room2 : ℕ) (tree' tree2 : Tree Leaf Production) → (room < height T tree' → room2 < height T tree2) → Agrees T room tree' behind' (Failed fault behind) → Agrees T room2 tree2 behind2 (Failed fault behind)
   higher Bad behind behind' behind2 room room2 tree' tree2 f h = h
   higher Deep behind behind' behind2 room room2 tree' tree2 f h = f h
   higher Memory behind behind' behind2 room room2 tree' tree2 f h = tt
 
   module _ (bounds : Bounds T) where
-    pub agree : {job : Job Leaf Kind Sort Form} {room : ℕ} {text : List Leaf} {outcome : Outcome Leaf Form} → Run T job room text outcome → (text' : List Leaf) → text ≡ text' → (room' : ℕ) (tree' : Tree Leaf Form) (behind' : List Leaf) → Run T job room' text' (Done tree' behind') → Agrees T room tree' behind' outcome
+    pub agree : {job : Job Leaf Kind Sort Production} {room : ℕ} {text : List Leaf} {outcome : Outcome Leaf Production} → Run T job room text outcome → (text' : List Leaf) → text ≡ text' → (room' : ℕ) (tree' : Tree Leaf Production) (behind' : List Leaf) → Run T job room' text' (Done tree' behind') → Agrees T room tree' behind' outcome
     agree (no_memory behind) text' e room' tree' behind' target = tt
     agree at_end text' e room' tree' behind' at_end = (refl, e)
     agree (unfit {kind = kind} none) text' e room' tree' behind' (token_done fits target) =

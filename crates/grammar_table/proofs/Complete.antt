@@ -1,12 +1,12 @@
 -- Each tree is read from its leaves, where what stands behind it may stand there and there is room for it.
 use Rattle.std.proofs.Common.{ℕ, ◌+◌, ◌-◌, ◌≤◌, List, ◌++◌, sym, subst, arith, append_assoc}
-use Rattle.grammar_table.specs.Table.{Sym, Tree, Table, leaves, height, Is, nothing, token, part, IsPart, first, after}
+use Rattle.grammar_table.specs.Table.{Symbol, Tree, Table, leaves, height, Is, nothing, token, part, IsPart, first, after}
 use Rattle.grammar_table.specs.Runs.{Parts, Whole, More, Outcome, Done, Run, at_end, token_done, part_done, row_done, no_more, more_done}
 use Rattle.grammar_table.specs.Laws.{Bounds, ReadsTrees, Followed}
 
-module _ {Leaf Kind Sort Form : Type 0} (T : Table Leaf Kind Sort Form) (Ends Stands : Sort → ℕ → Tree Leaf Form → List Leaf → Type 0) (bounds : Bounds T) (laws : ReadsTrees T Ends Stands) where
+module _ {Leaf Kind Sort Production : Type 0} (T : Table Leaf Kind Sort Production) (Ends Stands : Sort → ℕ → Tree Leaf Production → List Leaf → Type 0) (bounds : Bounds T) (laws : ReadsTrees T Ends Stands) where
   mutual
-    pub reads_parts : {symbols : List (Sym Kind Sort)} {trees : Tree Leaf Form} → Is T symbols trees → (text : List Leaf) (room : ℕ) → Followed T Ends symbols trees text → height T trees ≤ room → Run T (Parts symbols) room (leaves trees ++ text) (Done trees text)
+    pub reads_parts : {symbols : List (Symbol Kind Sort)} {trees : Tree Leaf Production} → Is T symbols trees → (text : List Leaf) (room : ℕ) → Followed T Ends symbols trees text → height T trees ≤ room → Run T (Parts symbols) room (leaves trees ++ text) (Done trees text)
     reads_parts nothing text room followed fits = at_end
     reads_parts (token leaf kind_fits others) text room followed fits = token_done kind_fits (reads_parts others text room followed (omega (arith, fits)))
     reads_parts (part {sort = sort} {level = level} {symbols = symbols} {tree = tree} {others = trees} is others free) text room followed fits =
@@ -16,7 +16,7 @@ module _ {Leaf Kind Sort Form : Type 0} (T : Table Leaf Kind Sort Form) (Ends St
         part_done whole (reads_parts others text room followed.1 (omega (arith, fits)))
 
     -- whatever comes behind the tree
-    pub reads_chain : {sort : Sort} {own : ℕ} {tree : Tree Leaf Form} → IsPart T sort own tree → (level : ℕ) → own ≤ level → (text : List Leaf) (room : ℕ) (outcome : Outcome Leaf Form) → Stands sort level tree text → height T tree ≤ room → Run T (More sort level tree) room text outcome → Run T (Whole sort level) room (leaves tree ++ text) outcome
+    pub reads_chain : {sort : Sort} {own : ℕ} {tree : Tree Leaf Production} → IsPart T sort own tree → (level : ℕ) → own ≤ level → (text : List Leaf) (room : ℕ) (outcome : Outcome Leaf Production) → Stands sort level tree text → height T tree ≤ room → Run T (More sort level tree) room text outcome → Run T (Whole sort level) room (leaves tree ++ text) outcome
     reads_chain (first {sort = sort} {parts = parts} form own_sort own_row own_left own_level is) level le text room outcome stands fits more =
         let up : T.level form ≤ level = omega (arith, own_level, le) in
         let followed = laws.row_followed sort level form parts text own_sort own_row own_left up is stands in

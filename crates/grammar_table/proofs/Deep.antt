@@ -1,23 +1,23 @@
 -- A leaf that is too deep would fit if nesting had no limit: there is a tree that begins with what was passed and with it.
 use Rattle.std.proofs.Common.{◌≡◌, ℕ, ◌<◌, inr, true, false, List, [], ◌∷◌, ◌++◌, Some, None, sym, refl, ◌∙◌, ap, subst, arith, append_assoc}
-use Rattle.grammar_table.specs.Table.{Sym, Token, Tree, Alone, Then, Node, Table, leaves, barred, Is, token, part, IsPart, first, after, least_parts, Orderly}
+use Rattle.grammar_table.specs.Table.{Symbol, Terminal, Tree, Alone, Then, Node, Table, leaves, barred, Is, token, part, IsPart, first, after, least_parts, Orderly}
 use Rattle.grammar_table.specs.Runs.{Job, Parts, Whole, More, Fault, Deep, Failed, fits_first, Run, no_memory, unfit, token_failed, part_failed, then_failed, never, stuck, stuck_deep, first_deep, second_deep, row_failed, row_done, more_deep, more_failed, more_done}
 use Rattle.grammar_table.specs.Laws.{lowest, Completes}
 use Rattle.grammar_table.proofs.Sound.{at_level, least_is, least_is_free, sound}
 
 -- A tree that begins with what was passed and the leaf behind it, behind the leaves of a tree before it.
-pub record Through {Leaf Form : Type 0} (Spelled : Tree Leaf Form → Type 0) (before text behind : List Leaf) : Type 0 where
+pub record Through {Leaf Production : Type 0} (Spelled : Tree Leaf Production → Type 0) (before text behind : List Leaf) : Type 0 where
   pub front : List Leaf
   pub leaf : Leaf
   pub others : List Leaf
   pub more : List Leaf
-  pub tree : Tree Leaf Form
+  pub tree : Tree Leaf Production
   pub spelled : Spelled tree
   pub passed : text ≡ front ++ behind
   pub at : behind ≡ leaf ∷ others
   pub continues : leaves tree ≡ before ++ (front ++ leaf ∷ more)
 
-abbrev pub FitsWithMore : {Leaf Kind Sort Form : Type 0} → (T : Table Leaf Kind Sort Form) → Job Leaf Kind Sort Form → List Leaf → List Leaf → Type 0
+abbrev pub FitsWithMore : {Leaf Kind Sort Production : Type 0} → (T : Table Leaf Kind Sort Production) → Job Leaf Kind Sort Production → List Leaf → List Leaf → Type 0
 FitsWithMore T (Parts symbols) text behind = Orderly T symbols → Through (Is T symbols) [] text behind
 FitsWithMore T (Whole sort level) text behind = Through (IsPart T sort level) [] text behind
 FitsWithMore T (More sort level left) text behind = IsPart T sort level left → Through (IsPart T sort level) (leaves left) text behind
@@ -25,8 +25,8 @@ FitsWithMore T (More sort level left) text behind = IsPart T sort level left →
 regroup : {A : Type 0} (a b c d : List A) → (a ++ b) ++ (c ++ d) ≡ a ++ ((b ++ c) ++ d)
 regroup a b c d = simp append_assoc
 
-module _ {Leaf Kind Sort Form : Type 0} (T : Table Leaf Kind Sort Form) (laws : Completes T) where
-  barred_through : (tree : Tree Leaf Form) (front : List Leaf) (leaf : Leaf) (others more middle behind : List Leaf) → middle ≡ front ++ behind → behind ≡ leaf ∷ others → barred T tree middle ≡ false → barred T tree (front ++ leaf ∷ more) ≡ false
+module _ {Leaf Kind Sort Production : Type 0} (T : Table Leaf Kind Sort Production) (laws : Completes T) where
+  barred_through : (tree : Tree Leaf Production) (front : List Leaf) (leaf : Leaf) (others more middle behind : List Leaf) → middle ≡ front ++ behind → behind ≡ leaf ∷ others → barred T tree middle ≡ false → barred T tree (front ++ leaf ∷ more) ≡ false
   barred_through tree [] leaf others more middle behind e at h = sym (ap (barred T tree) (e ∙ at)) ∙ h
   barred_through tree (x ∷ front) leaf others more middle behind e at h = sym (ap (barred T tree) e) ∙ h
 
@@ -39,7 +39,7 @@ module _ {Leaf Kind Sort Form : Type 0} (T : Table Leaf Kind Sort Form) (laws : 
       record { front = []; leaf = leaf; others = text; more = b.more; tree = b.tree; spelled = b.spelled; passed = refl; at = refl; continues = b.continues }
 
   -- a row that goes on with a leaf, and the least trees behind that
-  next_at : (form : Form) (kind : Kind) (symbols : List (Sym Kind Sort)) (text : List Leaf) → T.symbols form ≡ Token kind ∷ symbols → fits_first T kind text ≡ true → Through (Is T (T.symbols form)) [] text text
+  next_at : (form : Production) (kind : Kind) (symbols : List (Symbol Kind Sort)) (text : List Leaf) → T.symbols form ≡ Terminal kind ∷ symbols → fits_first T kind text ≡ true → Through (Is T (T.symbols form)) [] text text
   next_at form kind symbols [] row told = absurd (cc told)
   next_at form kind symbols (leaf ∷ text) row told = record {
     front = [];
@@ -53,7 +53,7 @@ module _ {Leaf Kind Sort Form : Type 0} (T : Table Leaf Kind Sort Form) (laws : 
     continues = refl;
   }
 
-  pub deepens : {job : Job Leaf Kind Sort Form} {room : ℕ} {text : List Leaf} {fault : Fault} {behind : List Leaf} → Run T job room text (Failed fault behind) → fault ≡ Deep → FitsWithMore T job text behind
+  pub deepens : {job : Job Leaf Kind Sort Production} {room : ℕ} {text : List Leaf} {fault : Fault} {behind : List Leaf} → Run T job room text (Failed fault behind) → fault ≡ Deep → FitsWithMore T job text behind
   deepens (no_memory behind) e = absurd (cc e)
   deepens (unfit none) e = absurd (cc e)
   deepens (token_failed {leaf = leaf} fits run) e = λ orderly.

@@ -9,34 +9,34 @@ decide : {A B C : Type 0} → A ⊎ B → (A → C) → (B → C) → C
 decide (inl a) f g = f a
 decide (inr b) f g = g b
 
-pub within_more : {Leaf Form : Type 0} (outcome : Outcome Leaf Form) (n m : ℕ) → n ≤ m → Within n outcome → Within m outcome
+pub within_more : {Leaf Production : Type 0} (outcome : Outcome Leaf Production) (n m : ℕ) → n ≤ m → Within n outcome → Within m outcome
 within_more (Done tree behind) n m le h = omega (arith, le, h)
 within_more (Failed Bad behind) n m le h = omega (arith, le, h)
 within_more (Failed Deep behind) n m le h = omega (arith, le, h)
 within_more (Failed Memory behind) n m le h = tt
 
 -- What was read tree for tree, or has come to where the texts part.
-pub data Kept {Leaf Form : Type 0} (u u' : List Leaf) (tree : Tree Leaf Form) (behind : List Leaf) (tree' : Tree Leaf Form) (behind' : List Leaf) : Type 0 where
+pub data Kept {Leaf Production : Type 0} (u u' : List Leaf) (tree : Tree Leaf Production) (behind : List Leaf) (tree' : Tree Leaf Production) (behind' : List Leaf) : Type 0 where
   past : length behind ≤ length u → Kept u u' tree behind tree' behind'
   same : tree ≡ tree' → (common : List Leaf) → behind ≡ common ++ u → behind' ≡ common ++ u' → Kept u u' tree behind tree' behind'
 
-abbrev pub Verdict : {Leaf Kind Sort Form : Type 0} → (T : Table Leaf Kind Sort Form) → (room : ℕ) → (u u' : List Leaf) → (tree' : Tree Leaf Form) → (behind' : List Leaf) → Outcome Leaf Form → Type 0
+abbrev pub Verdict : {Leaf Kind Sort Production : Type 0} → (T : Table Leaf Kind Sort Production) → (room : ℕ) → (u u' : List Leaf) → (tree' : Tree Leaf Production) → (behind' : List Leaf) → Outcome Leaf Production → Type 0
 Verdict T room u u' tree' behind' (Done tree behind) = Kept u u' tree behind tree' behind'
 Verdict T room u u' tree' behind' (Failed Bad behind) = length behind ≤ length u
 Verdict T room u u' tree' behind' (Failed Deep behind) = (length behind ≤ length u) ⊎ (room < height T tree')
 Verdict T room u u' tree' behind' (Failed Memory behind) = Unit {0}
 
-module _ {Leaf Kind Sort Form : Type 0} (T : Table Leaf Kind Sort Form) where
+module _ {Leaf Kind Sort Production : Type 0} (T : Table Leaf Kind Sort Production) where
   -- A reader goes forward.
-  pub shrinks : {job : Job Leaf Kind Sort Form} {room : ℕ} {text : List Leaf} {outcome : Outcome Leaf Form} → Run T job room text outcome → Within (length text) outcome
+  pub shrinks : {job : Job Leaf Kind Sort Production} {room : ℕ} {text : List Leaf} {outcome : Outcome Leaf Production} → Run T job room text outcome → Within (length text) outcome
   shrinks (no_memory behind) = tt
   shrinks at_end = omega arith
   shrinks (unfit none) = omega arith
   shrinks (token_done fits run) = omega (arith, shrinks run)
-  shrinks (token_failed {text = text} {behind = behind} {fault = fault} fits run) = within_more {Form = Form} (Failed fault behind) (length text) (suc (length text)) (omega arith) (shrinks run)
+  shrinks (token_failed {text = text} {behind = behind} {fault = fault} fits run) = within_more {Production = Production} (Failed fault behind) (length text) (suc (length text)) (omega arith) (shrinks run)
   shrinks (part_done run others) = omega (arith, shrinks run, shrinks others)
   shrinks (part_failed run) = shrinks run
-  shrinks (then_failed {text = text} {middle = middle} {behind = behind} {fault = fault} run others) = within_more {Form = Form} (Failed fault behind) (length middle) (length text) (shrinks run) (shrinks others)
+  shrinks (then_failed {text = text} {middle = middle} {behind = behind} {fault = fault} run others) = within_more {Production = Production} (Failed fault behind) (length middle) (length text) (shrinks run) (shrinks others)
   shrinks (never chosen) = omega arith
   shrinks (stuck chosen fit) = omega arith
   shrinks (stuck_deep chosen deep) = omega arith
@@ -49,42 +49,42 @@ module _ {Leaf Kind Sort Form : Type 0} (T : Table Leaf Kind Sort Form) where
   shrinks (more_failed chosen fit fit' down run) = shrinks run
   shrinks (more_done {text = text} {middle = middle} {outcome = outcome} chosen fit fit' down run others) = within_more outcome (length middle) (length text) (shrinks run) (shrinks others)
 
-  from_past : (room : ℕ) (u u' : List Leaf) (tree' : Tree Leaf Form) (behind' : List Leaf) (outcome : Outcome Leaf Form) → Within (length u) outcome → Verdict T room u u' tree' behind' outcome
+  from_past : (room : ℕ) (u u' : List Leaf) (tree' : Tree Leaf Production) (behind' : List Leaf) (outcome : Outcome Leaf Production) → Within (length u) outcome → Verdict T room u u' tree' behind' outcome
   from_past room u u' tree' behind' (Done tree behind) h = past h
   from_past room u u' tree' behind' (Failed Bad behind) h = h
   from_past room u u' tree' behind' (Failed Deep behind) h = inl h
   from_past room u u' tree' behind' (Failed Memory behind) h = tt
 
   -- a reading that begins where the texts part
-  begun_past : (room : ℕ) (u u' : List Leaf) (tree' : Tree Leaf Form) (behind' : List Leaf) {job : Job Leaf Kind Sort Form} {own : ℕ} {text : List Leaf} {outcome : Outcome Leaf Form} → length text ≤ length u → Run T job own text outcome → Verdict T room u u' tree' behind' outcome
+  begun_past : (room : ℕ) (u u' : List Leaf) (tree' : Tree Leaf Production) (behind' : List Leaf) {job : Job Leaf Kind Sort Production} {own : ℕ} {text : List Leaf} {outcome : Outcome Leaf Production} → length text ≤ length u → Run T job own text outcome → Verdict T room u u' tree' behind' outcome
   begun_past room u u' tree' behind' {text = text} {outcome = outcome} le run = from_past room u u' tree' behind' outcome (within_more outcome (length text) (length u) le (shrinks run))
 
-  wider : (fault : Fault) (behind : List Leaf) (room room2 : ℕ) (u u' : List Leaf) (tree' tree2 : Tree Leaf Form) (behind' behind2 : List Leaf) → (room < height T tree' → room2 < height T tree2) → Verdict T room u u' tree' behind' (Failed fault behind) → Verdict T room2 u u' tree2 behind2 (Failed fault behind)
+  wider : (fault : Fault) (behind : List Leaf) (room room2 : ℕ) (u u' : List Leaf) (tree' tree2 : Tree Leaf Production) (behind' behind2 : List Leaf) → (room < height T tree' → room2 < height T tree2) → Verdict T room u u' tree' behind' (Failed fault behind) → Verdict T room2 u u' tree2 behind2 (Failed fault behind)
   wider Bad behind room room2 u u' tree' tree2 behind' behind2 f h = h
   wider Deep behind room room2 u u' tree' tree2 behind' behind2 f (inl h) = inl h
   wider Deep behind room room2 u u' tree' tree2 behind' behind2 f (inr h) = inr (f h)
   wider Memory behind room room2 u u' tree' tree2 behind' behind2 f h = tt
 
-  kept_then : (u u' : List Leaf) (first first' others others' : Tree Leaf Form) (behind behind' : List Leaf) → first ≡ first' → Kept u u' others behind others' behind' → Kept u u' (Then first others) behind (Then first' others') behind'
+  kept_then : (u u' : List Leaf) (first first' others others' : Tree Leaf Production) (behind behind' : List Leaf) → first ≡ first' → Kept u u' others behind others' behind' → Kept u u' (Then first others) behind (Then first' others') behind'
   kept_then u u' first first' others others' behind behind' e (past h) = past h
   kept_then u u' first first' others others' behind behind' e (same e' common a b) = same (cc (e, e')) common a b
 
-  kept_part : (u u' : List Leaf) (tree tree' others others' : Tree Leaf Form) (middle middle' behind behind' : List Leaf) → Kept u u' tree middle tree' middle' → length behind ≤ length middle → ((common : List Leaf) → middle ≡ common ++ u → middle' ≡ common ++ u' → Kept u u' others behind others' behind') → Kept u u' (Then tree others) behind (Then tree' others') behind'
+  kept_part : (u u' : List Leaf) (tree tree' others others' : Tree Leaf Production) (middle middle' behind behind' : List Leaf) → Kept u u' tree middle tree' middle' → length behind ≤ length middle → ((common : List Leaf) → middle ≡ common ++ u → middle' ≡ common ++ u' → Kept u u' others behind others' behind') → Kept u u' (Then tree others) behind (Then tree' others') behind'
   kept_part u u' tree tree' others others' middle middle' behind behind' (past h) le f = past (omega (arith, h, le))
   kept_part u u' tree tree' others others' middle middle' behind behind' (same e common a b) le f = kept_then u u' tree tree' others others' behind behind' e (f common a b)
 
   -- what comes of a reading behind another
-  onward : (room : ℕ) (u u' : List Leaf) (tree tree' : Tree Leaf Form) (middle middle' : List Leaf) (whole' : Tree Leaf Form) (behind' : List Leaf) (outcome : Outcome Leaf Form) → Kept u u' tree middle tree' middle' → Within (length middle) outcome → (tree ≡ tree' → (common : List Leaf) → middle ≡ common ++ u → middle' ≡ common ++ u' → Verdict T room u u' whole' behind' outcome) → Verdict T room u u' whole' behind' outcome
+  onward : (room : ℕ) (u u' : List Leaf) (tree tree' : Tree Leaf Production) (middle middle' : List Leaf) (whole' : Tree Leaf Production) (behind' : List Leaf) (outcome : Outcome Leaf Production) → Kept u u' tree middle tree' middle' → Within (length middle) outcome → (tree ≡ tree' → (common : List Leaf) → middle ≡ common ++ u → middle' ≡ common ++ u' → Verdict T room u u' whole' behind' outcome) → Verdict T room u u' whole' behind' outcome
   onward room u u' tree tree' middle middle' whole' behind' outcome (past h) within f = from_past room u u' whole' behind' outcome (within_more outcome (length middle) (length u) h within)
   onward room u u' tree tree' middle middle' whole' behind' outcome (same e common a b) within f = f e common a b
 
   -- What goes on behind a tree is no lower.
-  pub grows : {sort : Sort} {level : ℕ} {left : Tree Leaf Form} {room : ℕ} {text : List Leaf} {tree : Tree Leaf Form} {behind : List Leaf} → Run T (More sort level left) room text (Done tree behind) → height T left ≤ height T tree
+  pub grows : {sort : Sort} {level : ℕ} {left : Tree Leaf Production} {room : ℕ} {text : List Leaf} {tree : Tree Leaf Production} {behind : List Leaf} → Run T (More sort level left) room text (Done tree behind) → height T left ≤ height T tree
   grows (no_more none) = omega arith
   grows (more_done chosen fit fit' down run others) = omega (arith, grows others)
 
-  pub record ChosenRow (sort : Sort) (level : ℕ) (text : List Leaf) (tree : Tree Leaf Form) : Type 0 where
-    pub form : Form
+  pub record ChosenRow (sort : Sort) (level : ℕ) (text : List Leaf) (tree : Tree Leaf Production) : Type 0 where
+    pub form : Production
     pub first : ℕ
     pub second : ℕ
     pub chosen : T.choose sort level text ≡ Take form first second
@@ -92,7 +92,7 @@ module _ {Leaf Kind Sort Form : Type 0} (T : Table Leaf Kind Sort Form) where
     pub second_fits : second ≤ height T tree
 
   module _ (bounds : Bounds T) where
-    pub chosen_row : {sort : Sort} {level room : ℕ} {text : List Leaf} {tree : Tree Leaf Form} {behind : List Leaf} → Run T (Whole sort level) room text (Done tree behind) → ChosenRow sort level text tree
+    pub chosen_row : {sort : Sort} {level room : ℕ} {text : List Leaf} {tree : Tree Leaf Production} {behind : List Leaf} → Run T (Whole sort level) room text (Done tree behind) → ChosenRow sort level text tree
     chosen_row {sort = sort} {level = level} {text = text} (row_done {below = below} {first = first} {second = second} {form = form} {middle = middle} {parts = parts} chosen fit fit' down run others) =
         let le : first ≤ second = bounds.first_least sort level text form first second chosen in
         let row : second ≤ height T parts + T.weight form = bounds.row_least sort level text form first second below parts middle chosen run in
@@ -108,11 +108,11 @@ module _ {Leaf Kind Sort Form : Type 0} (T : Table Leaf Kind Sort Form) where
     same_choice sort level leaf next rest rest' text text' e e' =
         ap (T.choose sort level) e ∙ tells.same_second sort level leaf next rest rest' ∙ sym (ap (T.choose sort level) e')
 
-    same_next : (sort : Sort) (level : ℕ) (left : Tree Leaf Form) (leaf : Leaf) (rest rest' text text' : List Leaf) → text ≡ leaf ∷ rest → text' ≡ leaf ∷ rest' → next_row T sort level left text ≡ next_row T sort level left text'
+    same_next : (sort : Sort) (level : ℕ) (left : Tree Leaf Production) (leaf : Leaf) (rest rest' text text' : List Leaf) → text ≡ leaf ∷ rest → text' ≡ leaf ∷ rest' → next_row T sort level left text ≡ next_row T sort level left text'
     same_next sort level left leaf rest rest' text text' e e' = ap (next_row T sort level left) e ∙ sym (ap (next_row T sort level left) e')
 
     -- the same row on both texts, or one that passes the only leaf that they share
-    same_row : (sort : Sort) (level room below : ℕ) (leaf : Leaf) (common u u' text text' : List Leaf) (form form' : Form) (first second first' second' : ℕ) → text ≡ leaf ∷ (common ++ u) → text' ≡ leaf ∷ (common ++ u') → T.choose sort level text ≡ Take form first second → T.choose sort level text' ≡ Take form' first' second' → second ≤ room → below + T.weight form ≡ room → (form ≡ form') ⊎ ((outcome : Outcome Leaf Form) → Run T (Parts (T.symbols form)) below text outcome → Within (length u) outcome)
+    same_row : (sort : Sort) (level room below : ℕ) (leaf : Leaf) (common u u' text text' : List Leaf) (form form' : Production) (first second first' second' : ℕ) → text ≡ leaf ∷ (common ++ u) → text' ≡ leaf ∷ (common ++ u') → T.choose sort level text ≡ Take form first second → T.choose sort level text' ≡ Take form' first' second' → second ≤ room → below + T.weight form ≡ room → (form ≡ form') ⊎ ((outcome : Outcome Leaf Production) → Run T (Parts (T.symbols form)) below text outcome → Within (length u) outcome)
     same_row sort level room below leaf [] u u' text text' form form' first second first' second' e e' chosen chosen' fit down =
         decide (tells.takes_first sort level leaf u u' form form' first second first' second' (sym (ap (T.choose sort level) e) ∙ chosen) (sym (ap (T.choose sort level) e') ∙ chosen')) inl (λ h. inr (λ outcome run. h room below outcome fit down (subst (λ x. Run T (Parts (T.symbols form)) below x outcome) e run)))
     same_row sort level room below leaf (next ∷ common) u u' text text' form form' first second first' second' e e' chosen chosen' fit down =
@@ -120,7 +120,7 @@ module _ {Leaf Kind Sort Form : Type 0} (T : Table Leaf Kind Sort Form) where
         let rows : Take form first second ≡ Take form' first' second' = sym chosen ∙ both ∙ chosen' in
         inl (cc rows)
 
-    pub exact : {job : Job Leaf Kind Sort Form} {room : ℕ} {text : List Leaf} {outcome : Outcome Leaf Form} → Run T job room text outcome → (common u u' text' : List Leaf) → text ≡ common ++ u → text' ≡ common ++ u' → (room' : ℕ) (tree' : Tree Leaf Form) (behind' : List Leaf) → Run T job room' text' (Done tree' behind') → Verdict T room u u' tree' behind' outcome
+    pub exact : {job : Job Leaf Kind Sort Production} {room : ℕ} {text : List Leaf} {outcome : Outcome Leaf Production} → Run T job room text outcome → (common u u' text' : List Leaf) → text ≡ common ++ u → text' ≡ common ++ u' → (room' : ℕ) (tree' : Tree Leaf Production) (behind' : List Leaf) → Run T job room' text' (Done tree' behind') → Verdict T room u u' tree' behind' outcome
     exact (no_memory behind) common u u' text' e e' room' tree' behind' target = tt
     exact at_end common u u' text' e e' room' tree' behind' at_end = same refl common e e'
     exact (unfit none) [] u u' text' e e' room' tree' behind' target = omega (arith, ap length e)

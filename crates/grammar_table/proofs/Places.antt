@@ -19,7 +19,7 @@ length_append : {A : Type 0} (xs ys : List A) → length (xs ++ ys) ≡ length x
 length_append [] ys = omega arith
 length_append (x ∷ xs) ys = omega (arith, length_append xs ys)
 
-module _ {Leaf Kind Sort Form : Type 0} (T : Table Leaf Kind Sort Form) (Ends Stands : Sort → ℕ → Tree Leaf Form → List Leaf → Type 0) (tells : Tells T) (bounds : Bounds T) (complete : Completes T) (reads : ReadsTrees T Ends Stands) (sort : Sort) (level : ℕ) (at_text_end : (tree : Tree Leaf Form) → IsPart T sort level tree → Ends sort level tree []) where
+module _ {Leaf Kind Sort Production : Type 0} (T : Table Leaf Kind Sort Production) (Ends Stands : Sort → ℕ → Tree Leaf Production → List Leaf → Type 0) (tells : Tells T) (bounds : Bounds T) (complete : Completes T) (reads : ReadsTrees T Ends Stands) (sort : Sort) (level : ℕ) (at_text_end : (tree : Tree Leaf Production) → IsPart T sort level tree → Ends sort level tree []) where
   -- an accepted text is read
   pub is_read : (limit : ℕ) (text : List Leaf) (accepted : Accepted T sort level limit text) → Run T (Whole sort level) limit text (Done accepted.tree [])
   is_read limit text accepted =
@@ -81,5 +81,5 @@ module _ {Leaf Kind Sort Form : Type 0} (T : Table Leaf Kind Sort Form) (Ends St
       }
 
   -- What is read is the tree of the text, whatever its height.
-  pub only : (limit : ℕ) (text : List Leaf) (outcome : Outcome Leaf Form) → Run T (Whole sort level) limit text outcome → (larger : ℕ) (accepted : Accepted T sort level larger text) → Agrees T limit accepted.tree [] outcome
+  pub only : (limit : ℕ) (text : List Leaf) (outcome : Outcome Leaf Production) → Run T (Whole sort level) limit text outcome → (larger : ℕ) (accepted : Accepted T sort level larger text) → Agrees T limit accepted.tree [] outcome
   only limit text outcome run larger accepted = agree T bounds run text refl larger accepted.tree [] (is_read larger text accepted)

@@ -1,28 +1,28 @@
 -- What a reader has read is a tree; and before a fault stands what a tree begins with, within the same room.
 use Rattle.std.proofs.Common.{◌≡◌, ℕ, ◌<◌, ◌≤◌, inl, false, List, [], ◌∷◌, ◌++◌, Some, sym, refl, ◌∙◌, ap, subst, arith, append_assoc}
 use Rattle.std.proofs.lemmas.List.{append-nil}
-use Rattle.grammar_table.specs.Table.{Sym, Token, Part, Tree, Alone, Then, Node, Table, leaves, height, barred, Is, nothing, token, part, IsPart, first, after, need_all, least_parts, Plain, Orderly}
+use Rattle.grammar_table.specs.Table.{Symbol, Terminal, Nonterminal, Tree, Alone, Then, Node, Table, leaves, height, barred, Is, nothing, token, part, IsPart, first, after, need_all, least_parts, Plain, Orderly}
 use Rattle.grammar_table.specs.Runs.{Job, Parts, Whole, More, Fault, Bad, Deep, Memory, Done, Failed, level_of, Run, no_memory, at_end, unfit, token_done, token_failed, part_done, part_failed, then_failed, never, stuck, stuck_deep, first_deep, second_deep, row_failed, row_done, no_more, more_deep, more_failed, more_done}
 use Rattle.grammar_table.specs.Laws.{lowest, IsDivided, Completes}
 
 -- the claim on what was read
-abbrev pub Spells : {Leaf Kind Sort Form : Type 0} → (T : Table Leaf Kind Sort Form) → Job Leaf Kind Sort Form → ℕ → List Leaf → Tree Leaf Form → List Leaf → Type 0
+abbrev pub Spells : {Leaf Kind Sort Production : Type 0} → (T : Table Leaf Kind Sort Production) → Job Leaf Kind Sort Production → ℕ → List Leaf → Tree Leaf Production → List Leaf → Type 0
 Spells T (Parts symbols) room text tree behind = Is T symbols tree × (text ≡ leaves tree ++ behind) × (height T tree ≤ room)
 Spells T (Whole sort level) room text tree behind = IsPart T sort level tree × (text ≡ leaves tree ++ behind) × (height T tree ≤ room)
 Spells T (More sort level left) room text tree behind = IsPart T sort level left → height T left ≤ room → IsPart T sort level tree × (leaves left ++ text ≡ leaves tree ++ behind) × (height T tree ≤ room)
 
 -- A tree that begins with what was passed before a fault, behind the leaves of a tree before it.
-pub record Completion {Leaf Kind Sort Form : Type 0} (T : Table Leaf Kind Sort Form) (Spelled : Tree Leaf Form → Type 0) (before : List Leaf) (room : ℕ) (text behind : List Leaf) : Type 0 where
+pub record Completion {Leaf Kind Sort Production : Type 0} (T : Table Leaf Kind Sort Production) (Spelled : Tree Leaf Production → Type 0) (before : List Leaf) (room : ℕ) (text behind : List Leaf) : Type 0 where
   pub front : List Leaf
   pub more : List Leaf
-  pub tree : Tree Leaf Form
+  pub tree : Tree Leaf Production
   pub spelled : Spelled tree
   pub passed : text ≡ front ++ behind
   pub continues : leaves tree ≡ before ++ (front ++ more)
   pub fits : height T tree ≤ room
 
 -- the claim on a fault
-abbrev pub CanGoOn : {Leaf Kind Sort Form : Type 0} → (T : Table Leaf Kind Sort Form) → Job Leaf Kind Sort Form → ℕ → List Leaf → List Leaf → Type 0
+abbrev pub CanGoOn : {Leaf Kind Sort Production : Type 0} → (T : Table Leaf Kind Sort Production) → Job Leaf Kind Sort Production → ℕ → List Leaf → List Leaf → Type 0
 CanGoOn T (Parts symbols) room text behind = need_all T symbols ≤ room → Orderly T symbols → (c : Completion T (Is T symbols) [] room text behind) × (Plain T symbols → c.front ≡ [] → (tree : _) → barred T tree (leaves c.tree) ≡ false)
 CanGoOn T (Whole sort level) room text behind = T.need sort level ≤ room → (c : Completion T (IsPart T sort level) [] room text behind) × (c.front ≡ [] → (tree : _) → barred T tree (leaves c.tree) ≡ false)
 CanGoOn T (More sort level left) room text behind = IsPart T sort level left → height T left ≤ room → Completion T (IsPart T sort level) (leaves left) room text behind
@@ -43,17 +43,17 @@ nothing_behind : {A : Type 0} (xs ys : List A) → xs ++ ys ≡ [] → ys ≡ []
 nothing_behind [] ys e = e
 nothing_behind (x ∷ xs) ys e = cc e
 
-module _ {Leaf Kind Sort Form : Type 0} (T : Table Leaf Kind Sort Form) where
+module _ {Leaf Kind Sort Production : Type 0} (T : Table Leaf Kind Sort Production) where
   -- Only the first leaf is barred.
-  pub barred_front : (tree : Tree Leaf Form) (xs ys : List Leaf) → barred T tree (xs ++ ys) ≡ false → barred T tree xs ≡ false
+  pub barred_front : (tree : Tree Leaf Production) (xs ys : List Leaf) → barred T tree (xs ++ ys) ≡ false → barred T tree xs ≡ false
   barred_front tree [] ys h = refl
   barred_front tree (x ∷ xs) ys h = h
 
-  pub barred_append : (tree : Tree Leaf Form) (xs ys : List Leaf) → barred T tree xs ≡ false → barred T tree ys ≡ false → barred T tree (xs ++ ys) ≡ false
+  pub barred_append : (tree : Tree Leaf Production) (xs ys : List Leaf) → barred T tree xs ≡ false → barred T tree ys ≡ false → barred T tree (xs ++ ys) ≡ false
   barred_append tree [] ys h h' = h'
   barred_append tree (x ∷ xs) ys h h' = h
 
-  barred_next : (tree : Tree Leaf Form) (front more behind middle : List Leaf) → middle ≡ front ++ behind → barred T tree middle ≡ false → (front ≡ [] → barred T tree (front ++ more) ≡ false) → barred T tree (front ++ more) ≡ false
+  barred_next : (tree : Tree Leaf Production) (front more behind middle : List Leaf) → middle ≡ front ++ behind → barred T tree middle ≡ false → (front ≡ [] → barred T tree (front ++ more) ≡ false) → barred T tree (front ++ more) ≡ false
   barred_next tree [] more behind middle e h f = f refl
   barred_next tree (x ∷ front) more behind middle e h f = sym (ap (barred T tree) e) ∙ h
 
@@ -62,27 +62,27 @@ module _ {Leaf Kind Sort Form : Type 0} (T : Table Leaf Kind Sort Form) where
   barred_by_least sort level (x ∷ xs) h = h x
 
   -- a tree read at a level stands at the level of its own form
-  pub at_level : (sort : Sort) (level own : ℕ) (tree : Tree Leaf Form) → level_of T tree ≤ own → IsPart T sort level tree → IsPart T sort own tree
+  pub at_level : (sort : Sort) (level own : ℕ) (tree : Tree Leaf Production) → level_of T tree ≤ own → IsPart T sort level tree → IsPart T sort own tree
   at_level sort level own _ le (first form own_sort own_row own_left own_level is) = first form own_sort own_row own_left le is
   at_level sort level own _ le (after form left_level own_sort own_row own_left own_level left is) = after form left_level own_sort own_row own_left le left is
 
   module _ (laws : Completes T) where
-    pub least_is : (symbols : List (Sym Kind Sort)) → Is T symbols (least_parts T symbols)
+    pub least_is : (symbols : List (Symbol Kind Sort)) → Is T symbols (least_parts T symbols)
     least_is [] = nothing
-    least_is (Token kind ∷ symbols) = token (T.sample kind) (laws.sample_fits kind) (least_is symbols)
-    least_is (Part sort level ∷ symbols) = part (laws.least_spelled sort level) (least_is symbols) (barred_by_least sort level (leaves (least_parts T symbols)) (laws.least_bars sort level))
+    least_is (Terminal kind ∷ symbols) = token (T.sample kind) (laws.sample_fits kind) (least_is symbols)
+    least_is (Nonterminal sort level ∷ symbols) = part (laws.least_spelled sort level) (least_is symbols) (barred_by_least sort level (leaves (least_parts T symbols)) (laws.least_bars sort level))
 
-    pub least_fits : (symbols : List (Sym Kind Sort)) → height T (least_parts T symbols) ≤ need_all T symbols
+    pub least_fits : (symbols : List (Symbol Kind Sort)) → height T (least_parts T symbols) ≤ need_all T symbols
     least_fits [] = omega arith
-    least_fits (Token kind ∷ symbols) = omega (arith, least_fits symbols)
-    least_fits (Part sort level ∷ symbols) = omega (arith, least_fits symbols, laws.least_height sort level)
+    least_fits (Terminal kind ∷ symbols) = omega (arith, least_fits symbols)
+    least_fits (Nonterminal sort level ∷ symbols) = omega (arith, least_fits symbols, laws.least_height sort level)
 
-    pub least_is_free : (symbols : List (Sym Kind Sort)) (tree : Tree Leaf Form) → Plain T symbols → barred T tree (leaves (least_parts T symbols)) ≡ false
+    pub least_is_free : (symbols : List (Symbol Kind Sort)) (tree : Tree Leaf Production) → Plain T symbols → barred T tree (leaves (least_parts T symbols)) ≡ false
     least_is_free [] tree plain = refl
-    least_is_free (Token kind ∷ symbols) tree plain = laws.sample_free kind tree plain.0
-    least_is_free (Part sort level ∷ symbols) tree plain = barred_append tree (leaves (T.least sort level)) (leaves (least_parts T symbols)) (laws.least_free sort level tree) (least_is_free symbols tree plain)
+    least_is_free (Terminal kind ∷ symbols) tree plain = laws.sample_free kind tree plain.0
+    least_is_free (Nonterminal sort level ∷ symbols) tree plain = barred_append tree (leaves (T.least sort level)) (leaves (least_parts T symbols)) (laws.least_free sort level tree) (least_is_free symbols tree plain)
 
-    pub sound : {job : Job Leaf Kind Sort Form} {room : ℕ} {text : List Leaf} {tree : Tree Leaf Form} {behind : List Leaf} → Run T job room text (Done tree behind) → Spells T job room text tree behind
+    pub sound : {job : Job Leaf Kind Sort Production} {room : ℕ} {text : List Leaf} {tree : Tree Leaf Production} {behind : List Leaf} → Run T job room text (Done tree behind) → Spells T job room text tree behind
     sound at_end = (nothing, refl, omega arith)
     sound (token_done {leaf = leaf} fits run) =
         let r = sound run in
@@ -107,29 +107,29 @@ module _ {Leaf Kind Sort Form : Type 0} (T : Table Leaf Kind Sort Form) where
         (r.0, ap (λ x. leaves left ++ x) p.1 ∙ sym (append_assoc (leaves left) (leaves parts) middle) ∙ r.1, r.2)
 
     -- Where nothing was passed, the least tree serves.
-    settle : (sort : Sort) (level room : ℕ) (text behind : List Leaf) → T.need sort level ≤ room → Completion T (IsPart T sort level) [] room text behind → (c : Completion T (IsPart T sort level) [] room text behind) × (c.front ≡ [] → (tree : Tree Leaf Form) → barred T tree (leaves c.tree) ≡ false)
+    settle : (sort : Sort) (level room : ℕ) (text behind : List Leaf) → T.need sort level ≤ room → Completion T (IsPart T sort level) [] room text behind → (c : Completion T (IsPart T sort level) [] room text behind) × (c.front ≡ [] → (tree : Tree Leaf Production) → barred T tree (leaves c.tree) ≡ false)
     settle sort level room text behind enough c = go c.front c.passed c.continues
       where
-        go : (front : List Leaf) → text ≡ front ++ behind → leaves c.tree ≡ front ++ c.more → (c : Completion T (IsPart T sort level) [] room text behind) × (c.front ≡ [] → (tree : Tree Leaf Form) → barred T tree (leaves c.tree) ≡ false)
+        go : (front : List Leaf) → text ≡ front ++ behind → leaves c.tree ≡ front ++ c.more → (c : Completion T (IsPart T sort level) [] room text behind) × (c.front ≡ [] → (tree : Tree Leaf Production) → barred T tree (leaves c.tree) ≡ false)
         go [] passed continues = (record { front = []; more = leaves (T.least sort level); tree = T.least sort level; spelled = laws.least_spelled sort level; passed = passed; continues = refl; fits = omega (arith, enough, laws.least_height sort level) }, λ e tree. laws.least_free sort level tree)
         go (x ∷ front) passed continues = (record { front = x ∷ front; more = c.more; tree = c.tree; spelled = c.spelled; passed = passed; continues = continues; fits = c.fits }, λ e tree. absurd (cc e))
 
-    least_completion : (sort : Sort) (level room : ℕ) (text : List Leaf) → T.need sort level ≤ room → (c : Completion T (IsPart T sort level) [] room text text) × (c.front ≡ [] → (tree : Tree Leaf Form) → barred T tree (leaves c.tree) ≡ false)
+    least_completion : (sort : Sort) (level room : ℕ) (text : List Leaf) → T.need sort level ≤ room → (c : Completion T (IsPart T sort level) [] room text text) × (c.front ≡ [] → (tree : Tree Leaf Production) → barred T tree (leaves c.tree) ≡ false)
     least_completion sort level room text enough = (record { front = []; more = leaves (T.least sort level); tree = T.least sort level; spelled = laws.least_spelled sort level; passed = refl; continues = refl; fits = omega (arith, enough, laws.least_height sort level) }, λ e tree. laws.least_free sort level tree)
 
-    begun_completion : (sort : Sort) (level room lowest1 : ℕ) (leaf : Leaf) (text : List Leaf) → lowest (T.choose sort level (leaf ∷ text)) ≡ Some lowest1 → IsDivided (T.choose sort level (leaf ∷ text)) → lowest1 ≤ room → (c : Completion T (IsPart T sort level) [] room (leaf ∷ text) text) × (c.front ≡ [] → (tree : Tree Leaf Form) → barred T tree (leaves c.tree) ≡ false)
+    begun_completion : (sort : Sort) (level room lowest1 : ℕ) (leaf : Leaf) (text : List Leaf) → lowest (T.choose sort level (leaf ∷ text)) ≡ Some lowest1 → IsDivided (T.choose sort level (leaf ∷ text)) → lowest1 ≤ room → (c : Completion T (IsPart T sort level) [] room (leaf ∷ text) text) × (c.front ≡ [] → (tree : Tree Leaf Production) → barred T tree (leaves c.tree) ≡ false)
     begun_completion sort level room lowest1 leaf text chosen divided fit =
         let b = laws.begun sort level leaf text lowest1 chosen (inl divided) in
         (record { front = leaf ∷ []; more = b.more; tree = b.tree; spelled = b.spelled; passed = refl; continues = b.continues; fits = omega (arith, b.low divided, fit) }, λ e tree. absurd (cc e))
 
-    pub completes : {job : Job Leaf Kind Sort Form} {room : ℕ} {text : List Leaf} {fault : Fault} {behind : List Leaf} → Run T job room text (Failed fault behind) → IsFault fault → CanGoOn T job room text behind
+    pub completes : {job : Job Leaf Kind Sort Production} {room : ℕ} {text : List Leaf} {fault : Fault} {behind : List Leaf} → Run T job room text (Failed fault behind) → IsFault fault → CanGoOn T job room text behind
     completes (no_memory behind) h = absurd h
     completes (unfit {kind = kind} {symbols = symbols} {room = room} {text = text} none) h = λ enough orderly. (
       record {
         front = [];
         more = T.sample kind ∷ leaves (least_parts T symbols);
         tree = Then (Alone (T.sample kind)) (least_parts T symbols);
-        spelled = least_is (Token kind ∷ symbols);
+        spelled = least_is (Terminal kind ∷ symbols);
         passed = refl;
         continues = refl;
         fits = omega (arith, enough, least_fits symbols);
@@ -151,7 +151,7 @@ module _ {Leaf Kind Sort Form : Type 0} (T : Table Leaf Kind Sort Form) where
         )
     completes (part_failed {sort = sort} {level = level} {symbols = symbols} {room = room} run) h = λ enough orderly.
         let r = completes run h (omega (arith, enough)) in
-        let free = λ (tree : Tree Leaf Form). least_is_free symbols tree orderly.0 in (
+        let free = λ (tree : Tree Leaf Production). least_is_free symbols tree orderly.0 in (
           record {
             front = r.0.front;
             more = r.0.more ++ leaves (least_parts T symbols);

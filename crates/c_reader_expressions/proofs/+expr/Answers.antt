@@ -14,7 +14,7 @@ use Rattle.c_reader_expressions.specs.Steps.{GivesOperand, ReadsSuffix}
 use Rattle.c_reader_tokens.proofs.Rows.{no_row, no_tokens, misfit, part_fault}
 use Rattle.c_reader_expressions.proofs.DeclaratorRows.{high_fits}
 use Rattle.c_reader_expressions.proofs.TermRows as terms
-use Rattle.grammar_table.specs.Table.{Part}
+use Rattle.grammar_table.specs.Table.{Nonterminal}
 use Rattle.c_reader_tokens.specs.Choices.{form_of, level_of_next}
 use Rattle.c_reader_expressions.specs.Terms.{GivesTerm, GivesEnclosedType}
 use Rattle.std.proofs.lemmas.Result.{err_from_is_err_and}
@@ -146,7 +146,7 @@ pub expr::read_next-returns-in_err-then-in-Conditional-clause-gives : goal.expr:
 expr::read_next-returns-in_err-then-in-Conditional-clause-gives t c level text begun told =
     let row = told ∙ ap (λ next. Some (form_of next)) c.in-Conditional.is in
     let fits = c.in_ok-below-in-Conditional.ensures in
-    passed_on c.from_residual-in_err-then-in-Conditional.result _ (λ r. GivesOperand level c.args.room text r) c.from_residual-in_err-then-in-Conditional.ensures.1 (terms.frame_fault _ (terms.conditional_row c.in_ok-below-in-Conditional.below begun row fits.fits fits.left_fits fits.found) (c.in_err-then-in-Conditional.ensures.gives (Part forms.Expr 14 ∷ [])))
+    passed_on c.from_residual-in_err-then-in-Conditional.result _ (λ r. GivesOperand level c.args.room text r) c.from_residual-in_err-then-in-Conditional.ensures.1 (terms.frame_fault _ (terms.conditional_row c.in_ok-below-in-Conditional.below begun row fits.fits fits.left_fits fits.found) (c.in_err-then-in-Conditional.ensures.gives (Nonterminal forms.Expr 14 ∷ [])))
 
 pub expr::read_next-returns-in_err-otherwise-in-Conditional-clause-gives : goal.expr::read_next-returns-in_err-otherwise-in-Conditional-clause-gives
 expr::read_next-returns-in_err-otherwise-in-Conditional-clause-gives t c level text begun told =

@@ -1,4 +1,4 @@
-use Rattle.std.proofs.Common.{◌≡◌, List, ◌++◌, refl, sym, subst, arith}
+use Rattle.std.proofs.Common.{◌≡◌, ◌++◌, refl, sym, subst, arith}
 use Rattle.c_token.specs.Leaves.{leaves_of}
 use Rattle.c_reader_tokens.specs.Steps.{first_bytes}
 use Rattle.c_reader_expressions.specs.Steps.{GivesLiterals}

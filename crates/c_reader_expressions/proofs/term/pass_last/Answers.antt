@@ -1,6 +1,6 @@
 use Rattle.std.proofs.Common.{List}
 use Rattle.std.specs.Result.{IfErr}
-use Rattle.grammar_table.specs.Table.{Sym}
+use Rattle.grammar_table.specs.Table.{Symbol}
 use Rattle.grammar_table.specs.Runs.{Parts}
 use Rattle.c_token.specs.Leaves.{leaves_of}
 use Rattle.c_grammar.specs.declared.kind.Kind.{Kind}
@@ -13,4 +13,4 @@ use Rattle.c_reader_expressions.proofs.term.pass_last.Goals as goal
 
 pub returns-in_err-pass-in-Some-clause-fails : goal.returns-in_err-pass-in-Some-clause-fails
 returns-in_err-pass-in-Some-clause-fails c =
-    passed_on c.from_residual.result _ (λ r. IfErr r (λ fault. (room : _) (more : List (Sym Kind forms.Sort)) → Fails (Parts (closing_symbols c.args.last more)) room (leaves_of c.args.tokens.now) fault)) c.from_residual.ensures.1 (rows.closing_fault _ _ c.in-Some.is c.in_err-pass-in-Some.ensures.none c.in_err-pass-in-Some.ensures.misfit)
+    passed_on c.from_residual.result _ (λ r. IfErr r (λ fault. (room : _) (more : List (Symbol Kind forms.Sort)) → Fails (Parts (closing_symbols c.args.last more)) room (leaves_of c.args.tokens.now) fault)) c.from_residual.ensures.1 (rows.closing_fault _ _ c.in-Some.is c.in_err-pass-in-Some.ensures.none c.in_err-pass-in-Some.ensures.misfit)

@@ -1,7 +1,6 @@
 use Rattle.std.proofs.Common.{arith, refl, ap, sym, ◌∙◌, [], ◌∷◌, ◌++◌}
 use Rattle.std.proofs.lemmas.Result.{err_from_is_err_and}
 use Rattle.grammar_table.specs.Table as tables
-use Rattle.grammar_table.specs.Runs.{Whole, Parts}
 use Rattle.c_grammar.specs.Forms as forms
 use Rattle.c_token.specs.Leaves.{leaves_of}
 use Rattle.c_syntax.specs.Trees as trees

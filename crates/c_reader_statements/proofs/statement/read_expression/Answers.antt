@@ -1,18 +1,12 @@
-use Rattle.std.proofs.Common.{arith, refl, ap, sym, ◌∙◌, [], ◌∷◌, ◌++◌, Some}
+use Rattle.std.proofs.Common.{ap, sym, ◌∙◌}
 use Rattle.std.proofs.lemmas.Result.{err_from_is_err_and}
 use Rattle.grammar_table.specs.Table as tables
-use Rattle.grammar_table.specs.Runs.{Whole, Parts}
 use Rattle.c_grammar.specs.Forms as forms
 use Rattle.c_token.specs.Leaves.{leaves_of}
 use Rattle.c_syntax.specs.Trees as trees
 use Rattle.c_syntax.specs.Views as views
 use Rattle.c_reader_tokens.specs.Shapes as shapes
-use Rattle.c_reader_statements.specs.Lists as lists
-use Rattle.c_reader_statements.specs.RowForms as rows
 use Rattle.c_reader_tokens.proofs.Reaching as Rows
-use Rattle.c_reader_statements.specs.StmtForms as stmts
-use Rattle.c_reader_statements.specs.StmtLists as braces
-use Rattle.c_reader_statements.proofs.SameStmts as same
 use Rattle.c_reader_statements.proofs.statement.read_expression.Goals as goal
 
 pub returns-in_err-value-clause-gives : goal.returns-in_err-value-clause-gives
