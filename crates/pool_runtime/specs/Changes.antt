@@ -1,12 +1,12 @@
 -- What a call on a pool makes of it and of the slabs.
-use Rattle.std.specs.Prelude.{◌≡◌, ℕ, Bool, true, false, ◌+◌, ◌*◌, ◌^◌, ◌-◌, ◌<◌, ◌≤◌, List, [], ◌∷◌, ◌++◌, set, length, slice_get, Option, Some, None, Result, Ok, Err, IfSome, IsSome}
+use Rattle.std.specs.Prelude.{◌≡◌, ℕ, Bool, true, false, ◌+◌, ◌*◌, ◌^◌, ◌-◌, ◌<◌, ◌≤◌, List, [], ◌∷◌, ◌++◌, set, length, slice_get, slice_index_or, Option, Some, None, Result, Ok, Err, IfSome, IsSome}
 use Rattle.std.specs.BTreeMap.{BTreeMap, get}
 use Rattle.std.specs.Ordering.{nat_cmp}
 use Rattle.slab_space.specs.declared.kind.PoolKind.{PoolKind}
 use Rattle.slab_space.specs.Runs.{need, free_count, with_run, lowest_run}
-use Rattle.slab_space.specs.Pool.{new_pool, given_pool}
+use Rattle.slab_space.specs.Pool.{new_pool, given_pool, no_cells}
 use Rattle.slab_space.specs.Pool as seen
-use Rattle.slab_space.specs.PoolSteps.{PoolInSlabs, Allocation, placed, index_exhausted, heap_exhausted}
+use Rattle.slab_space.specs.PoolSteps.{PoolInSlabs, Allocation, placed, placed_cell, placed_in, placed_in_class, placed_large, freed_in, index_exhausted, heap_exhausted}
 use Rattle.pool_runtime.specs.declared.cells.Cells.{Cells}
 use Rattle.pool_runtime.specs.declared.pool.Pool.{Pool}
 use Rattle.pool_runtime.specs.declared.pools.AllocEnd.{AllocEnd}
@@ -134,3 +134,28 @@ pub record Gives (id : ℕ) (pool : Pool) (old new : Slabs) : Type 0 where
   pub owners : new.space.owners ≡ given_pool (pool_seen old.space.bytes pool) old.space.owners
   pub others : Keeps (of_others id) old new
   pub counted : free_count new.space.owners ≡ free_count old.space.owners + pool.slabs
+
+-- ---- the steps of the model from what a pool in memory stands for
+
+abbrev pub placing : ℕ → Slabs → Pool → ℕ → Allocation PoolInSlabs
+placing limit slabs pool bytes = placed_in limit slabs.space.owners (pool_seen slabs.space.bytes pool) bytes
+
+-- the cells of a size
+abbrev pub cells_in : Slabs → Pool → ℕ → seen.Cells
+cells_in slabs pool class = slice_index_or (pool_seen slabs.space.bytes pool).classes class (no_cells 0)
+
+abbrev pub placing_in_class : ℕ → Slabs → Pool → ℕ → Allocation PoolInSlabs
+placing_in_class limit slabs pool class = placed_in_class limit slabs.space.owners (pool_seen slabs.space.bytes pool) class (cells_in slabs pool class)
+
+abbrev pub placing_large : Slabs → Pool → ℕ → Allocation PoolInSlabs
+placing_large slabs pool bytes = placed_large slabs.space.owners (pool_seen slabs.space.bytes pool) bytes (lowest_run slabs.space.owners (need bytes))
+
+-- a cell that the size has room for was taken, at this address
+abbrev pub PlacesCell : Slabs → Slabs → Pool → Pool → ℕ → ℕ → Type 0
+PlacesCell old new pool pool' class address =
+    placed_cell old.space.owners (pool_seen old.space.bytes pool) class (cells_in old pool class) ≡ placed address (record { owners = new.space.owners; pool = pool_seen new.space.bytes pool' })
+
+-- what stands at an address is freed, wherever it is found
+abbrev pub FreesFound : Slabs → Slabs → Pool → Pool → Found → Result (Unit {0}) NotLive → Type 0
+FreesFound old new pool pool' found result =
+    (address : ℕ) → FindsCell old address (Some found) → Frees (freed_in old.space.owners (pool_seen old.space.bytes pool) address) old new pool pool' result

@@ -31,7 +31,7 @@ pub(crate) struct Pool {
 impl Pool {
     ghost use Rattle.pool_runtime.specs.Seen.{class_seen, pool_seen};
     ghost use Rattle.pool_runtime.specs.Tables.{IsSpace, IsPool};
-    ghost use Rattle.pool_runtime.specs.Changes.{Changes, Ends, FindsCell, Frees, IsNew, AddsRun};
+    ghost use Rattle.pool_runtime.specs.Changes.{Changes, Ends, FindsCell, FreesFound, IsNew, AddsRun, placing, placing_in_class, placing_large, cells_in, PlacesCell};
     ghost use Rattle.pool_runtime.specs.Given.{pool_runs};
     ghost use Rattle.pool_runtime.specs.Lookup.{AreSized, cell_of, is_covered, is_homogeneous_kind, is_indexed_kind, index_found};
 
@@ -73,7 +73,7 @@ impl Pool {
         requires counted { self.old.slabs + free_count slabs.old.space.owners ≤ length slabs.old.space.owners }
         requires some { 1 ≤ bytes }
         ensures changes { Changes id slabs.old slabs.new self.old self.new }
-        ensures ends { Ends (placed_in limit slabs.old.space.owners (pool_seen slabs.old.space.bytes self.old) bytes) slabs.old slabs.new self.old self.new result }
+        ensures ends { Ends (placing limit slabs.old self.old bytes) slabs.old slabs.new self.old self.new result }
     {
         match self.class_for(bytes) {
             Some(class) => self.alloc_cell(slabs, id, class, limit),
@@ -118,7 +118,7 @@ impl Pool {
         requires counted { self.old.slabs + free_count slabs.old.space.owners ≤ length slabs.old.space.owners }
         requires class { class < length self.old.classes.items }
         ensures changes { Changes id slabs.old slabs.new self.old self.new }
-        ensures ends { Ends (placed_in_class limit slabs.old.space.owners (pool_seen slabs.old.space.bytes self.old) class (slice_index_or (pool_seen slabs.old.space.bytes self.old).classes class (no_cells 0))) slabs.old slabs.new self.old self.new result }
+        ensures ends { Ends (placing_in_class limit slabs.old self.old class) slabs.old slabs.new self.old self.new result }
     {
         if self.is_limited(class, limit) {
             return Err(AllocEnd::IndexExhausted);
@@ -140,7 +140,7 @@ impl Pool {
         requires class { class < length self.old.classes.items }
         requires room { is_room (slice_index_or (pool_seen slabs.old.space.bytes self.old).classes class (no_cells 0)) ≡ true }
         ensures changes { Changes id slabs.old slabs.new self.old self.new }
-        ensures step { placed_cell slabs.old.space.owners (pool_seen slabs.old.space.bytes self.old) class (slice_index_or (pool_seen slabs.old.space.bytes self.old).classes class (no_cells 0)) ≡ placed result (record { owners = slabs.new.space.owners; pool = pool_seen slabs.new.space.bytes self.new }) }
+        ensures step { PlacesCell slabs.old slabs.new self.old self.new class result }
     {
         let place = self.classes[class].take(&mut slabs.space);
         self.count_one();
@@ -171,7 +171,7 @@ impl Pool {
         requires counted { self.old.slabs + free_count slabs.old.space.owners ≤ length slabs.old.space.owners }
         requires class { class < length self.old.classes.items }
         ensures changes { Changes id slabs.old slabs.new self.old self.new }
-        ensures added { AddsRun class slabs.old slabs.new self.old self.new (slice_index_or (pool_seen slabs.old.space.bytes self.old).classes class (no_cells 0)) result }
+        ensures added { AddsRun class slabs.old slabs.new self.old self.new (cells_in slabs.old self.old class) result }
     {
         let cells = &mut self.classes[class];
         let count = cells.run_slabs();
@@ -202,7 +202,7 @@ impl Pool {
         requires counted { self.old.slabs + free_count slabs.old.space.owners ≤ length slabs.old.space.owners }
         requires some { 1 ≤ bytes }
         ensures changes { Changes id slabs.old slabs.new self.old self.new }
-        ensures ends { Ends (placed_large slabs.old.space.owners (pool_seen slabs.old.space.bytes self.old) bytes (lowest_run slabs.old.space.owners (slabs_needed bytes))) slabs.old slabs.new self.old self.new result }
+        ensures ends { Ends (placing_large slabs.old self.old bytes) slabs.old slabs.new self.old self.new result }
     {
         let count = need(bytes);
         if count > slabs.space.limit() as u64 {
@@ -243,7 +243,7 @@ impl Pool {
         requires space { IsSpace slabs.old.space }
         requires pool { IsPool slabs.old found.now.home.pool self.old }
         ensures changes { Changes found.now.home.pool slabs.old slabs.new self.old self.new }
-        ensures frees { (address : ℕ) → FindsCell slabs.old address (Some found.now) → Frees (freed_in slabs.old.space.owners (pool_seen slabs.old.space.bytes self.old) address) slabs.old slabs.new self.old self.new result }
+        ensures frees { FreesFound slabs.old slabs.new self.old self.new found.now result }
     {
         match found.home.held {
             Held::Cells { class, run } => self.free_cell(slabs, found, class, run),
@@ -262,7 +262,7 @@ impl Pool {
         requires pool { IsPool slabs.old found.now.home.pool self.old }
         requires held { found.now.home.held ≡ Held.Cells class run }
         ensures changes { Changes found.now.home.pool slabs.old slabs.new self.old self.new }
-        ensures frees { (address : ℕ) → FindsCell slabs.old address (Some found.now) → Frees (freed_in slabs.old.space.owners (pool_seen slabs.old.space.bytes self.old) address) slabs.old slabs.new self.old self.new result }
+        ensures frees { FreesFound slabs.old slabs.new self.old self.new found.now result }
     {
         let Some((number, off)) = self.cell_at(found, class, run) else {
             return Err(NotLive);
@@ -283,7 +283,7 @@ impl Pool {
         requires pool { IsPool slabs.old found.now.home.pool self.old }
         requires held { found.now.home.held ≡ Held.Large }
         ensures changes { Changes found.now.home.pool slabs.old slabs.new self.old self.new }
-        ensures frees { (address : ℕ) → FindsCell slabs.old address (Some found.now) → Frees (freed_in slabs.old.space.owners (pool_seen slabs.old.space.bytes self.old) address) slabs.old slabs.new self.old self.new result }
+        ensures frees { FreesFound slabs.old slabs.new self.old self.new found.now result }
     {
         if found.within > 0 {
             return Err(NotLive);

@@ -196,8 +196,8 @@ pub data ExplainsBy {E F C : Type 0} (by : Comparison E F C) (front : RunOf E) :
   is_part : (trace' : List F) (n : ℕ) → IsPrefix (by.behind trace') (by.in_front (trace_of (front n))) → ExplainsBy by front (Going trace')
   is_cut : (final : Final) (trace' : List F) (n : ℕ) → IsResourceEnd final → Refused by final trace' (by.in_front (trace_of (front n))) → ExplainsBy by front (Over final trace')
 
--- At most so many steps of the machine are made for a unit of a program: a function has at most 256 pools, each of which takes at
--- most 64 steps at an entry or a return, and its own work takes as many as one pool: 64 * 257.
+-- At most so many steps of the machine are made for a unit of a program. The bound is chosen as 64 * 257: a function has at most 256
+-- pools, and 64 steps are reckoned for each of them, at an entry or a return, and for the function's own work.
 abbrev pub steps_per_unit : ℕ
 steps_per_unit = 16448
 
