@@ -12,7 +12,7 @@ use Rattle.c_rules.specs.declared.constness.Constness.{Constness}
 use Rattle.c_rules.specs.declared.constness.Constness.TheVariants.{NotConstant, Undefined, Constant}
 use Rattle.c_typed.specs.declared.part.Part.{Part}
 use Rattle.c_typed.specs.declared.part.Part.TheVariants as Parts
-use Rattle.c_typed.specs.Values.{Name, not_zero}
+use Rattle.c_typed.specs.Values.{Static, not_zero}
 
 abbrev pub outcome_constness : Result ℤ ArithUb → Constness
 outcome_constness (Ok value) = Constant value
@@ -72,7 +72,7 @@ abbrev pub index_within : ℕ → ℤ → Option ℕ
 index_within count (pos n) = if nat_lt count n then None else Some n
 index_within count (negsuc n) = None
 
-abbrev pub element_at : Name → List Part → CType → ℕ → Option ℕ → Address
+abbrev pub element_at : Static → List Part → CType → ℕ → Option ℕ → Address
 element_at root steps c_type count (Some index) = Element root steps c_type count index
 element_at root steps c_type count None = Outside
 

@@ -10,7 +10,7 @@ use Rattle.c_typed.specs.Types.{CType, CTypes, Void, Integer, Array, Struct, Fun
 use Rattle.c_typed.specs.Layouts.{StructDef, MemberDef, members_by_tag}
 use Rattle.c_typed.specs.declared.part.Part.{Part}
 use Rattle.c_typed.specs.declared.part.Part.TheVariants as Parts
-use Rattle.c_typed.specs.Values.{Scalar, IntegerValue, NullValue, FunctionValue, PointerValue, Held}
+use Rattle.c_typed.specs.Values.{FirstScalar, IntegerValue, NullValue, FunctionValue, PointerValue, Held}
 use Rattle.c_typed.specs.DefinitionViews.{characters_held}
 use Rattle.c_typed.specs.Typed as typed
 use Rattle.c_typed.specs.Typed.{Value, Stmt, Block, SwitchItems, LocalDef, ForStart, GlobalDef, LiteralDef, FunctionDef, Program, NullPointer}
@@ -136,19 +136,19 @@ abbrev mutual
 -- ---- first values of variables outside functions
 
 -- the element of the row to which steps lead
-abbrev pub held_at : List Part → ℕ → Scalar → List Held
+abbrev pub held_at : List Part → ℕ → FirstScalar → List Held
 held_at steps index value = record { leaf = record { steps = steps; index = index }; value = value } ∷ []
 
-abbrev pub address_value : Address → Scalar
+abbrev pub address_value : Address → FirstScalar
 address_value (FunctionAddress name) = FunctionValue name
-address_value (Element root steps c_type count index) = PointerValue (record { name = root; steps = steps; index = index })
+address_value (Element root steps c_type count index) = PointerValue (record { root = root; steps = steps; index = index })
 address_value _ = NullValue
 
-abbrev pub integer_first : IntType → Constness → Scalar
+abbrev pub integer_first : IntType → Constness → FirstScalar
 integer_first int_type (Constant value) = IntegerValue (convert_to int_type value)
 integer_first int_type _ = IntegerValue (pos 0)
 
-abbrev pub scalar_of : Scope → CType → Known → Scalar
+abbrev pub scalar_of : Scope → CType → Known → FirstScalar
 scalar_of scope (Integer int_type) known = integer_first int_type known.constness
 scalar_of scope c_type known = if known.is_null then NullValue else address_value (address_as scope.completed c_type known.address)
 

@@ -1,6 +1,7 @@
 -- The rules of expressions, of the names of types and of declarators (C17 6.5, 6.7.6, 6.7.7).
 use Rattle.std.specs.Prelude.{ℕ, zero, suc, min, Bool, true, false, not, ◌||◌, if◌then◌else◌, List, [], ◌∷◌, length, Option, Some, None, ℤ, pos, neg_ℤ}
 use Rattle.text_place.specs.declared.place.Pos.{Pos}
+use Rattle.c_num.specs.declared.IntType.{IntType}
 use Rattle.c_num.specs.declared.IntType.TheVariants as I
 use Rattle.c_num.specs.Conversion.{convert_to}
 use Rattle.c_syntax.specs.Trees
@@ -8,14 +9,14 @@ use Rattle.c_syntax.specs.Trees.{NameTree, ExprTree, ArgumentsTree, TypeTree, Op
 use Rattle.c_rules.specs.declared.rule.TypeRule.TheVariants as T
 use Rattle.c_rules.specs.declared.violation.Violation.{Violation}
 use Rattle.c_typed.specs.Types
-use Rattle.c_typed.specs.Types.{CType, CTypes, Void, Integer, Pointer, Array, Struct, Function, NoTypes, MoreTypes}
+use Rattle.c_typed.specs.Types.{CType, CTypes, Void, Integer, Pointer, Array, Struct, Function, NoTypes, MoreTypes, literal_type}
 use Rattle.c_typed.specs.Layouts.{is_complete}
 use Rattle.c_rules.specs.Names.{Scope, Meaning, Library, meaning_of, declares_tag, is_library}
 use Rattle.c_typed.specs.Names.{contains}
 use Rattle.c_rules.specs.Known.{Checked, Known, known_already, give, refuse, also, require, with_known, given, given_two, given_three, unless, as_value, value_of_type, object_at, integer_value, OfLibrary, grouped, NullAddress, Element}
 use Rattle.c_rules.specs.declared.constness.Constness.{Constness}
 use Rattle.c_rules.specs.declared.constness.Constness.TheVariants.{NotConstant, Undefined, Constant}
-use Rattle.c_typed.specs.Values.{Text}
+use Rattle.c_typed.specs.Values.{StaticLiteral}
 use Rattle.c_typed.specs.Typed as typed
 use Rattle.c_typed.specs.declared.typed.Stepping.TheVariants as S
 use Rattle.c_rules.specs.Operators
@@ -104,10 +105,11 @@ abbrev pub function_type : Pos → Checked CTypes → Checked CType → Checked 
 function_type here parameters result =
     given_two (given result (λ c_type. require (not (Types.is_array c_type || Types.is_function c_type)) T.T05 here (require (not (Types.is_struct c_type)) T.T19 here (give c_type)))) parameters (λ c_type types. give (Function c_type types))
 
--- a parameter's own type
-abbrev pub parameter_type : Pos → CType → Checked CType
-parameter_type here c_type =
-    require (not (Types.is_void (Types.decayed c_type))) T.T05 here (require (not (Types.is_struct (Types.decayed c_type))) T.T19 here (give (Types.decayed c_type)))
+-- A parameter's own type, that of an object (C17 6.7.6.3 paragraphs 4, 7, 8). An incomplete structure violates T19 too, which
+-- stands behind T05 at one place.
+abbrev pub parameter_type : Scope → Pos → CType → Checked CType
+parameter_type scope here c_type =
+    require (is_complete scope.structs (Types.decayed c_type)) T.T05 here (require (not (Types.is_struct (Types.decayed c_type))) T.T19 here (give (Types.decayed c_type)))
 
 -- ---- declared names
 
@@ -143,6 +145,12 @@ abbrev mutual
 abbrev pub role_outside : DirectTree → LengthRole → LengthRole
 role_outside direct role = if direct_adds direct then Required else role
 
+-- ---- constants
+
+-- an integer constant of a value of its type (C17 6.4.4)
+abbrev pub integer_constant : IntType → ℤ → Known
+integer_constant int_type value = integer_value (Integer int_type) (Constant value) (typed.Constant int_type value)
+
 -- ---- calls
 
 -- Is a library function called by its name, which may stand in parentheses?
@@ -174,20 +182,20 @@ with_name None names = names
 with_name (Some name) names = name.bytes ∷ names
 
 -- a parameter behind these names
-abbrev pub one_parameter : List (List ℕ) → WordsTree → OptionalTree → Checked CType → Checked CType
-one_parameter names words declarator named =
-    also (name_clash names (optional_name declarator)) (given named (parameter_type (name_place (optional_name declarator) words.place)))
+abbrev pub one_parameter : Scope → List (List ℕ) → WordsTree → OptionalTree → Checked CType → Checked CType
+one_parameter scope names words declarator named =
+    also (name_clash names (optional_name declarator)) (given named (parameter_type scope (name_place (optional_name declarator) words.place)))
 
 -- ---- the rules
 
 abbrev mutual
   pub expr : Scope → ExprTree → Checked Known
   expr scope (Trees.Named name) = Operators.named scope name
-  expr scope (Trees.Integer value int_type place) = give (integer_value (Integer int_type) (Constant (pos value)) (typed.Constant (pos value)))
-  expr scope (Trees.Character byte place) = give (integer_value Types.int (Constant (convert_to I.Char (pos byte))) (typed.Constant (convert_to I.Char (pos byte))))
-  expr scope (Trees.Literal bytes place) = give (object_at (Array (Integer I.Char) (suc (length bytes))) (typed.Literal place bytes) (Element (Text place) [] (Array (Integer I.Char) (suc (length bytes))) 1 0))
+  expr scope (Trees.Integer value int_type place) = give (integer_constant int_type (convert_to int_type (pos value)))
+  expr scope (Trees.Character byte place) = give (integer_constant I.Int (convert_to I.Char (pos byte)))
+  expr scope (Trees.Literal bytes place) = give (object_at (literal_type bytes) (typed.Literal place bytes) (Element (StaticLiteral place) [] (literal_type bytes) 1 0))
   expr scope (Trees.Null place) = give (record (value_of_type (Pointer Void) typed.NullPointer) { is_null = true; address = NullAddress })
-  expr scope (Trees.EndOfFile place) = give (integer_value Types.int (Constant (neg_ℤ (pos 1))) (typed.Constant (neg_ℤ (pos 1))))
+  expr scope (Trees.EndOfFile place) = give (integer_constant I.Int (neg_ℤ (pos 1)))
   expr scope (Trees.Parenthesized place inner) = given (expr scope inner) (λ known. give (record known { typed = grouped (place_of inner) known.typed }))
   expr scope (Trees.Index array index) =
       given_two (as_value (place_of array) (expr scope array)) (as_value (place_of index) (expr scope index)) (Operators.indexed scope (place_of array) (place_of index))
@@ -243,5 +251,5 @@ abbrev mutual
   pub parameter_types : Scope → List (List ℕ) → ParametersTree → Checked CTypes
   parameter_types scope names Trees.NoParameters = give NoTypes
   parameter_types scope names (Trees.Parameter words declarator others) =
-      given_two (one_parameter names words declarator (optional_type scope (name_place (optional_name declarator) words.place) Adjusted (words_type scope words) declarator)) (parameter_types scope (with_name (optional_name declarator) names) others)
+      given_two (one_parameter scope names words declarator (optional_type scope (name_place (optional_name declarator) words.place) Adjusted (words_type scope words) declarator)) (parameter_types scope (with_name (optional_name declarator) names) others)
       (λ first types. give (MoreTypes first types))

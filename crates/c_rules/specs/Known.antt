@@ -11,7 +11,7 @@ use Rattle.c_rules.specs.declared.constness.Constness.TheVariants.{NotConstant, 
 use Rattle.c_typed.specs.Places.{is_same_place}
 use Rattle.c_typed.specs.declared.part.Part.{Part}
 use Rattle.c_typed.specs.declared.part.Part.TheVariants as Parts
-use Rattle.c_typed.specs.Values.{Name}
+use Rattle.c_typed.specs.Values.{Static}
 use Rattle.c_typed.specs.declared.typed.LibraryFunction.{LibraryFunction}
 use Rattle.c_typed.specs.Typed.{Value, Object, Designator, NullPointer, Grouped, Read, Decay, FunctionValue, GroupedObject, GroupedFunction}
 use Rattle.c_typed.specs.Types
@@ -127,7 +127,7 @@ pub data TypedExpr : Type 0 where
 pub data Address : Type 0 where
   NoAddress Outside NullAddress : Address
   FunctionAddress : (name : List ℕ) → Address
-  Element : (root : Name) (steps : List Part) (c_type : CType) (count index : ℕ) → Address
+  Element : (root : Static) (steps : List Part) (c_type : CType) (count index : ℕ) → Address
 
 -- What is known of an expression that has a type. An object's address is that of it, a pointer's its value.
 pub record Known : Type 0 where

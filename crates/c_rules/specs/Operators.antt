@@ -52,14 +52,14 @@ fits target value =
 abbrev pub converted : Pos → CType → Known → Value
 converted place (Integer int_type) known = typed.Converted int_type (value_in known)
 converted place (Pointer target) known =
-    if known.is_null then typed.MadeNull (value_in known)
+    if known.is_null then typed.MadeNull target (value_in known)
     else if Types.same_type (Pointer target) known.c_type then value_in known
     else typed.Repointed place target (value_in known)
 converted place c_type known = value_in known
 
--- a value that is left as it is, but for a null pointer constant
-abbrev pub unconverted_value : Known → Value
-unconverted_value known = if known.is_null then typed.MadeNull (value_in known) else value_in known
+-- a value that is left as it is, but for a null pointer constant, which becomes a pointer to the target
+abbrev pub unconverted_value : CType → Known → Value
+unconverted_value target known = if known.is_null then typed.MadeNull target (value_in known) else value_in known
 
 -- the value of a call may be left unused there
 abbrev pub dropped : Value → Value
@@ -120,7 +120,7 @@ abbrev pub outer_name : Scope → NameTree → CType → Checked Known
 outer_name scope name (Function result parameters) =
     also (unless (contains scope.defined name.bytes) T.T23 name.place)
     (give (record { c_type = Function result parameters; typed = OfFunction (typed.Function name.bytes); constness = NotConstant; is_null = false; address = FunctionAddress name.bytes }))
-outer_name scope name c_type = give (object_at c_type (typed.Global name.bytes) (Known.Element (values.Outer name.bytes) [] c_type 1 0))
+outer_name scope name c_type = give (object_at c_type (typed.Global name.bytes) (Known.Element (values.StaticVariable name.bytes) [] c_type 1 0))
 
 abbrev pub name_as : Scope → NameTree → Meaning → Checked Known
 name_as scope name NoMeaning = refuse T.T03 name.place
@@ -273,14 +273,10 @@ prefixed scope P.Not whole place operand = given (as_scalar place operand) (λ v
 
 -- the size of an object type (C17 6.5.3.4)
 abbrev pub size_value : ℕ → Known
-size_value size = integer_value (Integer I.ULong) (Constant (pos size)) (typed.Constant (pos size))
+size_value size = integer_value (Integer I.ULong) (Constant (pos size)) (typed.Constant I.ULong (pos size))
 
 abbrev pub size_of : Scope → Pos → CType → Checked Known
 size_of scope place c_type = require (is_complete scope.structs c_type) T.T05 place (give (size_value (layout_of scope.structs c_type).size))
-
--- pointers to objects convert with what they point to, those to functions don't
-abbrev pub cast_pointer : Pos → CType → Known → Value
-cast_pointer whole target value = if Types.is_function target then value_in value else typed.Repointed whole target (value_in value)
 
 -- A cast (C17 6.5.4): an integer constant of value 0 that is cast to `void *` is a null pointer constant, a pointer that is cast
 -- is none (C17 6.3.2.3 paragraph 3).
@@ -290,9 +286,9 @@ cast_to scope whole (Integer int_type) value =
     require (Types.is_integer value.c_type) T.T16 whole
     (give (integer_value (Integer int_type) (Constants.converted int_type value.constness) (typed.Cast (typed.Converted int_type (value_in value)))))
 cast_to scope whole (Pointer target) value =
-    if value.is_null then give (record (value_of_type (Pointer target) (typed.Cast (typed.MadeNull (value_in value)))) { is_null = Types.is_void target && Types.is_integer value.c_type; address = NullAddress })
+    if value.is_null then give (record (value_of_type (Pointer target) (typed.Cast (typed.MadeNull target (value_in value)))) { is_null = Types.is_void target && Types.is_integer value.c_type; address = NullAddress })
     else require ((Types.is_object_pointer (Pointer target) && Types.is_object_pointer value.c_type) || (Types.is_function_pointer (Pointer target) && Types.is_function_pointer value.c_type)) T.T16 whole
-    (give (record (value_of_type (Pointer target) (typed.Cast (cast_pointer whole target value))) { address = Constants.address_as scope.completed (Pointer target) value.address }))
+    (give (record (value_of_type (Pointer target) (typed.Cast (typed.Repointed whole target (value_in value)))) { address = Constants.address_as scope.completed (Pointer target) value.address }))
 cast_to scope whole _ value = refuse T.T16 whole
 
 -- ---- operators of two operands
@@ -362,12 +358,12 @@ agreed_pointer a b =
     else if Types.same_type a.c_type b.c_type then a.c_type
     else Pointer Void
 
--- `==` and `!=` (C17 6.5.9): neither pointer is converted to the type of the other
+-- `==` and `!=` (C17 6.5.9): neither pointer is converted to the type of the other, but for a null pointer constant
 abbrev pub equated : Relation → Pos → Known → Known → Checked Known
 equated relation whole a b =
     if both_integers a b then compared relation a b
     else require (pointers_agree a b) T.T11 whole
-    (give (value_of_type Types.int (typed.ComparePointers relation whole (unconverted_value a) (unconverted_value b))))
+    (give (value_of_type Types.int (typed.ComparePointers relation whole (unconverted_value (target_of (agreed_pointer a b)) a) (unconverted_value (target_of (agreed_pointer a b)) b))))
 
 -- `&&` and `||` (C17 6.5.13, 6.5.14)
 abbrev pub both : Condition → Condition → Known
@@ -535,7 +531,7 @@ passed whole _ _ = give typed.NoValues
 -- what `free` is given needs no conversion
 abbrev pub unconverted_argument : Option Known → Value
 unconverted_argument None = typed.NullPointer
-unconverted_argument (Some known) = unconverted_value known
+unconverted_argument (Some known) = unconverted_value Void known
 
 abbrev pub unconverted : List ArgumentValue → Values
 unconverted [] = typed.NoValues

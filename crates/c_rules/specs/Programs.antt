@@ -234,9 +234,9 @@ role_of (Some init) = Initialized (initial_length init)
 abbrev pub outside_type : Scope → Pos → Checked CType → Checked CType
 outside_type scope here part = given part (λ c_type. require (Types.is_function c_type || is_complete scope.structs c_type) T.T05 here (give c_type))
 
--- the type of a name that has a body: a function
+-- the type of a name that has a body: a function. One that isn't keeps its type for the other rules of its declaration.
 abbrev pub body_type : Pos → Checked CType → Checked CType
-body_type here part = given part (λ c_type. require (Types.is_function c_type) T.T05 here (give c_type))
+body_type here part = given part (λ c_type. also (unless (Types.is_function c_type) T.T05 here) (give c_type))
 
 abbrev pub has_first : Option InitTree → Bool
 has_first None = false
@@ -278,7 +278,7 @@ abbrev mutual
 abbrev pub parameter_local : Scope → WordsTree → OptionalTree → Option NameTree → Scope → Scope
 parameter_local outside words _ None scope = scope
 parameter_local outside words declarator (Some name) scope =
-    with_local name.bytes (given (optional_type outside name.place Adjusted (words_type outside words) declarator) (parameter_type name.place)).known scope
+    with_local name.bytes (given (optional_type outside name.place Adjusted (words_type outside words) declarator) (parameter_type outside name.place)).known scope
 
 abbrev pub unnamed : Option NameTree → Pos → List Violation
 unnamed None place = at T.T05 place

@@ -31,8 +31,9 @@ abbrev pub local_clash : Scope → Option NameTree → List Violation
 local_clash scope None = []
 local_clash scope (Some name) = unless (not (is_library name.bytes || is_local_here scope name.bytes)) T.T04 name.place
 
+-- A declarator in a block has a name. One without, which no text has, would declare a local that no name names.
 abbrev pub with_declared : Option NameTree → Option CType → Scope → Scope
-with_declared None c_type scope = scope
+with_declared None c_type scope = with_local [] c_type scope
 with_declared (Some name) c_type scope = with_local name.bytes c_type scope
 
 abbrev pub optional_first : Scope → Option CType → Option InitTree → List Violation

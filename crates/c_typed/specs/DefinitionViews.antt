@@ -1,5 +1,5 @@
 -- The typed program that one in memory stands for.
-use Rattle.std.specs.Prelude.{ℕ, suc, List, [], ◌∷◌, ◌++◌, map, pos}
+use Rattle.std.specs.Prelude.{◌≡◌, ℕ, suc, List, [], ◌∷◌, ◌++◌, map, pos}
 use Rattle.c_typed.specs.declared.c_type.CType as number
 use Rattle.c_typed.specs.declared.definition.Static as memory_static
 use Rattle.c_typed.specs.declared.definition.Static.TheVariants as R
@@ -15,20 +15,21 @@ use Rattle.c_typed.specs.declared.definition.GlobalDef as memory_global
 use Rattle.c_typed.specs.declared.definition.LiteralDef as memory_literal
 use Rattle.c_typed.specs.declared.definition.FunctionDef as memory_function
 use Rattle.c_typed.specs.declared.definition.Program as memory_program
-use Rattle.c_typed.specs.Values.{Name, Outer, Text, Scalar, IntegerValue, NullValue, FunctionValue, PointerValue, Held}
+use Rattle.c_typed.specs.Values.{Static, StaticVariable, StaticLiteral, FirstScalar, IntegerValue, NullValue, FunctionValue, PointerValue, Held}
 use Rattle.c_typed.specs.Typed.{GlobalDef, LiteralDef, FunctionDef, Program}
+use Rattle.c_typed.specs.Types.{literal_type}
 use Rattle.c_typed.specs.Table.{Interned, Stands, type_in, structs_in}
 use Rattle.c_typed.specs.StatementViews.{block_in, BlockStands}
 
-abbrev pub name_of : memory_static.Static → Name
-name_of (R.Variable name) = Outer name
-name_of (R.Literal place) = Text place
+abbrev pub static_of : memory_static.Static → Static
+static_of (R.Variable name) = StaticVariable name
+static_of (R.Literal place) = StaticLiteral place
 
-abbrev pub scalar_of : memory_scalar.Scalar → Scalar
+abbrev pub scalar_of : memory_scalar.Scalar → FirstScalar
 scalar_of (C.Integer value) = IntegerValue value
 scalar_of C.Null = NullValue
 scalar_of (C.Function name) = FunctionValue name
-scalar_of (C.Pointer root parts index) = PointerValue (record { name = name_of root; steps = parts.items; index = index })
+scalar_of (C.Pointer root parts index) = PointerValue (record { root = static_of root; steps = parts.items; index = index })
 
 abbrev pub held_of : memory_held.Held → Held
 held_of held = record { leaf = record { steps = held.parts.items; index = held.index }; value = scalar_of held.value }
@@ -91,5 +92,14 @@ abbrev pub FunctionsStand : Interned → List memory_function.FunctionDef → Ty
 FunctionsStand table [] = Unit {0}
 FunctionsStand table (first ∷ others) = FunctionStands table first × FunctionsStand table others
 
-abbrev pub ProgramStands : memory_program.Program → Type 0
-ProgramStands program = GlobalsStand program.types program.globals.items × FunctionsStand program.types program.functions.items
+abbrev pub LiteralStands : Interned → memory_literal.LiteralDef → Type 0
+LiteralStands table literal = Stands table literal.c_type × (type_in table literal.c_type ≡ literal_type literal.bytes)
+
+abbrev pub LiteralsStand : Interned → List memory_literal.LiteralDef → Type 0
+LiteralsStand table [] = Unit {0}
+LiteralsStand table (first ∷ others) = LiteralStands table first × LiteralsStand table others
+
+pub record ProgramStands (program : memory_program.Program) : Type 0 where
+  pub globals : GlobalsStand program.types program.globals.items
+  pub literals : LiteralsStand program.types program.literals.items
+  pub functions : FunctionsStand program.types program.functions.items

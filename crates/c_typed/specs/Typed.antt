@@ -14,7 +14,7 @@ use Rattle.c_typed.specs.Values.{Held}
 mutual
   -- an expression for its value; a place is that of the expression that the node belongs to
   pub data Value : Type 0 where
-    Constant : (value : ℤ) → Value
+    Constant : (int_type : IntType) (value : ℤ) → Value
     NullPointer : Value
     Grouped : (inner : Value) → Value
     -- free: the value of an object (C17 6.3.2.1 paragraph 2), an array's first element, and a function's address
@@ -24,7 +24,7 @@ mutual
     -- free: conversions, of an integer, of a pointer, of a null pointer constant, and a pointer's truth
     Converted : (int_type : IntType) (value : Value) → Value
     Repointed : (place : Pos) (target : CType) (value : Value) → Value
-    MadeNull : (value : Value) → Value
+    MadeNull : (target : CType) (value : Value) → Value
     Tested : (place : Pos) (value : Value) → Value
     -- operators
     Plus : (operand : Value) → Value

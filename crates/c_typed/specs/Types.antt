@@ -1,5 +1,5 @@
 -- The types of the language (C17 6.2.5).
-use Rattle.std.specs.Prelude.{ℕ, Bool, true, false, ◌&&◌, not, ◌==◌, List, Option, Some, None, bytes_eq}
+use Rattle.std.specs.Prelude.{ℕ, suc, Bool, true, false, ◌&&◌, not, ◌==◌, List, length, Option, Some, None, bytes_eq}
 use Rattle.std.specs.Bool.{beq}
 use Rattle.c_num.specs.declared.IntType.{IntType}
 use Rattle.c_num.specs.declared.IntType.TheVariants as I
@@ -41,6 +41,10 @@ abbrev mutual
 
 abbrev pub int : CType
 int = Integer I.Int
+
+-- a literal's type: an array with room for the zero at its end (C17 6.4.5 paragraph 6)
+abbrev pub literal_type : List ℕ → CType
+literal_type bytes = Array (Integer I.Char) (suc (length bytes))
 
 -- the integer type that it is
 abbrev pub integer_type : CType → Option IntType

@@ -1,32 +1,26 @@
--- Values, places and objects (C17 6.2.4, 6.2.6).
+-- First values of objects that live as long as the program (C17 6.2.4 paragraph 3, 6.6 paragraphs 7 to 9, 6.7.9).
 use Rattle.std.specs.Prelude.{ℕ, Bool, not, List, ℤ, pos}
 use Rattle.std.specs.Ordering.{int_eq}
 use Rattle.text_place.specs.declared.place.Pos.{Pos}
 use Rattle.c_typed.specs.declared.part.Part.{Part}
-use Rattle.c_typed.specs.Types.{CType}
 
--- An object: that of an allocation, by its number; a variable outside functions; a literal, by its place; or a local, by a
--- number that no other ever has.
-pub data Name : Type 0 where
-  Heap : (number : ℕ) → Name
-  Outer : (name : List ℕ) → Name
-  Text : (place : Pos) → Name
-  Own : (number : ℕ) → Name
+-- an object that lives as long as the program: a variable outside functions, or a literal, by its place
+pub data Static : Type 0 where
+  StaticVariable : (name : List ℕ) → Static
+  StaticLiteral : (place : Pos) → Static
 
--- an element of the row to which steps lead, or the end of that row (a row is an array's elements, an allocation's, or one object
--- alone)
-pub record Place : Type 0 where
-  pub name : Name
+-- an element of the row to which steps lead, or the end of that row (a row is an array's elements, or one object alone)
+pub record FirstPlace : Type 0 where
+  pub root : Static
   pub steps : List Part
   pub index : ℕ
 
--- A value of scalar type. An allocation that has no type yet is pointed to as a whole.
-pub data Scalar : Type 0 where
-  IntegerValue : (value : ℤ) → Scalar
-  NullValue : Scalar
-  FunctionValue : (name : List ℕ) → Scalar
-  PointerValue : (place : Place) → Scalar
-  RawPointer : (number : ℕ) → Scalar
+-- a constant of scalar type
+pub data FirstScalar : Type 0 where
+  IntegerValue : (value : ℤ) → FirstScalar
+  NullValue : FirstScalar
+  FunctionValue : (name : List ℕ) → FirstScalar
+  PointerValue : (place : FirstPlace) → FirstScalar
 
 -- a scalar within an object
 pub record Leaf : Type 0 where
@@ -35,14 +29,7 @@ pub record Leaf : Type 0 where
 
 pub record Held : Type 0 where
   pub leaf : Leaf
-  pub value : Scalar
-
--- What an object holds: nothing, once it is dead; an allocation's bytes, as long as it has no type; or a row of elements, whose
--- scalars are what was stored last, else zero or null where it is static, else indeterminate.
-pub data Content : Type 0 where
-  Dead : Content
-  Raw : (size : ℕ) → Content
-  Row : (is_static : Bool) (c_type : CType) (count : ℕ) (held : List Held) → Content
+  pub value : FirstScalar
 
 abbrev pub not_zero : ℤ → Bool
 not_zero z = not (int_eq z (pos 0))

@@ -1,7 +1,6 @@
 -- The typed trees that those in memory stand for, in a table of types.
-use Rattle.std.specs.Prelude.{◌≡◌, suc, List, [], ◌∷◌, length}
-use Rattle.c_num.specs.declared.IntType.TheVariants as I
-use Rattle.c_typed.specs.Types.{Array, Integer}
+use Rattle.std.specs.Prelude.{◌≡◌, List, [], ◌∷◌}
+use Rattle.c_typed.specs.Types.{literal_type}
 use Rattle.c_typed.specs.declared.typed.Value as memory_value
 use Rattle.c_typed.specs.declared.typed.Value.TheVariants as V
 use Rattle.c_typed.specs.declared.typed.Object as memory_object
@@ -13,7 +12,7 @@ use Rattle.c_typed.specs.Table.{Interned, Stands, type_in}
 
 abbrev mutual
   pub value_in : Interned → memory_value.Value → Typed.Value
-  value_in table (V.Constant value) = Typed.Constant value
+  value_in table (V.Constant int_type value) = Typed.Constant int_type value
   value_in table V.NullPointer = Typed.NullPointer
   value_in table (V.Grouped' p inner) = Typed.Grouped (value_in table inner)
   value_in table (V.Read' place p object) = Typed.Read place (object_in table object)
@@ -21,7 +20,7 @@ abbrev mutual
   value_in table (V.FunctionValue' p function) = Typed.FunctionValue (designator_in table function)
   value_in table (V.Converted' int_type p value) = Typed.Converted int_type (value_in table value)
   value_in table (V.Repointed' place target p value) = Typed.Repointed place (type_in table target) (value_in table value)
-  value_in table (V.MadeNull' p value) = Typed.MadeNull (value_in table value)
+  value_in table (V.MadeNull' target p value) = Typed.MadeNull (type_in table target) (value_in table value)
   value_in table (V.Tested' place p value) = Typed.Tested place (value_in table value)
   value_in table (V.Plus' p operand) = Typed.Plus (value_in table operand)
   value_in table (V.Minus' place int_type p operand) = Typed.Minus place int_type (value_in table operand)
@@ -78,7 +77,7 @@ values_in table (first ∷ others) = Typed.MoreValues (value_in table first) (va
 -- each of the types in a tree stands for one
 abbrev mutual
   pub ValueStands : Interned → memory_value.Value → Type 0
-  ValueStands table (V.Constant value) = Unit {0}
+  ValueStands table (V.Constant int_type value) = Unit {0}
   ValueStands table V.NullPointer = Unit {0}
   ValueStands table (V.Grouped' p inner) = ValueStands table inner
   ValueStands table (V.Read' place p object) = ObjectStands table object
@@ -86,7 +85,7 @@ abbrev mutual
   ValueStands table (V.FunctionValue' p function) = DesignatorStands table function
   ValueStands table (V.Converted' int_type p value) = ValueStands table value
   ValueStands table (V.Repointed' place target p value) = Stands table target × ValueStands table value
-  ValueStands table (V.MadeNull' p value) = ValueStands table value
+  ValueStands table (V.MadeNull' target p value) = Stands table target × ValueStands table value
   ValueStands table (V.Tested' place p value) = ValueStands table value
   ValueStands table (V.Plus' p operand) = ValueStands table operand
   ValueStands table (V.Minus' place int_type p operand) = ValueStands table operand
@@ -117,7 +116,7 @@ abbrev mutual
   pub ObjectStands : Interned → memory_object.Object → Type 0
   ObjectStands table (O.Local number) = Unit {0}
   ObjectStands table (O.Global name) = Unit {0}
-  ObjectStands table (O.Literal place bytes c_type) = Stands table c_type × (type_in table c_type ≡ Array (Integer I.Char) (suc (length bytes)))
+  ObjectStands table (O.Literal place bytes c_type) = Stands table c_type × (type_in table c_type ≡ literal_type bytes)
   ObjectStands table (O.Grouped' place p inner) = ObjectStands table inner
   ObjectStands table (O.Pointed' place p pointer) = ValueStands table pointer
   ObjectStands table (O.Element' place p pointer q number) = ValueStands table pointer × ValueStands table number

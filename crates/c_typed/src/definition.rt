@@ -61,11 +61,12 @@ pub struct GlobalDef {
     pub first: Vec<First>,
 }
 
-/// A literal of the text, without the zero at its end (C17 6.4.5).
+/// A literal of the text, without the zero at its end, and its type, an array with room for that (C17 6.4.5 paragraph 6).
 #[derive(Drop)]
 pub struct LiteralDef {
     pub place: Pos,
     pub bytes: ByteString,
+    pub c_type: CType,
 }
 
 /// A function (C17 6.9.1).

@@ -28,8 +28,11 @@ pub enum Stepping {
 #[cycle(value)]
 #[derive(Drop)]
 pub enum Value {
-    /// An integer constant, a character constant or `EOF`, as a value of its type (C17 6.4.4).
-    Constant(i128),
+    /// An integer constant, a character constant, `EOF` or the value of `sizeof`, as a value of its type (C17 6.4.4, 6.5.3.4).
+    Constant {
+        int_type: IntType,
+        value: i128,
+    },
     /// `NULL`
     NullPointer,
     /// A value in parentheses (C17 6.5.1 paragraph 5).
@@ -57,8 +60,11 @@ pub enum Value {
         target: CType,
         value: Box<Value>,
     },
-    /// A null pointer constant, converted to a pointer (C17 6.3.2.3 paragraph 3).
-    MadeNull(Box<Value>),
+    /// A null pointer constant, converted to a pointer to the target (C17 6.3.2.3 paragraph 3).
+    MadeNull {
+        target: CType,
+        value: Box<Value>,
+    },
     /// Whether a pointer isn't null.
     Tested {
         place: Pos,

@@ -7,19 +7,21 @@ use Rattle.c_syntax.specs.Views.{init_tree}
 use Rattle.c_syntax.specs.Trees.{NameTree, InitTree, InitDeclaratorTree}
 use Rattle.c_typed.specs.declared.c_type.CType as number
 use Rattle.c_typed.specs.declared.definition.First as memory_first
+use Rattle.c_typed.specs.Types
 use Rattle.c_typed.specs.Types.{CType}
 use Rattle.c_typed.specs.Typed.{GlobalDef}
 use Rattle.c_typed.specs.Table.{Interned, Stands, type_in}
 use Rattle.c_typed.specs.DefinitionViews.{all_first}
 use Rattle.c_rules.specs.Names.{Scope}
-use Rattle.c_rules.specs.Known.{Checked, given, with_known}
+use Rattle.c_rules.specs.declared.rule.TypeRule.TheVariants as T
+use Rattle.c_rules.specs.Known.{Checked, given, with_known, unless}
 use Rattle.c_rules.specs.Expressions.{LengthRole, declared_type, declared_name}
 use Rattle.c_rules.specs.Initializers.{first_of}
 use Rattle.c_rules.specs.Programs.{Filed, declare_outside, role_of, has_first, first_rules, file_declarator, file_declarators}
 use Rattle.c_rules.specs.Elaborated.{held_of, first_held, global_of, declared_global, declared_globals, each_global}
 use Rattle.c_types_state.specs.NameTables.{State, scope_of}
-use Rattle.c_types_state.specs.Finding.{Finds, AllStand, IsType, each_in}
-use Rattle.c_types_state.proofs.Findings.{seen-known}
+use Rattle.c_types_state.specs.Finding.{Finds, AllStand, IsType, each_in, noted}
+use Rattle.c_types_state.proofs.Findings.{seen-known, finds-also, finds-give}
 use Rattle.c_types_expressions.specs.declared.pass.Pass.{Pass}
 use Rattle.c_types_expressions.specs.Named.{NamedType, named_at, named_in_declarator}
 use Rattle.c_types_expressions.specs.Passes.{Names, Passes}
@@ -30,7 +32,7 @@ use Rattle.c_types.specs.declared.initializers.Target.{Target}
 use Rattle.c_types.specs.NamedItems.{named_in_init, named_in_first, named_in_file_declarator, named_in_file_declarators}
 use Rattle.c_types.specs.Made.{Covers, Makes, IsFirst}
 use Rattle.c_types.specs.FirstValues.{HoldsFirst}
-use Rattle.c_types.specs.Outside.{HasDefined, outside_rule}
+use Rattle.c_types.specs.Outside.{HasDefined, outside_rule, body_rule}
 use Rattle.c_types.proofs.Covering.{covers-none, covers-then, covers-same, covers-passes, covers-named, makes-same, makes-behind}
 use Rattle.c_types.proofs.Filed.{each_stays}
 use Rattle.c_types.proofs.DefinedStays.{Defines, defined_stays, each_global-append}
@@ -86,6 +88,17 @@ module _ {s t : State} {part : Checked CType} {own : Option number.CType} (finds
 
   pub found-kept : {u : State} → u ≡ t → AllStand Stands u.table own
   found-kept {u = u} same = subst (λ (state : State). AllStand Stands state.table own) (sym same) found-stands
+
+-- a type that has a body is noted where it is no function, and stays
+pub body-found : {s t : State} (here : Pos) (asked : Option number.CType) (c_type : number.CType) (is_function : Bool) → asked ≡ Some c_type → AllStand Stands s.table asked → is_function ≡ Types.is_function (type_in s.table c_type)
+    → t ≡ record s { least = noted s.least (unless is_function T.T05 here) } → Finds IsType (with_known (each_in type_in s.table asked) (body_rule here)) s t (Some c_type)
+body-found {s = s} {t = t} here asked c_type is_function is stands same told =
+    let violations = unless (Types.is_function (type_in s.table c_type)) T.T05 here in
+    let there : State = record s { least = noted s.least violations } in
+    let stand : Stands s.table c_type = subst (AllStand Stands s.table) is stands in
+    subst (λ (asked : Option number.CType). Finds IsType (with_known (each_in type_in s.table asked) (body_rule here)) s t (Some c_type)) (sym is)
+    (subst (λ (state : State). Finds IsType (body_rule here (type_in s.table c_type)) s state (Some c_type)) (sym (told ∙ ap (λ b. record s { least = noted s.least (unless b T.T05 here) }) same))
+    (finds-also {t = there} violations refl (finds-give (stand, refl))))
 
 -- ---- first values
 

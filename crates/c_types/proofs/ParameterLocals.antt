@@ -39,14 +39,14 @@ local-none {s = s} words declarator name none =
 pub local-some : {s p q : Pass} {t u : State} {r r' r'' : Option number.CType} (words : WordsTree) (declarator : OptionalTree) (name : NameTree) (known : Option NameTree) (here : Pos) → Some name ≡ known → here ≡ name.place
     → Finds IsType (words_type (scope_of s.checker) words) s.checker t r
     → Passes IsType (optional_type (scope_of t) here Adjusted (known_already (each_in type_in t.table r)) declarator) (named_in_optional (scope_of t) declarator) (with_checker s t) p r'
-    → Finds IsType (with_known (each_in type_in p.checker.table r') (parameter_type here)) p.checker u r''
+    → Finds IsType (with_known (each_in type_in p.checker.table r') (parameter_type (scope_of p.checker) here)) p.checker u r''
     → q.checker ≡ record u { least = s.checker.least } → q.named.items ≡ take (length s.named.items) p.named.items
     → Makes IsOptionalType [] (local_type (scope_of s.checker) words declarator known) [] (scope_of s.checker) s q r''
 local-some {s = s} {p = p} {q = q} {t = t} {u = u} {r = r} {r' = r'} {r'' = r''} words declarator name known here is_name at_place first second third restored cut =
     let scope = scope_of s.checker in
     let named : Finds IsType (optional_type scope here Adjusted (words_type scope words) declarator) s.checker p.checker r' = optional_found here Adjusted (words_type scope words) declarator first second.finds in
-    let whole : Finds IsType (given (optional_type scope here Adjusted (words_type scope words) declarator) (parameter_type here)) s.checker u r'' =
-    finds-then Stands type_in (λ _. optional_type scope here Adjusted (words_type scope words) declarator) (λ _. parameter_type here) named third in
+    let whole : Finds IsType (given (optional_type scope here Adjusted (words_type scope words) declarator) (parameter_type scope here)) s.checker u r'' =
+    finds-then Stands type_in (λ _. optional_type scope here Adjusted (words_type scope words) declarator) (λ scope. parameter_type scope here) named third in
     let same : q.named.items ≡ s.named.items = cut ∙ ap (take (length s.named.items)) second.names.is ∙ take_at s.named.items second.names.added (length s.named.items) refl in
     let covers : Covers [] [] scope s q = record {
       grows = subst (λ (state : State). Grows s.checker.table state.table) (sym restored) whole.grows;
@@ -54,9 +54,9 @@ local-some {s = s} {p = p} {q = q} {t = t} {u = u} {r = r} {r' = r'} {r'' = r''}
       least = ap (λ (state : State). state.least) restored;
       names = subst (λ items. Names [] q.checker.table s.named.items items) (sym same) (names-none q.checker.table s.named.items);
     } in
-    let known_type = subst (λ (state : State). IsOption (IsType state.table) r'' (given (optional_type scope here Adjusted (words_type scope words) declarator) (parameter_type here)).known) (sym restored) whole.known in
+    let known_type = subst (λ (state : State). IsOption (IsType state.table) r'' (given (optional_type scope here Adjusted (words_type scope words) declarator) (parameter_type scope here)).known) (sym restored) whole.known in
     subst (λ (known : Option NameTree). Makes IsOptionalType [] (local_type scope words declarator known) [] scope s q r'') is_name
-    (record { covers = covers; made = subst (λ (place : Pos). IsOption (IsType q.checker.table) r'' (given (optional_type scope place Adjusted (words_type scope words) declarator) (parameter_type place)).known) at_place known_type })
+    (record { covers = covers; made = subst (λ (place : Pos). IsOption (IsType q.checker.table) r'' (given (optional_type scope place Adjusted (words_type scope words) declarator) (parameter_type scope place)).known) at_place known_type })
 
 -- ---- the types of all
 

@@ -9,8 +9,8 @@ use Rattle.c_typed.specs.declared.definition.Program as memory_program
 use Rattle.c_typed.specs.Types.{CType}
 use Rattle.c_typed.specs.Layouts.{MemberDef, members_by_tag}
 use Rattle.c_typed.specs.Typed.{GlobalDef, FunctionDef}
-use Rattle.c_typed.specs.Table.{Interned, Grows, structs_in}
-use Rattle.c_typed.specs.DefinitionViews.{global_in, function_in, literal_of, program_of, GlobalsStand, FunctionsStand, ProgramStands}
+use Rattle.c_typed.specs.Table.{Interned, Grows}
+use Rattle.c_typed.specs.DefinitionViews.{global_in, function_in, literal_of, program_of, GlobalsStand, LiteralsStand, FunctionsStand, ProgramStands}
 use Rattle.c_typed.proofs.Grown.{stays}
 use Rattle.c_rules.specs.declared.rule.TypeRule.TheVariants as T
 use Rattle.c_rules.specs.declared.violation.Violation.{Violation}
@@ -29,7 +29,7 @@ use Rattle.c_types_expressions.specs.declared.pass.NamedType as memory_named
 use Rattle.c_types_expressions.specs.declared.pass.Pass.{Pass}
 use Rattle.c_types_expressions.specs.Named.{NamedType}
 use Rattle.c_types_expressions.specs.Passes.{named_type, AllNamedStand, Names}
-use Rattle.c_types_expressions.proofs.Naming.{names-none, names-then}
+use Rattle.c_types_expressions.proofs.Naming.{names-none, names-grow, names-then}
 use Rattle.c_types.specs.declared.defined.Defined.{Defined}
 use Rattle.c_types.specs.declared.program.TypeErr.{TypeErr}
 use Rattle.c_types.specs.declared.program.TypeErr.TheVariants as E
@@ -37,6 +37,7 @@ use Rattle.c_types.specs.NamedItems.{named_in_item, named_in_items, named_types}
 use Rattle.c_types.specs.Made.{Reaches, without_structs}
 use Rattle.c_types.specs.Outside.{IsOutside, HasDefined, item_globals, item_functions}
 use Rattle.c_types.proofs.Covering.{noted-append}
+use Rattle.c_types.proofs.DefinedStays.{defined_stays}
 
 -- ---- what an item leaves of a scope: its locals, and the functions that the program defines
 
@@ -234,26 +235,34 @@ pub least-none : (found : List Violation) → least found ≡ None → found ≡
 least-none [] h = refl
 least-none (violation ∷ found) h = absurd (some-least violation (least found) h)
 
+-- what was defined stays, where the table grows once more
+defined-whole : (program : ProgramTree) (pass : Pass) (defined : Defined) (table : Interned) (read : Reading program [] pass defined) → Grows pass.checker.table table → HasDefined table defined read.globals read.functions
+defined-whole program pass defined table read grows = defined_stays pass.checker.table table grows defined read.globals read.functions read.has
+
 -- the typed program
-pub typed-whole : (program : ProgramTree) (pass : Pass) (defined : Defined) (p : memory_program.Program) → Reading program [] pass defined → p.types ≡ pass.checker.table → map (λ tag. tag) p.completed.items ≡ each_once [] (completed_in program.items) → p.globals.items ≡ defined.globals → map literal_of p.literals.items ≡ literals_in_items program.items → p.functions.items ≡ defined.functions.items → program_of p ≡ typed_of program
-typed-whole program pass defined p read types completed globals literals functions =
-    let structs_are = ap structs_in types ∙ read.structs in
-    let globals_are = (λ i. map (global_in (types i)) (globals i)) ∙ read.has.globals ∙ read.all_globals in
-    let functions_are = (λ i. map (function_in (types i)) (functions i)) ∙ read.has.functions ∙ sym (append-nil read.functions) ∙ read.all_functions in
+pub typed-whole : (program : ProgramTree) (pass : Pass) (defined : Defined) (p : memory_program.Program) → Reading program [] pass defined → Grows pass.checker.table p.types → map (λ tag. tag) p.completed.items ≡ each_once [] (completed_in program.items) → p.globals.items ≡ defined.globals → map literal_of p.literals.items ≡ literals_in_items program.items → p.functions.items ≡ defined.functions.items → program_of p ≡ typed_of program
+typed-whole program pass defined p read grows completed globals literals functions =
+    let has = defined-whole program pass defined p.types read grows in
+    let structs_are = grows.structs ∙ read.structs in
+    let globals_are = ap (map (global_in p.types)) globals ∙ has.globals ∙ read.all_globals in
+    let functions_are = ap (map (function_in p.types)) functions ∙ has.functions ∙ sym (append-nil read.functions) ∙ read.all_functions in
     λ i. record { structs = structs_are i; completed = completed i; globals = globals_are i; literals = literals i; functions = functions_are i }
 
-pub whole-stands : (program : ProgramTree) (pass : Pass) (defined : Defined) (p : memory_program.Program) → Reading program [] pass defined → p.types ≡ pass.checker.table → p.globals.items ≡ defined.globals → p.functions.items ≡ defined.functions.items → ProgramStands p
-whole-stands program pass defined p read types globals functions = (
-  subst (λ table. GlobalsStand table p.globals.items) (sym types) (subst (GlobalsStand pass.checker.table) (sym globals) read.has.globals_stand),
-  subst (λ table. FunctionsStand table p.functions.items) (sym types) (subst (FunctionsStand pass.checker.table) (sym functions) read.has.functions_stand),
-)
+pub whole-stands : (program : ProgramTree) (pass : Pass) (defined : Defined) (p : memory_program.Program) → Reading program [] pass defined → Grows pass.checker.table p.types → p.globals.items ≡ defined.globals → LiteralsStand p.types p.literals.items → p.functions.items ≡ defined.functions.items → ProgramStands p
+whole-stands program pass defined p read grows globals literals functions =
+    let has = defined-whole program pass defined p.types read grows in
+    record {
+      globals = subst (GlobalsStand p.types) (sym globals) has.globals_stand;
+      literals = literals;
+      functions = subst (FunctionsStand p.types) (sym functions) has.functions_stand;
+    }
 
 -- the types that it names
-pub named-whole : (program : ProgramTree) (pass : Pass) (defined : Defined) (table : Interned) → Reading program [] pass defined → table ≡ pass.checker.table → AllNamedStand table pass.named.items × (map (named_type table) pass.named.items ≡ named_types program)
-named-whole program pass defined table read same =
-    subst (λ t. AllNamedStand t pass.named.items × (map (named_type t) pass.named.items ≡ named_types program)) (sym same) (
-      subst (AllNamedStand pass.checker.table) (sym read.names.is) read.names.stand,
-      ap (map (named_type pass.checker.table)) read.names.is ∙ read.names.means ∙ sym (append-nil read.named) ∙ read.all_named,
+pub named-whole : (program : ProgramTree) (pass : Pass) (defined : Defined) (table : Interned) → Reading program [] pass defined → Grows pass.checker.table table → AllNamedStand table pass.named.items × (map (named_type table) pass.named.items ≡ named_types program)
+named-whole program pass defined table read grows =
+    let names = names-grow pass.checker.table table grows read.names in (
+      subst (AllNamedStand table) (sym names.is) names.stand,
+      ap (map (named_type table)) names.is ∙ names.means ∙ sym (append-nil read.named) ∙ read.all_named,
     )
 
 -- ---- why it is refused

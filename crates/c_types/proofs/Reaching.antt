@@ -21,7 +21,8 @@ use Rattle.c_types.specs.declared.defined.Defined.{Defined}
 use Rattle.c_types.specs.Made.{Covers, Reaches, without_structs, IsOptionalType}
 use Rattle.c_types.specs.Outside.{IsOutside, HasDefined}
 use Rattle.c_types.proofs.Covering.{noted-append}
-use Rattle.c_types.proofs.TypesStaying.{TypesStay, globals_stay, functions_stay}
+use Rattle.c_types.proofs.TypesStaying.{globals_stay, functions_stay}
+use Rattle.c_typed.proofs.TypedStays.{TypesStay}
 
 -- ---- one that completes none
 

@@ -4,3 +4,5 @@ pub mod Parts
 pub mod FirstValues
 pub mod Globals
 pub mod Outside
+pub mod Checked
+pub mod Literals

@@ -16,7 +16,7 @@ use Rattle.c_types_state.specs.Checkers.{names_of}
 use Rattle.c_rules.specs.Names.{Scope, FileName}
 use Rattle.c_typed.specs.Names.{contains}
 use Rattle.c_types_state.specs.NameTables.{file_row}
-use Rattle.c_rules.specs.Known.{Checked, given, require, give}
+use Rattle.c_rules.specs.Known.{Checked, also, given, require, unless, give}
 use Rattle.c_types_state.specs.Finding.{IsOption, IsType}
 use Rattle.c_rules.specs.Expressions.{Adjusted, optional_type, words_type, optional_name, parameter_type, declared_name}
 use Rattle.c_rules.specs.Programs.{has_member, base_type, base_place, differs}
@@ -40,7 +40,7 @@ pub record AreHeld (table : Interned) (members : Members) : Type 0 where
 -- the type of a parameter as a local, where it has a name and a type
 abbrev pub local_type : Scope → WordsTree → OptionalTree → Option NameTree → Option CType
 local_type outside words _ None = None
-local_type outside words declarator (Some name) = (given (optional_type outside name.place Adjusted (words_type outside words) declarator) (parameter_type name.place)).known
+local_type outside words declarator (Some name) = (given (optional_type outside name.place Adjusted (words_type outside words) declarator) (parameter_type outside name.place)).known
 
 abbrev pub local_types : Scope → ParametersTree → List (Option CType)
 local_types outside Trees.NoParameters = []
@@ -83,9 +83,9 @@ item_functions scope (Trees.Function base declarator place body) = let based = b
 abbrev pub outside_rule : Scope → Pos → CType → Checked CType
 outside_rule scope here c_type = require (Types.is_function c_type || is_complete scope.structs c_type) T.T05 here (give c_type)
 
--- and of one that has one
+-- and of one that has one: one that isn't a function keeps its type
 abbrev pub body_rule : Pos → CType → Checked CType
-body_rule here c_type = require (Types.is_function c_type) T.T05 here (give c_type)
+body_rule here c_type = also (unless (Types.is_function c_type) T.T05 here) (give c_type)
 
 abbrev pub row_of : Interned → List ℕ → memory_file.FileEntry → FileName
 row_of table name entry = file_row table (record { name = name; entry = entry })

@@ -1,17 +1,14 @@
 // Declarations in blocks (C17 6.7).
 
-ghost use Rattle.std.specs.Prelude.{◌≡◌, [], IfOk, OnOk, option_map};
+ghost use Rattle.std.specs.Prelude.{◌≡◌, IfOk, OnOk, option_map};
 ghost use Rattle.c_syntax.specs.Views.{name_tree, init_declarator_tree, declaration_tree};
-ghost use Rattle.c_typed.specs.Table.{Stands, type_in};
+ghost use Rattle.c_typed.specs.Table.{Stands};
 ghost use Rattle.c_typed.specs.Kept.{IsObject};
-ghost use Rattle.c_rules.specs.Known.{with_known};
-ghost use Rattle.c_rules.specs.Statements as statements;
-ghost use Rattle.c_rules.specs.Elaborated as elaborated;
-ghost use Rattle.c_types_state.specs.Finding.{Finds, AllStand, each_in};
+ghost use Rattle.c_types_state.specs.Finding.{AllStand};
 ghost use Rattle.c_types_state.specs.NameTables.{scope_of};
 ghost use Rattle.c_types_expressions.specs.Derived.{element_rule, IsElement};
-ghost use Rattle.c_types.specs.NamedItems.{named_in_local, named_in_declaration};
-ghost use Rattle.c_types.specs.Made.{Covers, Makes, IsLocal, IsLocals, AddsItems};
+ghost use Rattle.c_types_expressions.specs.Parts.{OfType};
+ghost use Rattle.c_types.specs.Checked.{CoversDeclaration, AddsDeclaration, MakesLocals, MakesDeclared, CoversName};
 
 use crate::initializers::local_first;
 use crate::values::unboxed;
@@ -29,8 +26,8 @@ pub(crate) fn block_declaration(
     declaration: &Declaration,
     made: &mut Vec<BlockItem>,
 ) -> Result<(), AllocError>
-    ensures covers { OnOk result (Covers (statements.declaration (scope_of pass.old.checker) (declaration_tree declaration.now)).found (named_in_declaration (scope_of pass.old.checker) (declaration_tree declaration.now)) (statements.declaration (scope_of pass.old.checker) (declaration_tree declaration.now)).scope pass.old pass.new) }
-    ensures made { OnOk result (AddsItems (elaborated.declare_each (elaborated.declared_locals (scope_of pass.old.checker) (declaration_tree declaration.now))) pass.new.checker.table made.old.items made.new.items) }
+    ensures covers { OnOk result (CoversDeclaration (declaration_tree declaration.now) pass.old pass.new) }
+    ensures made { OnOk result (AddsDeclaration (declaration_tree declaration.now) pass.old pass.new made.old.items made.new.items) }
 {
     for local in declaration_locals(pass, declaration)? {
         made.push(BlockItem::Local(local))?;
@@ -43,7 +40,7 @@ pub(crate) fn declaration_locals(
     pass: &mut Pass,
     declaration: &Declaration,
 ) -> Result<Vec<LocalDef>, AllocError>
-    ensures { IfOk result (Makes IsLocals (statements.declaration (scope_of pass.old.checker) (declaration_tree declaration.now)).found (elaborated.declared_locals (scope_of pass.old.checker) (declaration_tree declaration.now)) (named_in_declaration (scope_of pass.old.checker) (declaration_tree declaration.now)) (statements.declaration (scope_of pass.old.checker) (declaration_tree declaration.now)).scope pass.old pass.new) }
+    ensures { IfOk result (MakesLocals (declaration_tree declaration.now) pass.old pass.new) }
 {
     let mut locals = Vec::new(pass.alloc());
     let base = words_type(&mut pass.checker, &declaration.simple)?;
@@ -61,7 +58,7 @@ fn local(
     tree: &InitDeclarator,
 ) -> Result<LocalDef, AllocError>
     requires { AllStand Stands pass.old.checker.table base }
-    ensures { IfOk result (Makes IsLocal (statements.declare_local place (each_in type_in pass.old.checker.table base) (init_declarator_tree tree.now) (scope_of pass.old.checker)).found (elaborated.local_of place (each_in type_in pass.old.checker.table base) (init_declarator_tree tree.now) (scope_of pass.old.checker)) (named_in_local place (each_in type_in pass.old.checker.table base) (init_declarator_tree tree.now) (scope_of pass.old.checker)) (statements.declare_local place (each_in type_in pass.old.checker.table base) (init_declarator_tree tree.now) (scope_of pass.old.checker)).scope pass.old pass.new) }
+    ensures { IfOk result (MakesDeclared place base (init_declarator_tree tree.now) pass.old pass.new) }
 {
     let name = declared_name(&tree.declarator);
     let here = name_place(name, place);
@@ -83,7 +80,7 @@ fn local(
 /// The type of an object, whose size is known (C17 6.7 paragraph 7).
 pub(crate) fn as_object(checker: &mut Checker, here: Pos, c_type: Option<CType>) -> Option<CType>
     requires { AllStand Stands checker.old.table c_type }
-    ensures { Finds IsElement (with_known (each_in type_in checker.old.table c_type) (element_rule (scope_of checker.old) here)) checker.old checker.new result }
+    ensures { OfType IsElement (element_rule (scope_of checker.old) here) c_type checker.old checker.new result }
 {
     let c_type = c_type?;
     let is_complete = checker.is_complete(c_type);
@@ -96,10 +93,10 @@ pub(crate) fn as_object(checker: &mut Checker, here: Pos, c_type: Option<CType>)
 /// Declares a local, which is no library function and is declared once in its block.
 fn declare(pass: &mut Pass, name: Option<&Name>, c_type: Option<CType>) -> Result<(), AllocError>
     requires { AllStand Stands pass.old.checker.table c_type }
-    ensures { OnOk result (Covers (statements.local_clash (scope_of pass.old.checker) (option_map (λ name. name_tree name.now) name.entry)) [] (statements.with_declared (option_map (λ name. name_tree name.now) name.entry) (each_in type_in pass.old.checker.table c_type) (scope_of pass.old.checker)) pass.old pass.new) }
+    ensures { OnOk result (CoversName (option_map (λ name. name_tree name.now) name.entry) c_type pass.old pass.new) }
 {
     let Some(name) = name else {
-        return Ok(());
+        return pass.checker.declare_local(&[], c_type);
     };
     let bytes = name.bytes.as_slice();
     let is_new = library_function(bytes).is_none() && !pass.checker.is_local_here(bytes);

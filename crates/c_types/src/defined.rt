@@ -1,9 +1,9 @@
 // The variables and functions that a program defines.
 
-ghost use Rattle.std.specs.Prelude.{◌≡◌, ◌==◌, [], OnOk, length, map};
-ghost use Rattle.c_typed.specs.Table.{Interned, Stands, type_in};
-ghost use Rattle.c_typed.specs.DefinitionViews.{global_in, all_first, GlobalsStand};
-ghost use Rattle.c_rules.specs.Elaborated as elaborated;
+ghost use Rattle.std.specs.Prelude.{◌≡◌, ◌==◌, [], OnOk, length};
+ghost use Rattle.c_typed.specs.Table.{Interned, Stands};
+ghost use Rattle.c_typed.specs.DefinitionViews.{all_first, GlobalsStand};
+ghost use Rattle.c_types.specs.Globals.{AddsGlobal};
 
 use c_typed::{ByteString, CType, First, FunctionDef, GlobalDef};
 use indexmap::IndexMap;
@@ -69,7 +69,7 @@ impl Globals {
         c_type: CType,
         first: Vec<First>,
     ) -> Result<(), AllocError>
-        ensures globals { OnOk result ((table : Interned) → map (global_in table) self.new ≡ elaborated.with_global (record { name = name.now; c_type = type_in table c_type; first = all_first first.items }) (map (global_in table) self.old)) }
+        ensures globals { OnOk result (AddsGlobal name.now c_type first.items self.old self.new) }
         ensures stand { OnOk result ((table : Interned) → GlobalsStand table self.old → Stands table c_type → GlobalsStand table self.new) }
     {
         if let Some(number) = self.numbers.get(name) {

@@ -1,22 +1,16 @@
 // Initializers (C17 6.7.9).
 
-ghost use Rattle.std.specs.Prelude.{◌≡◌, ◌||◌, false, Some, None, IfOk, OnOk, IfSome, IfNone, option_map};
+ghost use Rattle.std.specs.Prelude.{◌≡◌, ◌||◌, Some, IfOk, OnOk, IfSome, IfNone, option_map};
 ghost use Rattle.c_syntax.specs.Trees as Trees;
 ghost use Rattle.c_syntax.specs.Views.{expr_tree, init_tree, inits_of};
 ghost use Rattle.c_typed.specs.Types as T;
-ghost use Rattle.c_typed.specs.declared.part.Part.TheVariants as Parts;
-ghost use Rattle.c_typed.specs.Table.{Stands, type_in, TagStands, tag_in, structs_in, members_of};
+ghost use Rattle.c_typed.specs.Table.{Stands, type_in, TagStands};
 ghost use Rattle.c_rules.specs.Initializers as rules;
 ghost use Rattle.c_rules.specs.Programs as programs;
-ghost use Rattle.c_rules.specs.Elaborated as elaborated;
-ghost use Rattle.c_types_state.specs.Finding.{AllStand, each_in};
-ghost use Rattle.c_types_state.specs.NameTables.{scope_of};
-ghost use Rattle.c_types_state.specs.Staying.{IsValue};
-ghost use Rattle.c_types_expressions.specs.Named.{named_in};
+ghost use Rattle.c_types_state.specs.Finding.{AllStand};
 ghost use Rattle.c_types_expressions.specs.Roles.{role_of};
-ghost use Rattle.c_types.specs.NamedItems.{named_in_init, named_in_inits};
-ghost use Rattle.c_types.specs.Made.{Covers, Makes, IsOptionalValue};
-ghost use Rattle.c_types.specs.FirstValues.{HoldsFirst, too_many};
+ghost use Rattle.c_types.specs.Checked.{CoversWithin, CoversAllWithin, CoversTooMany, IsNoText, MakesLocalFirst, MakesLocalValue, CoversFirst};
+ghost use Rattle.c_types.specs.Checked.{HoldsInit, HoldsMember, CoversElements, HoldsElements, CoversStruct, HoldsStruct};
 
 use crate::scalars::value_first;
 use crate::values::{value, value_as};
@@ -52,7 +46,7 @@ fn literal_of(tree: &Expr) -> Option<&ByteString>
 /// The expression that stands alone in braces.
 fn value_in(inits: &[Init]) -> Option<&Expr>
     ensures some { IfSome result (λ tree. inits_of inits.now ≡ Trees.Inits (Trees.InitValue (expr_tree tree.now)) Trees.NoInits) }
-    ensures none { IfNone result ((place : Pos) (element : T.CType) → (rules.literal_alone (Trees.InitList place (inits_of inits.now)) ≡ None) × (rules.is_text element (inits_of inits.now) ≡ false)) }
+    ensures none { IfNone result (IsNoText (inits_of inits.now)) }
 {
     if inits.len() != 1 {
         return None;
@@ -99,7 +93,7 @@ pub(crate) fn initialized_role(init: &Option<Init>) -> LengthRole
 /// The rules of the expressions in an initializer alone.
 #[cycle(within)]
 pub(crate) fn found_within(pass: &mut Pass, init: &Init) -> Result<(), AllocError>
-    ensures { OnOk result (Covers (rules.found_within (scope_of pass.old.checker) (init_tree init.now)) (named_in_init (scope_of pass.old.checker) (init_tree init.now)) (scope_of pass.old.checker) pass.old pass.new) }
+    ensures { OnOk result (CoversWithin (init_tree init.now) pass.old pass.new) }
 {
     match init {
         Init::Value(tree) => {
@@ -112,7 +106,7 @@ pub(crate) fn found_within(pass: &mut Pass, init: &Init) -> Result<(), AllocErro
 
 #[cycle(within)]
 pub(crate) fn found_within_all(pass: &mut Pass, inits: &[Init]) -> Result<(), AllocError>
-    ensures { OnOk result (Covers (rules.found_within_all (scope_of pass.old.checker) (inits_of inits.now)) (named_in_inits (scope_of pass.old.checker) (inits_of inits.now)) (scope_of pass.old.checker) pass.old pass.new) }
+    ensures { OnOk result (CoversAllWithin (inits_of inits.now) pass.old pass.new) }
 {
     for init in inits {
         found_within(pass, init)?;
@@ -122,7 +116,7 @@ pub(crate) fn found_within_all(pass: &mut Pass, inits: &[Init]) -> Result<(), Al
 
 /// Initializers for which there is no element or member; the first of them is refused (C17 6.7.9 paragraph 2).
 fn refuse_too_many(pass: &mut Pass, inits: &[Init]) -> Result<(), AllocError>
-    ensures { OnOk result (Covers (too_many (scope_of pass.old.checker) (inits_of inits.now)) (named_in_inits (scope_of pass.old.checker) (inits_of inits.now)) (scope_of pass.old.checker) pass.old pass.new) }
+    ensures { OnOk result (CoversTooMany (inits_of inits.now) pass.old pass.new) }
 {
     if let Some(first) = inits.first() {
         pass.checker.note(TypeRule::T18, init_place(first));
@@ -139,7 +133,7 @@ pub(crate) fn local_first(
     init: &Init,
 ) -> Result<Option<Box<Value>>, AllocError>
     requires { AllStand Stands pass.old.checker.table c_type }
-    ensures { IfOk result (λ made. Makes IsOptionalValue (rules.local_first (scope_of pass.old.checker) (each_in type_in pass.old.checker.table c_type) (init_tree init.now)) (elaborated.first_local (scope_of pass.old.checker) (each_in type_in pass.old.checker.table c_type) (Some (init_tree init.now))) (named_in_init (scope_of pass.old.checker) (init_tree init.now)) (scope_of pass.old.checker) pass.old pass.new (option_map (λ value. value.value) made)) }
+    ensures { IfOk result (λ made. MakesLocalFirst c_type (init_tree init.now) pass.old pass.new (option_map (λ value. value.value) made)) }
 {
     match (c_type, init) {
         (None, Init::Value(tree)) => {
@@ -174,7 +168,7 @@ fn is_aggregate(checker: &Checker, c_type: CType) -> bool
 /// An expression as the first value of a local.
 fn local_value(pass: &mut Pass, c_type: CType, tree: &Expr) -> Result<Box<Value>, AllocError>
     requires { Stands pass.old.checker.table c_type }
-    ensures { IfOk result (λ made. Makes IsValue (rules.local_first (scope_of pass.old.checker) (Some (type_in pass.old.checker.table c_type)) (Trees.InitValue (expr_tree tree.now))) (elaborated.value_as (scope_of pass.old.checker) (Some (type_in pass.old.checker.table c_type)) (expr_tree tree.now)) (named_in (scope_of pass.old.checker) (expr_tree tree.now)) (scope_of pass.old.checker) pass.old pass.new made.value) }
+    ensures { IfOk result (λ made. MakesLocalValue c_type (expr_tree tree.now) pass.old pass.new made.value) }
 {
     let place = place_of(tree);
     let is_scalar = !is_aggregate(&pass.checker, c_type);
@@ -217,8 +211,8 @@ pub(crate) fn first_of(
     init: &Init,
 ) -> Result<(), AllocError>
     requires { AllStand Stands pass.old.checker.table c_type }
-    ensures found { OnOk result (Covers (rules.first_of (scope_of pass.old.checker) (each_in type_in pass.old.checker.table c_type) (init_tree init.now)) (named_in_init (scope_of pass.old.checker) (init_tree init.now)) (scope_of pass.old.checker) pass.old pass.new) }
-    ensures held { OnOk result (HoldsFirst (elaborated.held_of (scope_of pass.old.checker) target.old.parts.items index (each_in type_in pass.old.checker.table c_type) (init_tree init.now)) target.old target.new) }
+    ensures found { OnOk result (CoversFirst c_type (init_tree init.now) pass.old pass.new) }
+    ensures held { OnOk result (HoldsInit pass.old index c_type (init_tree init.now) target.old target.new) }
 {
     let Some(c_type) = c_type else {
         return found_within(pass, init);
@@ -240,8 +234,8 @@ fn list_first(
     inits: &[Init],
 ) -> Result<(), AllocError>
     requires { Stands pass.old.checker.table c_type }
-    ensures found { OnOk result (Covers (rules.first_of (scope_of pass.old.checker) (Some (type_in pass.old.checker.table c_type)) (Trees.InitList place (inits_of inits.now))) (named_in_inits (scope_of pass.old.checker) (inits_of inits.now)) (scope_of pass.old.checker) pass.old pass.new) }
-    ensures held { OnOk result (HoldsFirst (elaborated.held_of (scope_of pass.old.checker) target.old.parts.items index (Some (type_in pass.old.checker.table c_type)) (Trees.InitList place (inits_of inits.now))) target.old target.new) }
+    ensures found { OnOk result (CoversFirst (Some c_type) (Trees.InitList place (inits_of inits.now)) pass.old pass.new) }
+    ensures held { OnOk result (HoldsInit pass.old index (Some c_type) (Trees.InitList place (inits_of inits.now)) target.old target.new) }
 {
     match pass.checker.shape(c_type) {
         Shape::Array { element, length } => {
@@ -273,8 +267,8 @@ fn elements_first(
     inits: &[Init],
 ) -> Result<(), AllocError>
     requires { Stands pass.old.checker.table element }
-    ensures found { OnOk result (Covers (rules.elements_first (scope_of pass.old.checker) (type_in pass.old.checker.table element) length (inits_of inits.now)) (named_in_inits (scope_of pass.old.checker) (inits_of inits.now)) (scope_of pass.old.checker) pass.old pass.new) }
-    ensures held { OnOk result (HoldsFirst (elaborated.elements_held (scope_of pass.old.checker) target.old.parts.items 0 (type_in pass.old.checker.table element) length (inits_of inits.now)) target.old target.new) }
+    ensures found { OnOk result (CoversElements element length (inits_of inits.now) pass.old pass.new) }
+    ensures held { OnOk result (HoldsElements pass.old element length (inits_of inits.now) target.old target.new) }
 {
     for index in 0..inits.len() {
         if index as u64 >= length {
@@ -295,8 +289,8 @@ fn members_first(
     inits: &[Init],
 ) -> Result<(), AllocError>
     requires { TagStands pass.old.checker.table id }
-    ensures found { OnOk result (Covers (rules.members_first (scope_of pass.old.checker) (members_of (structs_in pass.old.checker.table) (T.Struct (tag_in pass.old.checker.table id))) (inits_of inits.now)) (named_in_inits (scope_of pass.old.checker) (inits_of inits.now)) (scope_of pass.old.checker) pass.old pass.new) }
-    ensures held { OnOk result (HoldsFirst (elaborated.members_held (scope_of pass.old.checker) target.old.parts.items index 0 (members_of (structs_in pass.old.checker.table) (T.Struct (tag_in pass.old.checker.table id))) (inits_of inits.now)) target.old target.new) }
+    ensures found { OnOk result (CoversStruct id (inits_of inits.now) pass.old pass.new) }
+    ensures held { OnOk result (HoldsStruct pass.old index id (inits_of inits.now) target.old target.new) }
 {
     for number in 0..inits.len() {
         let Some(c_type) = pass.checker.member_at(id, number) else {
@@ -318,8 +312,8 @@ fn member_first(
     init: &Init,
 ) -> Result<(), AllocError>
     requires { AllStand Stands pass.old.checker.table c_type }
-    ensures found { OnOk result (Covers (rules.first_of (scope_of pass.old.checker) (each_in type_in pass.old.checker.table c_type) (init_tree init.now)) (named_in_init (scope_of pass.old.checker) (init_tree init.now)) (scope_of pass.old.checker) pass.old pass.new) }
-    ensures held { OnOk result (HoldsFirst (elaborated.held_of (scope_of pass.old.checker) (elaborated.within target.old.parts.items (Parts.Member index number)) 0 (each_in type_in pass.old.checker.table c_type) (init_tree init.now)) target.old target.new) }
+    ensures found { OnOk result (CoversFirst c_type (init_tree init.now) pass.old pass.new) }
+    ensures held { OnOk result (HoldsMember pass.old index number c_type (init_tree init.now) target.old target.new) }
 {
     let number = u32::try_from(number).map_err(|_| AllocError)?;
     target.parts.push(Part::Member { index, number })?;

@@ -1,22 +1,18 @@
 // What stands outside functions (C17 6.9).
 
-ghost use Rattle.std.specs.Prelude.{◌≡◌, ◌++◌, ℕ, [], Some, List, IfOk, OnOk, map, option_map};
-ghost use Rattle.c_syntax.specs.Views.{name_tree, declarator_tree, init_declarator_tree, init_tree, item_tree, block_of};
+ghost use Rattle.std.specs.Prelude.{◌≡◌, ℕ, Some, List, IfOk, OnOk, map, option_map};
+ghost use Rattle.c_syntax.specs.Views.{name_tree, init_declarator_tree, init_tree, item_tree};
 ghost use Rattle.c_typed.specs.Types as T;
-ghost use Rattle.c_typed.specs.Typed.{GlobalDef, FunctionDef};
-ghost use Rattle.c_rules.specs.Expressions as expressions;
-ghost use Rattle.c_types_state.specs.Staying.{IsSame};
 ghost use Rattle.c_typed.specs.Table.{Interned, Stands, type_in, KnownStands};
-ghost use Rattle.c_typed.specs.DefinitionViews.{TypesStand, all_first};
-ghost use Rattle.c_rules.specs.Known.{with_known};
+ghost use Rattle.c_typed.specs.DefinitionViews.{TypesStand};
 ghost use Rattle.c_rules.specs.Programs as rules;
 ghost use Rattle.c_rules.specs.Elaborated as elaborated;
-ghost use Rattle.c_types_state.specs.Finding.{Finds, IsType, AllStand, each_in};
-ghost use Rattle.c_rules.specs.Names.{file_name};
+ghost use Rattle.c_types_state.specs.Finding.{IsType, AllStand, each_in};
 ghost use Rattle.c_types_state.specs.NameTables.{scope_of};
-ghost use Rattle.c_types.specs.NamedItems.{named_in_item, named_in_file_declarator, named_in_file_declarators, named_in_function, named_in_first};
-ghost use Rattle.c_types.specs.Made.{Covers, Makes, Reaches, IsFirst};
-ghost use Rattle.c_types.specs.Outside.{IsOutside, HasDefined, item_globals, item_functions, outside_rule, body_rule, row_of, clash};
+ghost use Rattle.c_types.specs.Outside.{IsOutside, outside_rule, body_rule, row_of, clash};
+ghost use Rattle.c_types_expressions.specs.Parts.{OfType};
+ghost use Rattle.c_types.specs.Checked.{ReachesItem, DefinesItem, CoversFile, DefinesFile, CoversDeclarator, DefinesDeclarator, DefinesGlobal};
+ghost use Rattle.c_types.specs.Checked.{CoversFunction, DefinesFunction, CoversOutside, CoversAgain, IsJoined, CoversMain, MakesMain, MakesFirst};
 
 use crate::defined::Defined;
 use crate::initializers::{Target, first_of, initialized_role};
@@ -36,8 +32,8 @@ use text_place::Pos;
 /// An item: what it violates, and what it defines.
 pub(crate) fn item(pass: &mut Pass, defined: &mut Defined, item: &Item) -> Result<(), AllocError>
     requires { IsOutside (scope_of pass.old.checker) }
-    ensures reaches { OnOk result (Reaches (rules.item (scope_of pass.old.checker) (item_tree item.now)).found (named_in_item (scope_of pass.old.checker) (item_tree item.now)) (rules.item (scope_of pass.old.checker) (item_tree item.now)).scope pass.old pass.new) }
-    ensures defined { OnOk result ((globals : List GlobalDef) (functions : List FunctionDef) → HasDefined pass.old.checker.table defined.old globals functions → HasDefined pass.new.checker.table defined.new (elaborated.each_global globals (item_globals (scope_of pass.old.checker) (item_tree item.now))) (functions ++ item_functions (scope_of pass.old.checker) (item_tree item.now))) }
+    ensures reaches { OnOk result (ReachesItem (item_tree item.now) pass.old pass.new) }
+    ensures defined { OnOk result (DefinesItem (item_tree item.now) pass.old pass.new defined.old defined.new) }
 {
     match item {
         Item::Declaration { base, declarators } => {
@@ -66,8 +62,8 @@ fn file_declarators(
     trees: &[InitDeclarator],
 ) -> Result<(), AllocError>
     requires { AllStand Stands pass.old.checker.table base }
-    ensures covers { OnOk result ((place : Pos) → Covers (rules.file_declarators (scope_of pass.old.checker) place (each_in type_in pass.old.checker.table base) (map init_declarator_tree trees.now)).found (named_in_file_declarators (scope_of pass.old.checker) place (each_in type_in pass.old.checker.table base) (map init_declarator_tree trees.now)) (rules.file_declarators (scope_of pass.old.checker) place (each_in type_in pass.old.checker.table base) (map init_declarator_tree trees.now)).scope pass.old pass.new) }
-    ensures defined { OnOk result ((place : Pos) (globals : List GlobalDef) (functions : List FunctionDef) → HasDefined pass.old.checker.table defined.old globals functions → HasDefined pass.new.checker.table defined.new (elaborated.each_global globals (elaborated.declared_globals (scope_of pass.old.checker) place (each_in type_in pass.old.checker.table base) (map init_declarator_tree trees.now))) functions) }
+    ensures covers { OnOk result ((place : Pos) → CoversFile place base (map init_declarator_tree trees.now) pass.old pass.new) }
+    ensures defined { OnOk result ((place : Pos) → DefinesFile place base (map init_declarator_tree trees.now) pass.old pass.new defined.old defined.new) }
 {
     for tree in trees {
         file_declarator(pass, defined, base, tree)?;
@@ -83,8 +79,8 @@ fn file_declarator(
     tree: &InitDeclarator,
 ) -> Result<(), AllocError>
     requires { AllStand Stands pass.old.checker.table base }
-    ensures covers { OnOk result ((place : Pos) → Covers (rules.file_declarator (scope_of pass.old.checker) place (each_in type_in pass.old.checker.table base) (init_declarator_tree tree.now) (expressions.declared_name (declarator_tree tree.now.declarator))).found (named_in_file_declarator (scope_of pass.old.checker) (each_in type_in pass.old.checker.table base) (init_declarator_tree tree.now) (expressions.declared_name (declarator_tree tree.now.declarator))) (rules.file_declarator (scope_of pass.old.checker) place (each_in type_in pass.old.checker.table base) (init_declarator_tree tree.now) (expressions.declared_name (declarator_tree tree.now.declarator))).scope pass.old pass.new) }
-    ensures defined { OnOk result ((globals : List GlobalDef) (functions : List FunctionDef) → HasDefined pass.old.checker.table defined.old globals functions → HasDefined pass.new.checker.table defined.new (elaborated.each_global globals (elaborated.declared_global (scope_of pass.old.checker) (each_in type_in pass.old.checker.table base) (init_declarator_tree tree.now) (expressions.declared_name (declarator_tree tree.now.declarator)))) functions) }
+    ensures covers { OnOk result ((place : Pos) → CoversDeclarator place base (init_declarator_tree tree.now) pass.old pass.new) }
+    ensures defined { OnOk result (DefinesDeclarator base (init_declarator_tree tree.now) pass.old pass.new defined.old defined.new) }
 {
     let Some(name) = declared_name(&tree.declarator) else {
         return Ok(());
@@ -107,7 +103,7 @@ fn define_global(
     first: Vec<typed::First>,
 ) -> Result<(), AllocError>
     requires { AllStand Stands checker.now.table c_type }
-    ensures { OnOk result ((globals : List GlobalDef) (functions : List FunctionDef) → HasDefined checker.now.table defined.old globals functions → HasDefined checker.now.table defined.new (elaborated.each_global globals (elaborated.global_of (name_tree name.now) (each_in type_in checker.now.table c_type) (all_first first.items))) functions) }
+    ensures { OnOk result (DefinesGlobal (name_tree name.now) c_type first.items checker.now.table defined.old defined.new) }
 {
     let Some(c_type) = c_type else {
         return Ok(());
@@ -129,8 +125,8 @@ fn function(
 ) -> Result<(), AllocError>
     requires base { AllStand Stands pass.old.checker.table base }
     requires outside { IsOutside (scope_of pass.old.checker) }
-    ensures covers { OnOk result ((place : Pos) → Covers (rules.function_item (scope_of pass.old.checker) place (each_in type_in pass.old.checker.table base) (declarator_tree declarator.now) (block_of body.now.items.items) (Some (name_tree name.now))).found (named_in_function (scope_of pass.old.checker) (each_in type_in pass.old.checker.table base) (declarator_tree declarator.now) (block_of body.now.items.items) (Some (name_tree name.now))) (rules.function_item (scope_of pass.old.checker) place (each_in type_in pass.old.checker.table base) (declarator_tree declarator.now) (block_of body.now.items.items) (Some (name_tree name.now))).scope pass.old pass.new) }
-    ensures defined { OnOk result ((globals : List GlobalDef) (functions : List FunctionDef) → HasDefined pass.old.checker.table defined.old globals functions → HasDefined pass.new.checker.table defined.new globals (functions ++ elaborated.defined_function (scope_of pass.old.checker) (each_in type_in pass.old.checker.table base) (declarator_tree declarator.now) (block_of body.now.items.items) (Some (name_tree name.now)))) }
+    ensures covers { OnOk result (CoversFunction base declarator.now body.now name.now pass.old pass.new) }
+    ensures defined { OnOk result (DefinesFunction base declarator.now body.now name.now pass.old pass.new defined.old defined.new) }
 {
     let declared = declared_type(pass, name.place, LengthRole::Required, base, declarator)?;
     let own = as_function(&mut pass.checker, name.place, declared);
@@ -157,7 +153,7 @@ fn function(
 /// The type of a name outside functions that has no body: a function, or a complete object type.
 fn as_outside(checker: &mut Checker, here: Pos, c_type: Option<CType>) -> Option<CType>
     requires { AllStand Stands checker.old.table c_type }
-    ensures { Finds IsType (with_known (each_in type_in checker.old.table c_type) (outside_rule (scope_of checker.old) here)) checker.old checker.new result }
+    ensures { OfType IsType (outside_rule (scope_of checker.old) here) c_type checker.old checker.new result }
 {
     let c_type = c_type?;
     let is_known = is_function(checker, c_type) || checker.is_complete(c_type);
@@ -167,16 +163,14 @@ fn as_outside(checker: &mut Checker, here: Pos, c_type: Option<CType>) -> Option
     Some(c_type)
 }
 
-/// The type of a name that has a body: a function.
+/// The type of a name that has a body: a function. One that isn't keeps its type for the other rules of its declaration.
 fn as_function(checker: &mut Checker, here: Pos, c_type: Option<CType>) -> Option<CType>
     requires { AllStand Stands checker.old.table c_type }
-    ensures { Finds IsType (with_known (each_in type_in checker.old.table c_type) (body_rule here)) checker.old checker.new result }
+    ensures { OfType IsType (body_rule here) c_type checker.old checker.new result }
 {
     let c_type = c_type?;
     let is_function = is_function(checker, c_type);
-    if !checker.require(is_function, TypeRule::T05, here) {
-        return None;
-    }
+    checker.require(is_function, TypeRule::T05, here);
     Some(c_type)
 }
 
@@ -199,7 +193,7 @@ fn declare_outside(
     has_body: bool,
 ) -> Result<(), AllocError>
     requires { AllStand Stands pass.old.checker.table c_type }
-    ensures { OnOk result (Covers (rules.declare_outside (name_tree name.now) (each_in type_in pass.old.checker.table c_type) has_init has_body (scope_of pass.old.checker)).found [] (rules.declare_outside (name_tree name.now) (each_in type_in pass.old.checker.table c_type) has_init has_body (scope_of pass.old.checker)).scope pass.old pass.new) }
+    ensures { OnOk result (CoversOutside (name_tree name.now) c_type has_init has_body pass.old pass.new) }
 {
     let bytes = name.bytes.as_slice();
     let is_free = library_function(bytes).is_none();
@@ -217,9 +211,9 @@ fn declare_outside(
 /// What is known of a name from its declarations so far and this one, which has to agree with them.
 fn note_again(pass: &mut Pass, name: &Name, entry: FileEntry) -> FileEntry
     requires { KnownStands pass.old.checker.table entry.c_type }
-    ensures covers { Covers (rules.again_clash name.now.place (file_name (scope_of pass.old.checker).file name.now.bytes) (row_of pass.old.checker.table name.now.bytes entry)) [] (scope_of pass.old.checker) pass.old pass.new }
+    ensures covers { CoversAgain (name_tree name.now) entry pass.old pass.new }
     ensures stands { KnownStands pass.new.checker.table result.c_type }
-    ensures joined { row_of pass.new.checker.table name.now.bytes result ≡ rules.joined_name (file_name (scope_of pass.old.checker).file name.now.bytes) (row_of pass.old.checker.table name.now.bytes entry) }
+    ensures joined { IsJoined name.now.bytes entry pass.old pass.new result }
 {
     let Some(old) = pass.checker.file_entry(name.bytes.as_slice()) else {
         return entry;
@@ -232,7 +226,7 @@ fn note_again(pass: &mut Pass, name: &Name, entry: FileEntry) -> FileEntry
 /// The type of `main`, where it is that (C17 5.1.2.2.1).
 fn note_main(pass: &mut Pass, name: &Name, c_type: Option<CType>) -> Result<(), AllocError>
     requires { AllStand Stands pass.old.checker.table c_type }
-    ensures { OnOk result (Covers (rules.main_clash (name_tree name.now) (each_in type_in pass.old.checker.table c_type)) [] (scope_of pass.old.checker) pass.old pass.new) }
+    ensures { OnOk result (CoversMain (name_tree name.now) c_type pass.old pass.new) }
 {
     if name.bytes.as_slice() == b"main".as_slice() {
         let is_main = is_main_type(pass, c_type)?;
@@ -244,7 +238,7 @@ fn note_main(pass: &mut Pass, name: &Name, c_type: Option<CType>) -> Result<(), 
 /// Whether it is `int (void)`, where it is known.
 fn is_main_type(pass: &mut Pass, c_type: Option<CType>) -> Result<bool, AllocError>
     requires { AllStand Stands pass.old.checker.table c_type }
-    ensures { IfOk result (Makes IsSame [] (rules.is_main_type (each_in type_in pass.old.checker.table c_type)) [] (scope_of pass.old.checker) pass.old pass.new) }
+    ensures { IfOk result (MakesMain c_type pass.old pass.new) }
 {
     let Some(c_type) = c_type else {
         return Ok(true);
@@ -286,7 +280,7 @@ fn first_values(
     init: &Option<Init>,
 ) -> Result<Vec<typed::First>, AllocError>
     requires { AllStand Stands pass.old.checker.table c_type }
-    ensures { IfOk result (Makes IsFirst (rules.first_rules (scope_of pass.old.checker) (each_in type_in pass.old.checker.table c_type) (option_map init_tree init.now)) (elaborated.first_held (scope_of pass.old.checker) (each_in type_in pass.old.checker.table c_type) (option_map init_tree init.now)) (named_in_first (scope_of pass.old.checker) (option_map init_tree init.now)) (scope_of pass.old.checker) pass.old pass.new) }
+    ensures { IfOk result (MakesFirst c_type (option_map init_tree init.now) pass.old pass.new) }
 {
     let mut target = Target {
         parts: Vec::new(pass.alloc()),

@@ -1,14 +1,13 @@
 // The parameters of a function, as its first locals (C17 6.9.1).
 
-ghost use Rattle.std.specs.Prelude.{◌≡◌, [], IfOk, OnOk, length};
-ghost use Rattle.c_syntax.specs.declared.expr.Parameter.{out-Parameter};
-ghost use Rattle.c_syntax.specs.Views.{declarator_tree, suffixes_of, parameters_of, words_tree, optional_of};
+ghost use Rattle.std.specs.Prelude.{◌≡◌, IfOk, OnOk, length};
+ghost use Rattle.c_syntax.specs.Views.{declarator_tree, suffixes_of, parameters_of};
 ghost use Rattle.c_rules.specs.Expressions as expressions;
 ghost use Rattle.c_rules.specs.Programs as rules;
-ghost use Rattle.c_rules.specs.Names.{Scope, in_function};
+ghost use Rattle.c_rules.specs.Names.{in_function};
 ghost use Rattle.c_types_state.specs.NameTables.{scope_of};
-ghost use Rattle.c_types.specs.Made.{Covers, Makes, IsOptionalType};
-ghost use Rattle.c_types.specs.Outside.{IsOutside, local_type, local_types, AreTypes, AllKnown};
+ghost use Rattle.c_types.specs.Outside.{IsOutside, AllKnown};
+ghost use Rattle.c_types.specs.Checked.{CoversEntered, MakesTypes, MakesParameter, DeclaresParameters};
 
 use c_rules::TypeRule;
 use c_syntax::{Declarator, Direct, Parameter, Suffix};
@@ -52,7 +51,7 @@ fn first_parameters(suffixes: &[Suffix]) -> &[Parameter]
 /// that of the function's type. The number that it returns is for leaving the function.
 pub(crate) fn enter_function(pass: &mut Pass, declarator: &Declarator) -> Result<usize, AllocError>
     requires { IsOutside (scope_of pass.old.checker) }
-    ensures covers { OnOk result (Covers (rules.entered_function (scope_of pass.old.checker) (rules.own_parameters (declarator_tree declarator.now))).found [] (rules.entered_function (scope_of pass.old.checker) (rules.own_parameters (declarator_tree declarator.now))).scope pass.old pass.new) }
+    ensures covers { OnOk result (CoversEntered (rules.own_parameters (declarator_tree declarator.now)) pass.old pass.new) }
     ensures outer { IfOk result (λ outer. outer ≡ 0) }
 {
     let parameters = own_parameters(declarator);
@@ -70,7 +69,7 @@ fn parameter_locals(
     pass: &mut Pass,
     parameters: &[Parameter],
 ) -> Result<Vec<Option<CType>>, AllocError>
-    ensures made { IfOk result (Makes (λ table types. AreTypes table types.items) [] (local_types (scope_of pass.old.checker) (parameters_of parameters.now)) [] (scope_of pass.old.checker) pass.old pass.new) }
+    ensures made { IfOk result (MakesTypes (parameters_of parameters.now) pass.old pass.new) }
     ensures length { IfOk result (λ types. length types.items ≡ length parameters.now) }
 {
     let mut types = Vec::new(pass.alloc());
@@ -82,7 +81,7 @@ fn parameter_locals(
 
 /// The type of a parameter with a name, adjusted.
 fn parameter_local(pass: &mut Pass, parameter: &Parameter) -> Result<Option<CType>, AllocError>
-    ensures { IfOk result (Makes IsOptionalType [] (local_type (scope_of pass.old.checker) (words_tree (out-Parameter parameter.now).simple) (optional_of (out-Parameter parameter.now).declarator) (expressions.optional_name (optional_of (out-Parameter parameter.now).declarator))) [] (scope_of pass.old.checker) pass.old pass.new) }
+    ensures { IfOk result (MakesParameter parameter.now pass.old pass.new) }
 {
     let Some(name) = optional_name(&parameter.declarator) else {
         return Ok(None);
@@ -112,7 +111,7 @@ fn declare_parameters(
 ) -> Result<(), AllocError>
     requires length { length types.now ≡ length parameters.now }
     requires stand { AllKnown pass.old.checker.table types.now }
-    ensures { OnOk result ((outside : Scope) → AreTypes pass.old.checker.table types.now (local_types outside (parameters_of parameters.now)) → Covers (rules.enter_parameters outside (parameters_of parameters.now) (scope_of pass.old.checker)).found [] (rules.enter_parameters outside (parameters_of parameters.now) (scope_of pass.old.checker)).scope pass.old pass.new) }
+    ensures { OnOk result (DeclaresParameters (parameters_of parameters.now) types.now pass.old pass.new) }
 {
     for index in 0..parameters.len() {
         let parameter = &parameters[index];

@@ -5,6 +5,8 @@ ghost use Rattle.c_syntax.specs.Views.{program_tree};
 ghost use Rattle.c_typed.specs.DefinitionViews.{program_of, ProgramStands};
 ghost use Rattle.c_rules.specs.Programs as rules;
 ghost use Rattle.c_rules.specs.Elaborated as elaborated;
+ghost use Rattle.c_well_typed.specs.Programs.{IsWellTyped};
+ghost use Rattle.c_types.specs.Literals.{LiteralsApart};
 ghost use Rattle.c_types_expressions.specs.Passes.{named_type, AllNamedStand};
 ghost use Rattle.c_types.specs.NamedItems.{named_types};
 
@@ -48,12 +50,12 @@ impl From<AllocError> for TypeErr {
 pub fn check(alloc: Global, program: &Program) -> Result<Typed, TypeErr>
     ensures accepted { IfOk result (λ typed. rules.violations (program_tree program.now) ≡ []) }
     ensures typed { IfOk result (λ typed. program_of typed.program ≡ elaborated.typed_of (program_tree program.now)) }
+    ensures well_typed { IfOk result (λ typed. LiteralsApart (program_tree program.now) → IsWellTyped (program_of typed.program)) }
     ensures named { IfOk result (λ typed. map (named_type typed.program.types) typed.named.items ≡ named_types (program_tree program.now)) }
     ensures stands { IfOk result (λ typed. ProgramStands typed.program × AllNamedStand typed.program.types typed.named.items) }
     ensures refused { (violation : Violation) → result ≡ Err (TypeErr.Rule violation) → rules.refusal (program_tree program.now) ≡ Some violation }
 {
     let completed = completed_by(alloc, program)?;
-    let literals = literals_of(alloc, program)?;
     let mut pass = Pass::new(alloc);
     outermost(&mut pass.checker, program)?;
     let mut defined = Defined::new(alloc);
@@ -67,9 +69,11 @@ pub fn check(alloc: Global, program: &Program) -> Result<Typed, TypeErr>
     }
     let Pass { checker, named } = pass;
     let Defined { globals, functions } = defined;
+    let mut types = checker.into_types();
+    let literals = literals_of(alloc, &mut types, program)?;
     Ok(Typed {
         program: typed::Program {
-            types: checker.into_types(),
+            types,
             completed,
             globals: globals.into_vec(),
             literals,

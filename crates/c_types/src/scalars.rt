@@ -1,21 +1,19 @@
 // First values of scalars outside functions, which are constant (C17 6.7.9 paragraph 4).
 
-ghost use Rattle.std.specs.Prelude.{◌≡◌, ◌++◌, nat_le, [], Some, OnOk, length as count};
-ghost use Rattle.c_syntax.specs.Trees as Trees;
+ghost use Rattle.std.specs.Prelude.{◌≡◌, nat_le, [], OnOk, length as count};
 ghost use Rattle.c_syntax.specs.Views.{expr_tree};
 ghost use Rattle.c_typed.specs.Types as T;
 ghost use Rattle.c_typed.specs.Table.{Stands, type_in};
 ghost use Rattle.c_typed.specs.DefinitionViews.{scalar_of};
 ghost use Rattle.c_rules.specs.declared.rule.TypeRule.TheVariants as R;
-ghost use Rattle.c_rules.specs.Known.{unless, at};
+ghost use Rattle.c_rules.specs.Known.{unless};
 ghost use Rattle.c_rules.specs.Initializers as rules;
 ghost use Rattle.c_rules.specs.Elaborated as elaborated;
 ghost use Rattle.c_types_state.specs.Finding.{noted};
 ghost use Rattle.c_types_state.specs.NameTables.{scope_of};
-ghost use Rattle.c_types_operands.specs.Operands.{OperandStands, operand_in};
-ghost use Rattle.c_types_expressions.specs.Named.{named_in};
+ghost use Rattle.c_types_operands.specs.Operands.{OperandStands};
 ghost use Rattle.c_types.specs.Made.{Covers};
-ghost use Rattle.c_types.specs.FirstValues.{HoldsFirst, scalar_found};
+ghost use Rattle.c_types.specs.Checked.{CoversExpr, HoldsExpr, CoversRefused, HoldsText, CoversScalar, HoldsScalar, NotesPointer, first_pointer};
 
 use crate::initializers::Target;
 use crate::values::value;
@@ -38,8 +36,8 @@ pub(crate) fn value_first(
     tree: &Expr,
 ) -> Result<(), AllocError>
     requires { Stands pass.old.checker.table c_type }
-    ensures found { OnOk result (Covers (rules.value_first (scope_of pass.old.checker) (type_in pass.old.checker.table c_type) (expr_tree tree.now)) (named_in (scope_of pass.old.checker) (expr_tree tree.now)) (scope_of pass.old.checker) pass.old pass.new) }
-    ensures held { OnOk result (HoldsFirst (elaborated.value_held (scope_of pass.old.checker) target.old.parts.items index (type_in pass.old.checker.table c_type) (expr_tree tree.now)) target.old target.new) }
+    ensures found { OnOk result (CoversExpr (type_in pass.old.checker.table c_type) (expr_tree tree.now) pass.old pass.new) }
+    ensures held { OnOk result (HoldsExpr pass.old index (type_in pass.old.checker.table c_type) (expr_tree tree.now) target.old target.new) }
 {
     match pass.checker.shape(c_type) {
         Shape::Array { element, length } => array_first(pass, target, index, element, length, tree),
@@ -65,8 +63,8 @@ fn array_first(
     tree: &Expr,
 ) -> Result<(), AllocError>
     requires { Stands pass.old.checker.table element }
-    ensures found { OnOk result (Covers (rules.value_first (scope_of pass.old.checker) (T.Array (type_in pass.old.checker.table element) length) (expr_tree tree.now)) (named_in (scope_of pass.old.checker) (expr_tree tree.now)) (scope_of pass.old.checker) pass.old pass.new) }
-    ensures held { OnOk result (HoldsFirst (elaborated.value_held (scope_of pass.old.checker) target.old.parts.items index (T.Array (type_in pass.old.checker.table element) length) (expr_tree tree.now)) target.old target.new) }
+    ensures found { OnOk result (CoversExpr (T.Array (type_in pass.old.checker.table element) length) (expr_tree tree.now) pass.old pass.new) }
+    ensures held { OnOk result (HoldsExpr pass.old index (T.Array (type_in pass.old.checker.table element) length) (expr_tree tree.now) target.old target.new) }
 {
     match tree {
         Expr::Literal { bytes, place } => {
@@ -82,7 +80,7 @@ fn array_first(
 
 /// An expression as the first value of what no expression initializes.
 fn refused_first(pass: &mut Pass, kind: TypeRule, tree: &Expr) -> Result<(), AllocError>
-    ensures { OnOk result (Covers (rules.value_found (scope_of pass.old.checker) (expr_tree tree.now) ++ at kind (rules.init_place (Trees.InitValue (expr_tree tree.now)))) (named_in (scope_of pass.old.checker) (expr_tree tree.now)) (scope_of pass.old.checker) pass.old pass.new) }
+    ensures { OnOk result (CoversRefused kind (expr_tree tree.now) pass.old pass.new) }
 {
     let place = place_of(tree);
     drop(value(pass, tree)?);
@@ -102,7 +100,7 @@ pub(crate) fn text_first(
 ) -> Result<(), AllocError>
     requires { Stands pass.old.checker.table element }
     ensures found { OnOk result (Covers (unless (nat_le (count bytes.now) length) R.T18 place) [] (scope_of pass.old.checker) pass.old pass.new) }
-    ensures held { OnOk result (HoldsFirst (elaborated.text_held target.old.parts.items index (type_in pass.old.checker.table element) length bytes.now) target.old target.new) }
+    ensures held { OnOk result (HoldsText pass.old index element length bytes.now target.old target.new) }
 {
     let bytes = bytes.as_slice();
     let has_room = bytes.len() as u64 <= length;
@@ -140,8 +138,8 @@ fn scalar_first(
 ) -> Result<(), AllocError>
     requires c_type { Stands pass.old.checker.table c_type }
     requires operand { OperandStands pass.old.checker.table operand }
-    ensures found { OnOk result (Covers (scalar_found (scope_of pass.old.checker) place (type_in pass.old.checker.table c_type) (operand_in pass.old.checker.table operand)) [] (scope_of pass.old.checker) pass.old pass.new) }
-    ensures held { OnOk result (HoldsFirst (elaborated.scalar_held (scope_of pass.old.checker) target.old.parts.items index (type_in pass.old.checker.table c_type) (Some (operand_in pass.old.checker.table operand))) target.old target.new) }
+    ensures found { OnOk result (CoversScalar place c_type operand pass.old pass.new) }
+    ensures held { OnOk result (HoldsScalar pass.old index c_type operand target.old target.new) }
 {
     let fits = fits(&pass.checker, c_type, &operand);
     if !pass.checker.require(fits, TypeRule::T10, place) {
@@ -187,8 +185,8 @@ fn integer_first(
 fn pointer_first(checker: &mut Checker, place: Pos, pointed: CType, operand: Operand) -> Scalar
     requires pointed { Stands checker.old.table pointed }
     requires operand { OperandStands checker.old.table operand }
-    ensures found { checker.new ≡ record checker.old { least = noted checker.old.least (rules.known_first (scope_of checker.old) place (T.Pointer (type_in checker.old.table pointed)) (operand_in checker.old.table operand)) } }
-    ensures value { scalar_of result ≡ elaborated.scalar_of (scope_of checker.old) (T.Pointer (type_in checker.old.table pointed)) (operand_in checker.old.table operand) }
+    ensures found { NotesPointer place pointed operand checker.old checker.new }
+    ensures value { scalar_of result ≡ first_pointer checker.old pointed operand }
 {
     if operand.is_null {
         return Scalar::Null;

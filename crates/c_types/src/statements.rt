@@ -1,17 +1,14 @@
 // Statements and blocks (C17 6.8).
 
-ghost use Rattle.std.specs.Prelude.{◌≡◌, [], false, true, IfOk, OnOk};
+ghost use Rattle.std.specs.Prelude.{◌≡◌, true, IfOk, OnOk};
 ghost use Rattle.text_place.specs.declared.place.Pos.{Pos};
 ghost use Rattle.c_syntax.specs.Trees as Trees;
-ghost use Rattle.c_syntax.specs.Views.{stmt_tree, value_tree, for_tree, block_of, switch_of};
-ghost use Rattle.c_typed.specs.Table.{Stands, type_in};
-ghost use Rattle.c_rules.specs.Statements as rules;
-ghost use Rattle.c_rules.specs.Elaborated as elaborated;
-ghost use Rattle.c_types_state.specs.Finding.{AllStand, each_in};
+ghost use Rattle.c_syntax.specs.Views.{stmt_tree, for_tree, block_of, switch_of};
+ghost use Rattle.c_typed.specs.Table.{Stands};
+ghost use Rattle.c_types_state.specs.Finding.{AllStand};
 ghost use Rattle.c_types_state.specs.NameTables.{scope_of};
-ghost use Rattle.c_types.specs.NamedItems.{named_in_stmt, named_in_start, named_in_block, named_in_switch};
-ghost use Rattle.c_types.specs.Made.{Covers, Makes, IsStmt, IsStart, IsBlock, IsSwitchItems, AddsItems};
-ghost use Rattle.c_types.specs.Parts.{around_in, behind_block, item_found, item_named, item_adds, item_scope, part_found, part_named, part_labels, part_default, part_adds, IsPart, SameLabels};
+ghost use Rattle.c_types.specs.Parts.{part_labels, part_default, SameLabels};
+ghost use Rattle.c_types.specs.Checked.{MakesStmt, MakesFor, MakesStart, MakesBlock, CoversItem, AddsItem, MakesSwitch, MakesPart};
 
 use crate::declarations::{block_declaration, declaration_locals};
 use crate::labels::{Labels, converted_label};
@@ -68,7 +65,7 @@ fn boxed(alloc: Global, stmt: typed::Stmt) -> Result<Box<typed::Stmt>, AllocErro
 #[cycle(stmt)]
 fn statement(pass: &mut Pass, around: Around, stmt: &Stmt) -> Result<Box<typed::Stmt>, AllocError>
     requires { AllStand Stands pass.old.checker.table around.returned }
-    ensures { IfOk result (λ made. Makes IsStmt (rules.stmt (scope_of pass.old.checker) (around_in pass.old.checker.table around) (stmt_tree stmt.now)) (elaborated.stmt_of (scope_of pass.old.checker) (each_in type_in pass.old.checker.table around.returned) (stmt_tree stmt.now)) (named_in_stmt (scope_of pass.old.checker) (stmt_tree stmt.now)) (scope_of pass.old.checker) pass.old pass.new made.value) }
+    ensures { IfOk result (λ made. MakesStmt around (stmt_tree stmt.now) pass.old pass.new made.value) }
 {
     let alloc = pass.alloc();
     match stmt {
@@ -165,7 +162,7 @@ fn block_stmt(
     items: &[BlockItem],
 ) -> Result<Box<typed::Stmt>, AllocError>
     requires { AllStand Stands pass.old.checker.table around.returned }
-    ensures { IfOk result (λ made. (place : Pos) → Makes IsStmt (rules.stmt (scope_of pass.old.checker) (around_in pass.old.checker.table around) (Trees.BlockStmt place (block_of items.now))) (elaborated.stmt_of (scope_of pass.old.checker) (each_in type_in pass.old.checker.table around.returned) (Trees.BlockStmt place (block_of items.now))) (named_in_stmt (scope_of pass.old.checker) (Trees.BlockStmt place (block_of items.now))) (scope_of pass.old.checker) pass.old pass.new made.value) }
+    ensures { IfOk result (λ made. (place : Pos) → MakesStmt around (Trees.BlockStmt place (block_of items.now)) pass.old pass.new made.value) }
 {
     let outer = pass.checker.enter();
     let items = block_items(pass, around, items)?;
@@ -184,7 +181,7 @@ fn for_stmt(
     body: &Stmt,
 ) -> Result<Box<typed::Stmt>, AllocError>
     requires { AllStand Stands pass.old.checker.table around.returned }
-    ensures { IfOk result (λ made. (place : Pos) → Makes IsStmt (rules.stmt (scope_of pass.old.checker) (around_in pass.old.checker.table around) (Trees.For place (for_tree first.now) (value_tree condition.now) (value_tree step.now) (stmt_tree body.now))) (elaborated.stmt_of (scope_of pass.old.checker) (each_in type_in pass.old.checker.table around.returned) (Trees.For place (for_tree first.now) (value_tree condition.now) (value_tree step.now) (stmt_tree body.now))) (named_in_stmt (scope_of pass.old.checker) (Trees.For place (for_tree first.now) (value_tree condition.now) (value_tree step.now) (stmt_tree body.now))) (scope_of pass.old.checker) pass.old pass.new made.value) }
+    ensures { IfOk result (λ made. MakesFor around first.now condition.now step.now body.now pass.old pass.new made.value) }
 {
     let outer = pass.checker.enter();
     let start = for_start(pass, first)?;
@@ -206,7 +203,7 @@ fn for_stmt(
 
 /// What a `for` begins with (C17 6.8.5.3).
 fn for_start(pass: &mut Pass, first: &ForFirst) -> Result<Box<typed::ForStart>, AllocError>
-    ensures { IfOk result (λ made. Makes IsStart (rules.for_start (scope_of pass.old.checker) (for_tree first.now)).found (elaborated.start_of (scope_of pass.old.checker) (for_tree first.now)) (named_in_start (scope_of pass.old.checker) (for_tree first.now)) (rules.for_start (scope_of pass.old.checker) (for_tree first.now)).scope pass.old pass.new made.value) }
+    ensures { IfOk result (λ made. MakesStart (for_tree first.now) pass.old pass.new made.value) }
 {
     let alloc = pass.alloc();
     match first {
@@ -231,7 +228,7 @@ pub(crate) fn block_items(
     items: &[BlockItem],
 ) -> Result<Vec<typed::BlockItem>, AllocError>
     requires { AllStand Stands pass.old.checker.table around.returned }
-    ensures { IfOk result (Makes IsBlock (rules.block (scope_of pass.old.checker) (around_in pass.old.checker.table around) (block_of items.now)) (elaborated.block_of (scope_of pass.old.checker) (each_in type_in pass.old.checker.table around.returned) (block_of items.now)) (named_in_block (scope_of pass.old.checker) (block_of items.now)) (behind_block (scope_of pass.old.checker) (block_of items.now)) pass.old pass.new) }
+    ensures { IfOk result (MakesBlock around (block_of items.now) pass.old pass.new) }
 {
     let mut made = Vec::new(pass.alloc());
     for item in items {
@@ -249,8 +246,8 @@ fn block_item(
     made: &mut Vec<typed::BlockItem>,
 ) -> Result<(), AllocError>
     requires { AllStand Stands pass.old.checker.table around.returned }
-    ensures covers { OnOk result (Covers (item_found (scope_of pass.old.checker) (around_in pass.old.checker.table around) item.now) (item_named (scope_of pass.old.checker) item.now) (item_scope (scope_of pass.old.checker) item.now) pass.old pass.new) }
-    ensures made { OnOk result (AddsItems (item_adds (scope_of pass.old.checker) (each_in type_in pass.old.checker.table around.returned) item.now) pass.new.checker.table made.old.items made.new.items) }
+    ensures covers { OnOk result (CoversItem around item.now pass.old pass.new) }
+    ensures made { OnOk result (AddsItem around item.now pass.old pass.new made.old.items made.new.items) }
 {
     match item {
         BlockItem::Declaration(declaration) => block_declaration(pass, declaration, made),
@@ -271,7 +268,7 @@ fn switch_items(
     items: &[SwitchItem],
 ) -> Result<Vec<typed::SwitchItem>, AllocError>
     requires { AllStand Stands pass.old.checker.table around.returned }
-    ensures { IfOk result (Makes IsSwitchItems (rules.switch_items (scope_of pass.old.checker) (around_in pass.old.checker.table around) int_type [] false (switch_of items.now)) (elaborated.switch_of (scope_of pass.old.checker) (each_in type_in pass.old.checker.table around.returned) int_type (switch_of items.now)) (named_in_switch (scope_of pass.old.checker) (switch_of items.now)) (scope_of pass.old.checker) pass.old pass.new) }
+    ensures { IfOk result (MakesSwitch around int_type (switch_of items.now) pass.old pass.new) }
 {
     let mut labels = Labels::new(pass.alloc());
     let mut made = Vec::new(pass.alloc());
@@ -292,7 +289,7 @@ fn switch_item(
     item: &SwitchItem,
 ) -> Result<typed::SwitchItem, AllocError>
     requires { AllStand Stands pass.old.checker.table around.returned }
-    ensures made { IfOk result (Makes IsPart (part_found (scope_of pass.old.checker) (around_in pass.old.checker.table around) int_type labels.old.values.keys labels.old.has_default item.now) (part_adds (scope_of pass.old.checker) (each_in type_in pass.old.checker.table around.returned) int_type item.now) (part_named (scope_of pass.old.checker) item.now) (scope_of pass.old.checker) pass.old pass.new) }
+    ensures made { IfOk result (MakesPart around int_type labels.old item.now pass.old pass.new) }
     ensures labels { OnOk result (SameLabels labels.new.values.keys (part_labels (scope_of pass.old.checker) int_type item.now labels.old.values.keys)) }
     ensures has_default { OnOk result (labels.new.has_default ≡ part_default item.now labels.old.has_default) }
 {

@@ -1,18 +1,15 @@
 // Structures (C17 6.7.2.1).
 
-ghost use Rattle.std.specs.Prelude.{◌≡◌, [], Some, IfOk, OnOk, map};
+ghost use Rattle.std.specs.Prelude.{◌≡◌, [], IfOk, OnOk, map};
 ghost use Rattle.text_place.specs.declared.place.Pos.{Pos};
 ghost use Rattle.c_syntax.specs.Trees as Trees;
-ghost use Rattle.c_syntax.specs.Views.{name_tree, base_tree, member_tree, declarator_tree};
+ghost use Rattle.c_syntax.specs.Views.{name_tree, base_tree, member_tree};
 ghost use Rattle.c_typed.specs.Types as T;
 ghost use Rattle.c_typed.specs.Kept.{IsObject};
-ghost use Rattle.c_typed.specs.Table.{Stands, type_in};
-ghost use Rattle.c_rules.specs.Programs as rules;
-ghost use Rattle.c_types_state.specs.Finding.{AllStand, IsType, each_in};
-ghost use Rattle.c_types_state.specs.NameTables.{scope_of};
-ghost use Rattle.c_types.specs.NamedItems.{named_in_base, named_in_members, named_in_all_members};
-ghost use Rattle.c_types.specs.Made.{Covers, Makes, Reaches, IsOptionalType, IsMembers};
-ghost use Rattle.c_types.specs.Outside.{defs_in, AreHeld};
+ghost use Rattle.c_typed.specs.Table.{Stands};
+ghost use Rattle.c_types_state.specs.Finding.{AllStand, IsType};
+ghost use Rattle.c_types.specs.Outside.{AreHeld};
+ghost use Rattle.c_types.specs.Checked.{ReachesBase, IsBase, MakesMembers, CoversMembers, AddsMembers, CoversMember, AddsMember};
 
 use crate::declarations::as_object;
 use c_rules::TypeRule;
@@ -25,8 +22,8 @@ use std::alloc::{AllocError, Global};
 
 /// The type that an item's words name, where they may complete a structure.
 pub(crate) fn base_type(pass: &mut Pass, base: &Base) -> Result<Option<CType>, AllocError>
-    ensures reaches { OnOk result (Reaches (rules.base_type (scope_of pass.old.checker) (base_tree base.now)).type_of.found (named_in_base (scope_of pass.old.checker) (base_tree base.now)) (rules.base_type (scope_of pass.old.checker) (base_tree base.now)).scope pass.old pass.new) }
-    ensures made { IfOk result (λ made. IsOptionalType pass.new.checker.table made (rules.base_type (scope_of pass.old.checker) (base_tree base.now)).type_of.known) }
+    ensures reaches { OnOk result (ReachesBase (base_tree base.now) pass.old pass.new) }
+    ensures made { IfOk result (IsBase (base_tree base.now) pass.old pass.new) }
 {
     match base {
         Base::Simple(simple) => words_type(&mut pass.checker, simple),
@@ -38,7 +35,7 @@ pub(crate) fn base_type(pass: &mut Pass, base: &Base) -> Result<Option<CType>, A
 
 /// A structure with its members: it is completed once.
 fn structure(pass: &mut Pass, name: &Name, members: &[Member]) -> Result<CType, AllocError>
-    ensures reaches { OnOk result ((place : Pos) → Reaches (rules.base_type (scope_of pass.old.checker) (Trees.StructBody place (name_tree name.now) (map member_tree members.now))).type_of.found (named_in_base (scope_of pass.old.checker) (Trees.StructBody place (name_tree name.now) (map member_tree members.now))) (rules.base_type (scope_of pass.old.checker) (Trees.StructBody place (name_tree name.now) (map member_tree members.now))).scope pass.old pass.new) }
+    ensures reaches { OnOk result ((place : Pos) → ReachesBase (Trees.StructBody place (name_tree name.now) (map member_tree members.now)) pass.old pass.new) }
     ensures made { IfOk result (λ made. IsType pass.new.checker.table made (T.Struct name.now.bytes)) }
 {
     let c_type = pass.checker.struct_type(name.bytes.as_slice())?;
@@ -72,7 +69,7 @@ impl Members {
 }
 
 fn all_members(pass: &mut Pass, trees: &[Member]) -> Result<Vec<typed::Member>, AllocError>
-    ensures { IfOk result (Makes IsMembers (rules.all_members (scope_of pass.old.checker) (map member_tree trees.now) []).found (rules.all_members (scope_of pass.old.checker) (map member_tree trees.now) []).members (named_in_all_members (scope_of pass.old.checker) (map member_tree trees.now)) (scope_of pass.old.checker) pass.old pass.new) }
+    ensures { IfOk result (MakesMembers (map member_tree trees.now) pass.old pass.new) }
 {
     let mut members = Members::new(pass.alloc());
     for tree in trees {
@@ -91,9 +88,9 @@ fn declared_members(
 ) -> Result<(), AllocError>
     requires base { AllStand Stands pass.old.checker.table base }
     requires held { AreHeld pass.old.checker.table members.old }
-    ensures covers { OnOk result (Covers (rules.declared_members (scope_of pass.old.checker) tree.now.simple.place (each_in type_in pass.old.checker.table base) (map declarator_tree tree.now.declarators.items) (defs_in pass.old.checker.table members.old)).found (named_in_members (scope_of pass.old.checker) tree.now.simple.place (each_in type_in pass.old.checker.table base) (map declarator_tree tree.now.declarators.items)) (scope_of pass.old.checker) pass.old pass.new) }
+    ensures covers { OnOk result (CoversMembers tree.now base members.old pass.old pass.new) }
     ensures held { OnOk result (AreHeld pass.new.checker.table members.new) }
-    ensures members { OnOk result (defs_in pass.new.checker.table members.new ≡ (rules.declared_members (scope_of pass.old.checker) tree.now.simple.place (each_in type_in pass.old.checker.table base) (map declarator_tree tree.now.declarators.items) (defs_in pass.old.checker.table members.old)).members) }
+    ensures members { OnOk result (AddsMembers tree.now base members.old members.new pass.old pass.new) }
 {
     for declarator in tree.declarators.as_slice() {
         let name = declared_name(declarator);
@@ -117,9 +114,9 @@ fn add_member(
 ) -> Result<(), AllocError>
     requires c_type { AllStand IsObject pass.old.checker.table c_type }
     requires held { AreHeld pass.old.checker.table members.old }
-    ensures covers { OnOk result (Covers (rules.member_clash (defs_in pass.old.checker.table members.old) (Some (name_tree name.now))) [] (scope_of pass.old.checker) pass.old pass.new) }
+    ensures covers { OnOk result (CoversMember (name_tree name.now) members.old pass.old pass.new) }
     ensures held { OnOk result (AreHeld pass.new.checker.table members.new) }
-    ensures members { OnOk result (defs_in pass.new.checker.table members.new ≡ rules.with_member (Some (name_tree name.now)) (each_in type_in pass.old.checker.table c_type) (defs_in pass.old.checker.table members.old)) }
+    ensures members { OnOk result (AddsMember (name_tree name.now) c_type members.old members.new pass.old pass.new) }
 {
     let alloc = pass.alloc();
     let bytes = name.bytes.as_slice();

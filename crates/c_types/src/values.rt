@@ -1,23 +1,14 @@
 // Expressions in statements and declarations: their values are used, dropped, tested, or converted.
 
-ghost use Rattle.std.specs.Prelude.{◌≡◌, IfOk, Some, option_map};
+ghost use Rattle.std.specs.Prelude.{◌≡◌, IfOk, option_map};
 ghost use Rattle.c_syntax.specs.Views.{expr_tree, value_tree};
-ghost use Rattle.c_typed.specs.Table.{Interned, Stands, type_in};
+ghost use Rattle.c_typed.specs.Table.{Interned, Stands};
 ghost use Rattle.c_typed.specs.Views.{value_in, ValueStands};
-ghost use Rattle.c_rules.specs.Known.{as_value};
-ghost use Rattle.c_rules.specs.Operators.{as_integer};
-ghost use Rattle.c_rules.specs.Expressions as rules;
-ghost use Rattle.c_rules.specs.Statements as statements;
 ghost use Rattle.c_rules.specs.Elaborated as elaborated;
 ghost use Rattle.c_types_state.specs.Finding.{AllStand, each_in};
-ghost use Rattle.c_types_state.specs.NameTables.{scope_of};
-ghost use Rattle.c_types_state.specs.Staying.{IsValue, IsSame};
-ghost use Rattle.c_types_operands.specs.Operands.{IsOperand, OperandStands, operand_in};
-ghost use Rattle.c_types_expressions.specs.Named.{named_in};
-ghost use Rattle.c_types_expressions.specs.Passes.{Passes};
-ghost use Rattle.c_types.specs.NamedItems.{named_in_value};
-ghost use Rattle.c_types.specs.Made.{Makes, IsOptionalValue, IsBoth};
-ghost use Rattle.c_types.specs.Parts.{switched_type, switched_value};
+ghost use Rattle.c_types_operands.specs.Operands.{OperandStands, operand_in};
+ghost use Rattle.c_types.specs.Checked.{ChecksValue, ChecksConstant, MakesUnused, MakesOptionalUnused, MakesTest, MakesOptionalTest, MakesSwitched};
+ghost use Rattle.c_types.specs.Checked.{MakesReturn, MakesReturned, IsValueAs};
 
 use c_num::{IntType, promote};
 use c_rules::TypeRule;
@@ -54,7 +45,7 @@ pub(crate) fn unboxed(value: Option<Box<Value>>) -> Option<Value>
 
 /// An expression for its value.
 pub(crate) fn value(pass: &mut Pass, tree: &Expr) -> Result<Option<Operand>, AllocError>
-    ensures { IfOk result (Passes IsOperand (as_value (rules.place_of (expr_tree tree.now)) (rules.expr (scope_of pass.old.checker) (expr_tree tree.now))) (named_in (scope_of pass.old.checker) (expr_tree tree.now)) pass.old pass.new) }
+    ensures { IfOk result (ChecksValue (expr_tree tree.now) pass.old pass.new) }
 {
     let place = place_of(tree);
     let part = expr(pass, tree)?;
@@ -63,7 +54,7 @@ pub(crate) fn value(pass: &mut Pass, tree: &Expr) -> Result<Option<Operand>, All
 
 /// An expression whose value isn't used (C17 6.8.3 paragraph 2).
 pub(crate) fn unused(pass: &mut Pass, tree: &Expr) -> Result<Box<Value>, AllocError>
-    ensures { IfOk result (λ made. Makes IsValue (statements.value_rules (scope_of pass.old.checker) (expr_tree tree.now)) (elaborated.unused (scope_of pass.old.checker) (expr_tree tree.now)) (named_in (scope_of pass.old.checker) (expr_tree tree.now)) (scope_of pass.old.checker) pass.old pass.new made.value) }
+    ensures { IfOk result (λ made. MakesUnused (expr_tree tree.now) pass.old pass.new made.value) }
 {
     let operand = value(pass, tree)?;
     let mut value = value_or_null(pass.alloc(), operand)?;
@@ -75,7 +66,7 @@ pub(crate) fn optional_unused(
     pass: &mut Pass,
     tree: &Option<Expr>,
 ) -> Result<Option<Box<Value>>, AllocError>
-    ensures { IfOk result (λ made. Makes IsOptionalValue (statements.optional_rules (statements.value_rules (scope_of pass.old.checker)) (value_tree tree.now)) (elaborated.mapped (elaborated.unused (scope_of pass.old.checker)) (value_tree tree.now)) (named_in_value (scope_of pass.old.checker) (value_tree tree.now)) (scope_of pass.old.checker) pass.old pass.new (option_map (λ value. value.value) made)) }
+    ensures { IfOk result (λ made. MakesOptionalUnused (value_tree tree.now) pass.old pass.new (option_map (λ value. value.value) made)) }
 {
     match tree {
         Some(tree) => Ok(Some(unused(pass, tree)?)),
@@ -85,7 +76,7 @@ pub(crate) fn optional_unused(
 
 /// A condition (C17 6.8.4.1, 6.8.5).
 pub(crate) fn condition(pass: &mut Pass, tree: &Expr) -> Result<Box<Value>, AllocError>
-    ensures { IfOk result (λ made. Makes IsValue (statements.condition_rules (scope_of pass.old.checker) (expr_tree tree.now)) (elaborated.test_of (scope_of pass.old.checker) (expr_tree tree.now)) (named_in (scope_of pass.old.checker) (expr_tree tree.now)) (scope_of pass.old.checker) pass.old pass.new made.value) }
+    ensures { IfOk result (λ made. MakesTest (expr_tree tree.now) pass.old pass.new made.value) }
 {
     let place = place_of(tree);
     let part = expr(pass, tree)?;
@@ -99,7 +90,7 @@ pub(crate) fn optional_condition(
     pass: &mut Pass,
     tree: &Option<Expr>,
 ) -> Result<Option<Box<Value>>, AllocError>
-    ensures { IfOk result (λ made. Makes IsOptionalValue (statements.optional_rules (statements.condition_rules (scope_of pass.old.checker)) (value_tree tree.now)) (elaborated.mapped (elaborated.test_of (scope_of pass.old.checker)) (value_tree tree.now)) (named_in_value (scope_of pass.old.checker) (value_tree tree.now)) (scope_of pass.old.checker) pass.old pass.new (option_map (λ value. value.value) made)) }
+    ensures { IfOk result (λ made. MakesOptionalTest (value_tree tree.now) pass.old pass.new (option_map (λ value. value.value) made)) }
 {
     match tree {
         Some(tree) => Ok(Some(condition(pass, tree)?)),
@@ -112,7 +103,7 @@ pub(crate) fn switched(
     pass: &mut Pass,
     tree: &Expr,
 ) -> Result<(Box<Value>, Option<IntType>), AllocError>
-    ensures { IfOk result (λ made. Makes (IsBoth IsValue IsSame) (as_integer (rules.place_of (expr_tree tree.now)) (rules.expr (scope_of pass.old.checker) (expr_tree tree.now))).found (switched_value (scope_of pass.old.checker) (expr_tree tree.now), switched_type (scope_of pass.old.checker) (expr_tree tree.now)) (named_in (scope_of pass.old.checker) (expr_tree tree.now)) (scope_of pass.old.checker) pass.old pass.new (made.0.value, made.1)) }
+    ensures { IfOk result (λ made. MakesSwitched (expr_tree tree.now) pass.old pass.new (made.0.value, made.1)) }
 {
     let place = place_of(tree);
     let Some(operand) = value(pass, tree)? else {
@@ -140,7 +131,7 @@ pub(crate) fn returned(
     tree: &Option<Expr>,
 ) -> Result<Option<Box<Value>>, AllocError>
     requires { AllStand Stands pass.old.checker.table expected }
-    ensures { IfOk result (λ made. Makes IsOptionalValue (statements.return_rules (scope_of pass.old.checker) (each_in type_in pass.old.checker.table expected) place (value_tree tree.now)) (elaborated.mapped (elaborated.value_as (scope_of pass.old.checker) (each_in type_in pass.old.checker.table expected)) (value_tree tree.now)) (named_in_value (scope_of pass.old.checker) (value_tree tree.now)) (scope_of pass.old.checker) pass.old pass.new (option_map (λ value. value.value) made)) }
+    ensures { IfOk result (λ made. MakesReturn expected place (value_tree tree.now) pass.old pass.new (option_map (λ value. value.value) made)) }
 {
     match (expected, tree) {
         (None, Some(tree)) => {
@@ -165,7 +156,7 @@ fn returned_value(
     tree: &Expr,
 ) -> Result<Box<Value>, AllocError>
     requires { Stands pass.old.checker.table expected }
-    ensures { IfOk result (λ made. Makes IsValue (statements.returned place (type_in pass.old.checker.table expected) (as_value (rules.place_of (expr_tree tree.now)) (rules.expr (scope_of pass.old.checker) (expr_tree tree.now))) (rules.place_of (expr_tree tree.now))) (elaborated.value_as (scope_of pass.old.checker) (Some (type_in pass.old.checker.table expected)) (expr_tree tree.now)) (named_in (scope_of pass.old.checker) (expr_tree tree.now)) (scope_of pass.old.checker) pass.old pass.new made.value) }
+    ensures { IfOk result (λ made. MakesReturned expected place (expr_tree tree.now) pass.old pass.new made.value) }
 {
     let is_void = is_void(&pass.checker, expected);
     pass.checker.require(!is_void, TypeRule::T22, place);
@@ -189,7 +180,7 @@ pub(crate) fn value_as(
 ) -> Result<Box<Value>, AllocError>
     requires c_type { Stands checker.now.table c_type }
     requires operand { AllStand OperandStands checker.now.table operand }
-    ensures { IfOk result (λ value. IsValue checker.now.table value.value (elaborated.known_as place (type_in checker.now.table c_type) (each_in operand_in checker.now.table operand))) }
+    ensures { IfOk result (λ value. IsValueAs place c_type operand checker.now.table value.value) }
 {
     match operand {
         Some(operand) => converted(checker, place, c_type, operand),
@@ -199,7 +190,7 @@ pub(crate) fn value_as(
 
 /// An integer constant expression that has a value (C17 6.6 paragraph 6).
 pub(crate) fn constant_of(pass: &mut Pass, tree: &Expr) -> Result<Option<i128>, AllocError>
-    ensures { IfOk result (Passes IsSame (rules.as_constant (rules.place_of (expr_tree tree.now)) (rules.expr (scope_of pass.old.checker) (expr_tree tree.now))) (named_in (scope_of pass.old.checker) (expr_tree tree.now)) pass.old pass.new) }
+    ensures { IfOk result (ChecksConstant (expr_tree tree.now) pass.old pass.new) }
 {
     let place = place_of(tree);
     let part = expr(pass, tree)?;

@@ -3,13 +3,14 @@
 ghost use Rattle.std.specs.Prelude.{◌≡◌, true, IfOk};
 ghost use Rattle.c_num.specs.Arith.{is_shift};
 ghost use Rattle.c_typed.specs.Table.{Stands, type_in};
-ghost use Rattle.c_typed.specs.Views.{value_in, ValueStands};
-ghost use Rattle.c_rules.specs.Known.{give, with_known, value_rule};
+ghost use Rattle.c_typed.specs.Views.{ValueStands};
+ghost use Rattle.c_rules.specs.Known.{give, with_known};
 ghost use Rattle.c_rules.specs.Operators as rules;
-ghost use Rattle.c_types_state.specs.Finding.{Finds, IsType, ExprStands, expr_in, AllStand, each_in, condition_in, AddressStands, address_in};
+ghost use Rattle.c_types_state.specs.Finding.{Finds, IsType, ExprStands, AllStand, each_in, condition_in, AddressStands};
 ghost use Rattle.c_types_state.specs.NameTables.{scope_of};
 ghost use Rattle.c_types_operands.specs.Operands.{IsOperand, OperandStands, operand_in};
-ghost use Rattle.c_types_binary.specs.Binary.{operand_rule};
+ghost use Rattle.c_types_binary.specs.Binary.{operand_rule, type_or_void, agreed_in, both_rule, either_rule, FindsMoved};
+ghost use Rattle.c_types_operands.specs.Promises.{FindsOfPart, FindsOfTwo};
 
 use c_num::{BinOp, IntType, Relation, common};
 use c_rules::TypeRule;
@@ -21,7 +22,7 @@ use c_types_operands::constants::{
 };
 use c_types_operands::types::{
     int_type_of, is_integer, is_object_pointer, is_pointer, is_pointer_to_complete, is_void,
-    is_void_pointer, promoted_type,
+    is_void_pointer, promoted_type, target_of,
 };
 use c_types_operands::{
     Direction, Operand, as_integer, as_scalar, as_value, condition_of, converted, integer_as,
@@ -39,7 +40,7 @@ pub fn operand(
     part: Option<Known>,
 ) -> Result<Option<Operand>, AllocError>
     requires { AllStand ExprStands checker.old.table part }
-    ensures { IfOk result (Finds IsOperand (with_known (each_in expr_in checker.old.table part) (operand_rule operator place)) checker.old checker.new) }
+    ensures { FindsOfPart IsOperand (λ part. with_known part (operand_rule operator place)) part checker.old checker.new result }
 {
     match operator {
         BinaryOperator::Add
@@ -73,7 +74,7 @@ pub fn combined(
 ) -> Result<Option<Operand>, AllocError>
     requires left { OperandStands checker.old.table left }
     requires right { OperandStands checker.old.table right }
-    ensures { IfOk result (Finds IsOperand (rules.combined (scope_of checker.old) operator whole right_place (operand_in checker.old.table left) (operand_in checker.old.table right)) checker.old checker.new) }
+    ensures { FindsOfTwo IsOperand (rules.combined (scope_of checker.old) operator whole right_place) left right checker.old checker.new result }
 {
     match operator {
         BinaryOperator::Multiply => arithmetic(checker, BinOp::Mul, whole, left, right),
@@ -127,7 +128,7 @@ fn arithmetic(
 ) -> Result<Option<Operand>, AllocError>
     requires left { OperandStands checker.old.table left }
     requires right { OperandStands checker.old.table right }
-    ensures { IfOk result (Finds IsOperand (rules.arithmetic op whole (operand_in checker.old.table left) (operand_in checker.old.table right)) checker.old checker.new) }
+    ensures { FindsOfTwo IsOperand (rules.arithmetic op whole) left right checker.old checker.new result }
 {
     let alloc = checker.alloc();
     let int_type = common_type(checker, &left, &right);
@@ -156,7 +157,7 @@ fn shifted(
     requires shift { is_shift op ≡ true }
     requires left { OperandStands checker.old.table left }
     requires right { OperandStands checker.old.table right }
-    ensures { IfOk result (Finds IsOperand (rules.shifted op whole (operand_in checker.old.table left) (operand_in checker.old.table right)) checker.old checker.new) }
+    ensures { FindsOfTwo IsOperand (rules.shifted op whole) left right checker.old checker.new result }
 {
     let alloc = checker.alloc();
     let int_type = promoted_type(checker, left.c_type);
@@ -181,7 +182,7 @@ fn sum(
 ) -> Result<Option<Operand>, AllocError>
     requires left { OperandStands checker.old.table left }
     requires right { OperandStands checker.old.table right }
-    ensures { IfOk result (Finds IsOperand (rules.sum (scope_of checker.old) whole (operand_in checker.old.table left) (operand_in checker.old.table right)) checker.old checker.new) }
+    ensures { FindsOfTwo IsOperand (rules.sum (scope_of checker.old) whole) left right checker.old checker.new result }
 {
     if both_integers(checker, &left, &right) {
         return arithmetic(checker, BinOp::Add, whole, left, right);
@@ -222,7 +223,7 @@ fn difference(
 ) -> Result<Option<Operand>, AllocError>
     requires left { OperandStands checker.old.table left }
     requires right { OperandStands checker.old.table right }
-    ensures { IfOk result (Finds IsOperand (rules.difference (scope_of checker.old) whole (operand_in checker.old.table left) (operand_in checker.old.table right)) checker.old checker.new) }
+    ensures { FindsOfTwo IsOperand (rules.difference (scope_of checker.old) whole) left right checker.old checker.new result }
 {
     if both_integers(checker, &left, &right) {
         return arithmetic(checker, BinOp::Sub, whole, left, right);
@@ -253,7 +254,7 @@ fn moved_pointer(
     requires value { ValueStands checker.old.table value.value }
     requires c_type { Stands checker.old.table c_type }
     requires address { AddressStands checker.old.table address }
-    ensures { Finds IsOperand (rules.moved_pointer (scope_of checker.old) whole (value_in checker.old.table value.value) (type_in checker.old.table c_type) (address_in checker.old.table address)) checker.old checker.new result }
+    ensures { FindsMoved whole value c_type address checker.old checker.new result }
 {
     let is_complete = is_pointer_to_complete(checker, c_type);
     if !checker.require(is_complete, TypeRule::T14, whole) {
@@ -274,7 +275,7 @@ fn pointer_difference(
 ) -> Result<Option<Operand>, AllocError>
     requires left { OperandStands checker.old.table left }
     requires right { OperandStands checker.old.table right }
-    ensures { IfOk result (Finds IsOperand (rules.pointer_difference (scope_of checker.old) whole (operand_in checker.old.table left) (operand_in checker.old.table right)) checker.old checker.new) }
+    ensures { FindsOfTwo IsOperand (rules.pointer_difference (scope_of checker.old) whole) left right checker.old checker.new result }
 {
     let agrees = is_pointer(checker, left.c_type) && checker.same(left.c_type, right.c_type);
     if !checker.require(agrees, TypeRule::T11, whole) {
@@ -303,7 +304,7 @@ fn compared(
 ) -> Result<Option<Operand>, AllocError>
     requires left { OperandStands checker.old.table left }
     requires right { OperandStands checker.old.table right }
-    ensures { IfOk result (Finds IsOperand (rules.compared relation (operand_in checker.old.table left) (operand_in checker.old.table right)) checker.old checker.new) }
+    ensures { FindsOfTwo IsOperand (rules.compared relation) left right checker.old checker.new result }
 {
     let alloc = checker.alloc();
     let int_type = common_type(checker, &left, &right);
@@ -329,7 +330,7 @@ fn ordered(
 ) -> Result<Option<Operand>, AllocError>
     requires left { OperandStands checker.old.table left }
     requires right { OperandStands checker.old.table right }
-    ensures { IfOk result (Finds IsOperand (rules.ordered relation whole (operand_in checker.old.table left) (operand_in checker.old.table right)) checker.old checker.new) }
+    ensures { FindsOfTwo IsOperand (rules.ordered relation whole) left right checker.old checker.new result }
 {
     if both_integers(checker, &left, &right) {
         return compared(checker, relation, left, right);
@@ -368,26 +369,52 @@ fn pointers_agree(checker: &Checker, a: &Operand, b: &Operand) -> bool
             || (is_void_pointer(checker, b.c_type) && is_object_pointer(checker, a.c_type)))
 }
 
+/// The type of two pointers that agree, where it is that of one of them; else it is `void *`.
+fn agreed_type(checker: &Checker, a: &Operand, b: &Operand) -> Option<CType>
+    requires a { OperandStands checker.now.table a.now }
+    requires b { OperandStands checker.now.table b.now }
+    ensures stands { AllStand Stands checker.now.table result }
+    ensures agreed { type_or_void (each_in type_in checker.now.table result) ≡ agreed_in checker.now.table a.now b.now }
+{
+    if is_pointer(checker, a.c_type) && b.is_null {
+        let is_other = a.is_null && is_pointer(checker, b.c_type);
+        return Some(if is_other { b.c_type } else { a.c_type });
+    }
+    if is_pointer(checker, b.c_type) && a.is_null {
+        return Some(b.c_type);
+    }
+    if checker.same(a.c_type, b.c_type) {
+        return Some(a.c_type);
+    }
+    None
+}
+
 /// The type of two pointers that agree.
 fn agreed_pointer(checker: &mut Checker, a: &Operand, b: &Operand) -> Result<CType, AllocError>
     requires a { OperandStands checker.old.table a.now }
     requires b { OperandStands checker.old.table b.now }
-    ensures { IfOk result (λ made. Finds IsType (give (rules.agreed_pointer (operand_in checker.old.table a.now) (operand_in checker.old.table b.now))) checker.old checker.new (Some made)) }
+    ensures { IfOk result (λ made. Finds IsType (give (agreed_in checker.old.table a.now b.now)) checker.old checker.new (Some made)) }
 {
-    if is_pointer(checker, a.c_type) && b.is_null {
-        let is_other = a.is_null && is_pointer(checker, b.c_type);
-        return Ok(if is_other { b.c_type } else { a.c_type });
+    match agreed_type(checker, a, b) {
+        Some(c_type) => Ok(c_type),
+        None => checker.pointer_to(CType::VOID),
     }
-    if is_pointer(checker, b.c_type) && a.is_null {
-        return Ok(b.c_type);
-    }
-    if checker.same(a.c_type, b.c_type) {
-        return Ok(a.c_type);
-    }
-    checker.pointer_to(CType::VOID)
 }
 
-/// `==` and `!=` (C17 6.5.9): neither pointer is converted.
+/// What that type points to.
+fn agreed_target(checker: &Checker, a: &Operand, b: &Operand) -> CType
+    requires a { OperandStands checker.now.table a.now }
+    requires b { OperandStands checker.now.table b.now }
+    ensures stands { Stands checker.now.table result }
+    ensures target { type_in checker.now.table result ≡ rules.target_of (agreed_in checker.now.table a.now b.now) }
+{
+    match agreed_type(checker, a, b) {
+        Some(c_type) => target_of(checker, c_type),
+        None => CType::VOID,
+    }
+}
+
+/// `==` and `!=` (C17 6.5.9): no pointer is converted but a null pointer constant.
 fn equated(
     checker: &mut Checker,
     relation: Relation,
@@ -397,7 +424,7 @@ fn equated(
 ) -> Result<Option<Operand>, AllocError>
     requires left { OperandStands checker.old.table left }
     requires right { OperandStands checker.old.table right }
-    ensures { IfOk result (Finds IsOperand (rules.equated relation whole (operand_in checker.old.table left) (operand_in checker.old.table right)) checker.old checker.new) }
+    ensures { FindsOfTwo IsOperand (rules.equated relation whole) left right checker.old checker.new result }
 {
     if both_integers(checker, &left, &right) {
         return compared(checker, relation, left, right);
@@ -406,12 +433,13 @@ fn equated(
     if !checker.require(agrees, TypeRule::T11, whole) {
         return Ok(None);
     }
+    let target = agreed_target(checker, &left, &right);
     let alloc = checker.alloc();
     let value = Value::ComparePointers {
         relation,
         place: whole,
-        left: unconverted(alloc, left)?,
-        right: unconverted(alloc, right)?,
+        left: unconverted(alloc, target, left)?,
+        right: unconverted(alloc, target, right)?,
     };
     let value = Box::new(alloc, value)?;
     Ok(Some(Operand::of_type(CType::integer(IntType::Int), value)))
@@ -427,7 +455,7 @@ fn both(
 ) -> Result<Option<Operand>, AllocError>
     requires left { OperandStands checker.old.table left }
     requires right { OperandStands checker.old.table right }
-    ensures { IfOk result (Finds IsOperand (give (rules.both (rules.condition_of whole (operand_in checker.old.table left)) (rules.condition_of right_place (operand_in checker.old.table right)))) checker.old checker.new) }
+    ensures { FindsOfTwo IsOperand (both_rule whole right_place) left right checker.old checker.new result }
 {
     let alloc = checker.alloc();
     let left = condition_of(checker, whole, left)?;
@@ -451,7 +479,7 @@ fn either(
 ) -> Result<Option<Operand>, AllocError>
     requires left { OperandStands checker.old.table left }
     requires right { OperandStands checker.old.table right }
-    ensures { IfOk result (Finds IsOperand (give (rules.either (rules.condition_of whole (operand_in checker.old.table left)) (rules.condition_of right_place (operand_in checker.old.table right)))) checker.old checker.new) }
+    ensures { FindsOfTwo IsOperand (either_rule whole right_place) left right checker.old checker.new result }
 {
     let alloc = checker.alloc();
     let left = condition_of(checker, whole, left)?;
@@ -476,7 +504,7 @@ pub fn choice(
     requires condition { ValueStands checker.old.table condition.test.value }
     requires then { OperandStands checker.old.table then }
     requires otherwise { OperandStands checker.old.table otherwise }
-    ensures { IfOk result (Finds IsOperand (rules.choice whole (condition_in checker.old.table condition) (operand_in checker.old.table then) (operand_in checker.old.table otherwise)) checker.old checker.new) }
+    ensures { FindsOfTwo IsOperand (rules.choice whole (condition_in checker.old.table condition)) then otherwise checker.old checker.new result }
 {
     if both_integers(checker, &then, &otherwise) {
         return integer_choice(checker, condition, then, otherwise);
@@ -515,7 +543,7 @@ fn integer_choice(
     requires condition { ValueStands checker.old.table condition.test.value }
     requires then { OperandStands checker.old.table then }
     requires otherwise { OperandStands checker.old.table otherwise }
-    ensures { IfOk result (Finds IsOperand (rules.integer_choice (condition_in checker.old.table condition) (operand_in checker.old.table then) (operand_in checker.old.table otherwise)) checker.old checker.new) }
+    ensures { FindsOfTwo IsOperand (rules.integer_choice (condition_in checker.old.table condition)) then otherwise checker.old checker.new result }
 {
     let alloc = checker.alloc();
     let int_type = common_type(checker, &then, &otherwise);

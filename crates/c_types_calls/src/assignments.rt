@@ -1,15 +1,16 @@
 // Assignments (C17 6.5.16).
 
 ghost use Rattle.std.specs.Prelude.{◌≡◌, None, IfOk};
-ghost use Rattle.c_typed.specs.Table.{Interned, Stands, type_in};
+ghost use Rattle.c_typed.specs.Table.{Interned};
 ghost use Rattle.c_typed.specs.Typed as typed;
-ghost use Rattle.c_typed.specs.Views.{value_in, ValueStands, object_in};
+ghost use Rattle.c_typed.specs.Views.{value_in, ValueStands};
 ghost use Rattle.c_rules.specs.Known.{with_known};
 ghost use Rattle.c_rules.specs.Operators as rules;
 ghost use Rattle.c_types_state.specs.Finding.{Finds, ExprStands, expr_in, AllStand, each_in};
 ghost use Rattle.c_types_state.specs.NameTables.{scope_of};
-ghost use Rattle.c_types_operands.specs.Operands.{IsOperand, OperandStands, operand_in, IsTarget, TargetStands, target_in};
-ghost use Rattle.c_types_calls.specs.Assignments.{assigned_object_rule, assigned_value_rule};
+ghost use Rattle.c_types_operands.specs.Operands.{IsOperand, OperandStands, IsTarget, TargetStands, target_in};
+ghost use Rattle.c_types_calls.specs.Assignments.{assigned_object_rule, assigned_value_rule, compound_in};
+ghost use Rattle.c_types_operands.specs.Promises.{FindsOfPart, FindsOfOne, MakesValue};
 
 use c_num::{BinOp, IntType, common, promote};
 use c_rules::TypeRule;
@@ -50,7 +51,7 @@ pub fn assigned_object(
     part: Option<Known>,
 ) -> Result<Option<Target>, AllocError>
     requires { AllStand ExprStands checker.old.table part }
-    ensures { IfOk result (Finds IsTarget (with_known (each_in expr_in checker.old.table part) (assigned_object_rule (scope_of checker.old) operator place)) checker.old checker.new) }
+    ensures { FindsOfPart IsTarget (λ part. with_known part (assigned_object_rule (scope_of checker.old) operator place)) part checker.old checker.new result }
 {
     let Some(known) = part else {
         return Ok(None);
@@ -110,7 +111,7 @@ pub fn assignment(
 ) -> Result<Option<Operand>, AllocError>
     requires target { TargetStands checker.old.table target }
     requires operand { OperandStands checker.old.table operand }
-    ensures { IfOk result (Finds IsOperand (rules.assignment operator whole value_place (target_in checker.old.table target) (operand_in checker.old.table operand)) checker.old checker.new) }
+    ensures { FindsOfOne IsOperand (rules.assignment operator whole value_place (target_in checker.old.table target)) operand checker.old checker.new result }
 {
     match operator {
         Some(op) => {
@@ -132,7 +133,7 @@ fn plain_assignment(
 ) -> Result<Option<Operand>, AllocError>
     requires target { TargetStands checker.old.table target }
     requires operand { OperandStands checker.old.table operand }
-    ensures { IfOk result (Finds IsOperand (rules.assignment None whole value_place (target_in checker.old.table target) (operand_in checker.old.table operand)) checker.old checker.new) }
+    ensures { FindsOfOne IsOperand (rules.assignment None whole value_place (target_in checker.old.table target)) operand checker.old checker.new result }
 {
     let c_type = target.c_type;
     let fits = fits(checker, c_type, &operand);
@@ -168,7 +169,7 @@ fn compound_value(
     requires target { TargetStands checker.now.table target }
     requires operand { OperandStands checker.now.table operand }
     ensures stands { IfOk result (λ value. ValueStands checker.now.table value.value) }
-    ensures compound { IfOk result (λ value. value_in checker.now.table value.value ≡ rules.compound_value op whole (type_in checker.now.table target.c_type) (object_in checker.now.table target.object.value) (operand_in checker.now.table operand)) }
+    ensures compound { MakesValue checker.now.table (compound_in checker.now.table op whole target operand) result }
 {
     let alloc = checker.alloc();
     let shape = checker.shape(target.c_type);

@@ -4,15 +4,16 @@ ghost use Rattle.std.specs.Prelude.{◌≡◌, true, Some, IfOk};
 ghost use Rattle.c_typed.specs.Types as T;
 ghost use Rattle.c_typed.specs.Table.{Interned, Stands, type_in, ListStands, types_in};
 ghost use Rattle.c_typed.specs.Typed as typed;
-ghost use Rattle.c_typed.specs.Views.{value_in, ValueStands, values_in, ValuesStand, designator_in, DesignatorStands};
-ghost use Rattle.c_rules.specs.Known.{give, with_known};
+ghost use Rattle.c_typed.specs.Views.{ValueStands, designator_in, DesignatorStands};
+ghost use Rattle.c_rules.specs.Known.{give};
 ghost use Rattle.c_rules.specs.Operators as rules;
-ghost use Rattle.c_types_state.specs.Finding.{Finds, IsExpr, IsType, ExprStands, expr_in, AllStand, each_in, TypedStands, typed_in};
+ghost use Rattle.c_types_state.specs.Finding.{Finds, IsExpr, IsType, ExprStands, AllStand, each_in, TypedStands, typed_in};
 ghost use Rattle.c_types_operands.specs.Operands.{IsOperand, OperandStands, operand_in};
-ghost use Rattle.c_types_calls.specs.Arguments.{argument_in, ArgumentStands, arguments_in, ArgumentsStand};
-ghost use Rattle.c_types_calls.specs.Calls.{call_rule_on, IsValue, IsValues, passed_values, passed_one, library_known};
+ghost use Rattle.c_types_calls.specs.Arguments.{ArgumentStands, arguments_in, ArgumentsStand};
+ghost use Rattle.c_types_calls.specs.Calls.{call_of_part, library_known, FindsPassed, FindsPassedOne, CallStands, MakesCall, FindsFunction};
 ghost use Rattle.c_types_calls.specs.Signatures.{IsSignature};
 ghost use Rattle.c_rules.specs.Names as names;
+ghost use Rattle.c_types_operands.specs.Promises.{FindsOfPart, MakesInEach};
 
 use c_num::IntType;
 use c_rules::{Constness, TypeRule};
@@ -39,7 +40,7 @@ pub fn call(
 ) -> Result<Option<Operand>, AllocError>
     requires function { AllStand ExprStands checker.old.table function }
     requires arguments { ArgumentsStand checker.old.table arguments.items }
-    ensures { IfOk result (Finds IsOperand (with_known (each_in expr_in checker.old.table function) (call_rule_on whole (arguments_in checker.old.table arguments.items))) checker.old checker.new) }
+    ensures { FindsOfPart IsOperand (call_of_part whole (arguments_in checker.old.table arguments.items)) function checker.old checker.new result }
 {
     let Some(function) = function else {
         return Ok(None);
@@ -135,7 +136,7 @@ fn passed(
 ) -> Result<Option<Vec<Value>>, AllocError>
     requires parameters { ListStands checker.old.table parameters }
     requires arguments { ArgumentsStand checker.old.table arguments.items }
-    ensures { IfOk result (Finds IsValues (passed_values whole is_free (types_in checker.old.table parameters) (arguments_in checker.old.table arguments.items)) checker.old checker.new) }
+    ensures { FindsPassed whole is_free parameters arguments.items checker.old checker.new result }
 {
     let mut parameters = parameters;
     let mut values = Vec::new(checker.alloc());
@@ -168,7 +169,7 @@ fn passed_value(
 ) -> Result<Option<Value>, AllocError>
     requires parameter { Stands checker.old.table parameter }
     requires argument { ArgumentStands checker.old.table argument }
-    ensures { IfOk result (Finds IsValue (passed_one whole is_free (type_in checker.old.table parameter) (argument_in checker.old.table argument)) checker.old checker.new) }
+    ensures { FindsPassedOne whole is_free parameter argument checker.old checker.new result }
 {
     let Argument { place, value } = argument;
     let Some(operand) = value else {
@@ -179,20 +180,28 @@ fn passed_value(
         return Ok(None);
     }
     if is_free {
-        let value = unconverted(checker.alloc(), operand)?;
+        let value = given_to_free(checker.alloc(), operand)?;
         return Ok(Some(Box::into_inner(value)));
     }
     let value = converted(checker, whole, parameter, operand)?;
     Ok(Some(Box::into_inner(value)))
 }
 
+/// What `free` is given: a value as it is, but for a null pointer constant, which becomes a pointer to `void`.
+fn given_to_free(alloc: Global, operand: Operand) -> Result<Box<Value>, AllocError>
+    ensures stands { IfOk result (λ value. (table : Interned) → OperandStands table operand → ValueStands table value.value) }
+    ensures unconverted { MakesInEach (λ table. rules.unconverted_value T.Void (operand_in table operand)) result }
+{
+    unconverted(alloc, CType::VOID, operand)
+}
+
 /// An argument that is passed without a conversion, where it is known.
 fn unconverted_argument(alloc: Global, argument: Option<Operand>) -> Result<Box<Value>, AllocError>
     ensures stands { IfOk result (λ value. (table : Interned) → AllStand OperandStands table argument → ValueStands table value.value) }
-    ensures unconverted { IfOk result (λ value. (table : Interned) → value_in table value.value ≡ rules.unconverted_argument (each_in operand_in table argument)) }
+    ensures unconverted { MakesInEach (λ table. rules.unconverted_argument (each_in operand_in table argument)) result }
 {
     match argument {
-        Some(operand) => unconverted(alloc, operand),
+        Some(operand) => given_to_free(alloc, operand),
         None => Ok(Box::new(alloc, Value::NullPointer)?),
     }
 }
@@ -206,8 +215,8 @@ fn call_value(
     c_type: CType,
     values: Vec<Value>,
 ) -> Result<Box<Value>, AllocError>
-    ensures stands { IfOk result (λ value. (table : Interned) → TypedStands table function → Stands table c_type → ValuesStand table values.items → ValueStands table value.value) }
-    ensures call { IfOk result (λ value. (table : Interned) → value_in table value.value ≡ rules.call_of whole is_array (typed_in table function) (type_in table c_type) (values_in table values.items)) }
+    ensures stands { CallStands (λ table. TypedStands table function) c_type values.items result }
+    ensures call { MakesCall (λ table. rules.call_of whole is_array (typed_in table function)) c_type values.items result }
 {
     match function {
         TypedExpr::Library { function, groups } => {
@@ -239,8 +248,8 @@ fn designated_call(
     c_type: CType,
     values: Vec<Value>,
 ) -> Result<Box<Value>, AllocError>
-    ensures stands { IfOk result (λ value. (table : Interned) → DesignatorStands table function.value → Stands table c_type → ValuesStand table values.items → ValueStands table value.value) }
-    ensures call { IfOk result (λ value. (table : Interned) → value_in table value.value ≡ typed.Call true whole (designator_in table function.value) (type_in table c_type) (values_in table values.items)) }
+    ensures stands { CallStands (λ table. DesignatorStands table function.value) c_type values.items result }
+    ensures call { MakesCall (λ table. typed.Call true whole (designator_in table function.value)) c_type values.items result }
 {
     let value = Value::Call {
         is_used: true,
@@ -300,7 +309,7 @@ fn function_of(
 ) -> Result<CType, AllocError>
     requires returned { Stands checker.old.table returned }
     requires parameter { Stands checker.old.table parameter }
-    ensures { IfOk result (λ made. Finds IsType (give (T.Function (type_in checker.old.table returned) (T.MoreTypes (type_in checker.old.table parameter) T.NoTypes))) checker.old checker.new (Some made)) }
+    ensures { FindsFunction returned parameter checker.old checker.new result }
 {
     let none = checker.no_parameters()?;
     let parameters = checker.parameter(parameter, none)?;

@@ -4,6 +4,7 @@ use Rattle.std.proofs.Math.Seq.{drop-cons}
 use Rattle.std.proofs.lemmas.Bool.{false≢true, eqb-true, eqb-false}
 use Rattle.std.proofs.lemmas.List.{nil_from_length}
 use Rattle.text_place.specs.declared.place.Pos.{Pos}
+use Rattle.c_num.specs.declared.IntType.{IntType}
 use Rattle.c_num.specs.declared.IntType.TheVariants as I
 use Rattle.c_syntax.specs.declared.expr.Parameter.{Parameter, Parameter'}
 use Rattle.c_syntax.specs.declared.expr.TypeName as memory_type
@@ -25,7 +26,7 @@ use Rattle.c_typed.specs.declared.typed.Object as memory_object
 use Rattle.c_typed.specs.declared.typed.Object.TheVariants as O
 use Rattle.c_typed.specs.Types.{CType, Void, Integer, Pointer, Array, MoreTypes}
 use Rattle.c_typed.specs.Typed as typed
-use Rattle.c_typed.specs.Values.{Text}
+use Rattle.c_typed.specs.Values.{StaticLiteral}
 use Rattle.c_typed.specs.Table.{Interned, Stands, type_in, types_in, integer_number}
 use Rattle.c_typed.specs.Views.{value_in, object_in, ValueStands, ObjectStands}
 use Rattle.c_typed.proofs.Grown.{stays, grows_trans, void_stands, integer_stands}
@@ -35,7 +36,7 @@ use Rattle.c_types_state.specs.declared.known.TypedExpr.TheVariants as E
 use Rattle.c_typed.specs.declared.definition.Static.TheVariants as R
 use Rattle.c_types_state.specs.declared.known.Address.TheVariants as A
 use Rattle.c_rules.specs.Known.{Checked, Known, with_known, unknown, OfValue, OfObject, NullAddress, Element, integer_value, object_at, give}
-use Rattle.c_rules.specs.Expressions.{is_void_alone, adds, direct_adds, pointers}
+use Rattle.c_rules.specs.Expressions.{integer_constant, is_void_alone, adds, direct_adds, pointers}
 use Rattle.c_types_state.specs.NameTables.{State}
 use Rattle.c_types_state.proofs.Findings.{finds-unknown}
 use Rattle.c_types_state.specs.Finding.{Finds, IsExpr, IsType, IsTypes, IsOption, ExprStands, expr_in, AllStand, each_in}
@@ -62,9 +63,9 @@ operand-known {t = t} {checked = checked} {r = r} {r' = r'} found stand same =
 -- ---- constants
 
 -- a number
-pub constant-known : (table : Interned) {known : Known} (c_type : CType) {n z : ℤ} {value : memory_value.Value} → known ≡ integer_value c_type (Constant z) (value_in table value) → value ≡ V.Constant z → z ≡ n
-    → known ≡ integer_value c_type (Constant n) (typed.Constant n)
-constant-known table c_type {z = z} made is same = made ∙ ap (λ (v : memory_value.Value). integer_value c_type (Constant z) (value_in table v)) is ∙ ap (λ (z : ℤ). integer_value c_type (Constant z) (typed.Constant z)) same
+pub constant-known : (table : Interned) {known : Known} (int_type : IntType) {n z : ℤ} {value : memory_value.Value} → known ≡ integer_value (Integer int_type) (Constant z) (value_in table value) → value ≡ V.Constant int_type z → z ≡ n
+    → known ≡ integer_constant int_type n
+constant-known table int_type {z = z} made is same = made ∙ ap (λ (v : memory_value.Value). integer_value (Integer int_type) (Constant z) (value_in table v)) is ∙ ap (integer_constant int_type) same
 
 -- `NULL`
 pub null-known : {s t : State} (void made : number.CType) (value : Box memory_value.Value Global) → value.value ≡ V.NullPointer → void.0 ≡ 0 → Finds IsType (give (Pointer (type_in s.table void))) s t (Some made)
@@ -82,7 +83,7 @@ null-known {s = s} {t = t} void made value is e found =
 -- a literal
 pub literal-known : {s t : State} (char made : number.CType) (n count : ℕ) (place : Pos) (bytes copied : List ℕ) (object : Box memory_object.Object Global) (parts : Vec Part Global) → object.value ≡ O.Literal place copied made → char.0 ≡ integer_number I.Char → copied ≡ bytes → parts.items ≡ []
     → n ≡ count → count ≡ suc (length copied) → Finds IsType (give (Array (type_in s.table char) n)) s t (Some made)
-    → Finds IsExpr (give (object_at (Array (Integer I.Char) count) (typed.Literal place bytes) (Element (Text place) [] (Array (Integer I.Char) count) 1 0))) s t
+    → Finds IsExpr (give (object_at (Array (Integer I.Char) count) (typed.Literal place bytes) (Element (StaticLiteral place) [] (Array (Integer I.Char) count) 1 0))) s t
     (Some (record { c_type = made; typed = E.Object object; constness = NotConstant; is_null = false; address = A.Element (R.Literal place) parts made 1 0 }))
 literal-known {s = s} {t = t} char made n count place bytes copied object parts is e same none long all found =
     let its : type_in t.table made ≡ Array (Integer I.Char) count = found.known.1 ∙ (λ i. Array ((integer_stands s.table char I.Char e).1 i) (long i)) in
@@ -93,7 +94,7 @@ literal-known {s = s} {t = t} char made n count place bytes copied object parts 
       least = found.least;
       known = (
         (found.known.0, subst (λ (o : memory_object.Object). ObjectStands t.table o) (sym is) (found.known.0, its ∙ ap (Array (Integer I.Char)) all), found.known.0),
-        λ i. record { c_type = its i; typed = OfObject (own i); constness = NotConstant; is_null = false; address = Element (Text place) (none i) (its i) 1 0 },
+        λ i. record { c_type = its i; typed = OfObject (own i); constness = NotConstant; is_null = false; address = Element (StaticLiteral place) (none i) (its i) 1 0 },
       );
     }
 

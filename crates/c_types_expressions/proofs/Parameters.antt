@@ -46,7 +46,7 @@ pub same_parameters : (scope : Scope) (names others : List (List ℕ)) → SameN
 same_parameters scope names others same Trees.NoParameters = refl
 same_parameters scope names others same (Trees.Parameter words declarator rest) =
     λ i. given_two
-    (also (same_clash names others same (optional_name declarator) i) (given (optional_type scope (name_place (optional_name declarator) words.place) Adjusted (words_type scope words) declarator) (parameter_type (name_place (optional_name declarator) words.place))))
+    (also (same_clash names others same (optional_name declarator) i) (given (optional_type scope (name_place (optional_name declarator) words.place) Adjusted (words_type scope words) declarator) (parameter_type scope (name_place (optional_name declarator) words.place))))
     (same_parameters scope (with_name (optional_name declarator) names) (with_name (optional_name declarator) others) (same_more names others same (optional_name declarator)) rest i)
     (λ first types. give (MoreTypes first types))
 
@@ -231,14 +231,14 @@ pub passes-parameter : {s p q : Pass} {t t' u : State} {r r' r'' : Option number
     → Finds (IsSame {A = Unit {0}}) (also (name_clash names name) (give tt)) s.checker t (Some tt)
     → Finds IsType (words_type (scope_of t) simple) t t' r
     → Passes IsType (optional_type (scope_of t') here Adjusted (known_already (each_in type_in t'.table r)) declarator) (named_in_optional (scope_of t') declarator) (with_checker s t') p r'
-    → Finds IsType (with_known (each_in type_in p.checker.table r') (parameter_type here)) p.checker u r''
+    → Finds IsType (with_known (each_in type_in p.checker.table r') (parameter_type (scope_of p.checker) here)) p.checker u r''
     → q.checker ≡ u → Names (named_at here (each_in type_in u.table r'')) u.table p.named.items q.named.items
     → Passes IsType (parameter_rule (scope_of s.checker) names simple declarator) (named_parameter (scope_of s.checker) simple declarator) s q r''
 passes-parameter {s = s} {p = p} {q = q} {t = t} {t' = t'} {u = u} {r = r} {r' = r'} {r'' = r''} names simple declarator name here is_name is_here noted first second last same named =
     let at_place : here ≡ name_place (optional_name declarator) simple.place = is_here ∙ ap (λ name. name_place name simple.place) is_name in
-    let rule : Scope → Pos → Checked CType = λ scope place. given (optional_type scope place Adjusted (words_type scope simple) declarator) (parameter_type place) in
+    let rule : Scope → Pos → Checked CType = λ scope place. given (optional_type scope place Adjusted (words_type scope simple) declarator) (parameter_type scope place) in
     let whole : Finds IsType (rule (scope_of t) here) t u r'' =
-    finds-then Stands type_in (λ _. optional_type (scope_of t) here Adjusted (words_type (scope_of t) simple) declarator) (λ _. parameter_type here) (optional_found {s = t} here Adjusted (words_type (scope_of t) simple) declarator first second.finds) last in
+    finds-then Stands type_in (λ _. optional_type (scope_of t) here Adjusted (words_type (scope_of t) simple) declarator) (λ scope. parameter_type scope here) (optional_found {s = t} here Adjusted (words_type (scope_of t) simple) declarator first second.finds) last in
     let inner = names-grow p.checker.table u.table last.grows (subst (λ scope. Names (named_in_optional scope declarator) p.checker.table s.named.items p.named.items) first.scope second.names) in
     let own = subst (λ known. Names (named_at here known) u.table p.named.items q.named.items) (finds-known Stands type_in whole) named in
     let all : Passes IsType (rule (scope_of t) here) (named_in_optional (scope_of t) declarator ++ named_at here (rule (scope_of t) here).known) (with_checker s t) (with_checker q u) r'' =

@@ -4,3 +4,4 @@ pub mod Named
 pub mod Roles
 pub mod Passes
 pub mod Suffixes
+pub mod Parts

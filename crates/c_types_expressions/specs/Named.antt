@@ -19,7 +19,7 @@ named_at place (Some c_type) = record { place = place; c_type = c_type } ∷ []
 
 -- a parameter's own type: that of an array is a pointer to its elements (C17 6.7.6.3 paragraph 7)
 abbrev pub parameter_named : Scope → WordsTree → OptionalTree → Pos → List NamedType
-parameter_named scope words declarator here = named_at here (given (optional_type scope here Adjusted (words_type scope words) declarator) (parameter_type here)).known
+parameter_named scope words declarator here = named_at here (given (optional_type scope here Adjusted (words_type scope words) declarator) (parameter_type scope here)).known
 
 abbrev mutual
   pub named_in : Scope → ExprTree → List NamedType

@@ -36,7 +36,7 @@ named_in_suffix scope (AFunction parameters) = named_in_list_of scope parameters
 -- one parameter, behind these names
 abbrev pub parameter_rule : Scope → List (List ℕ) → WordsTree → OptionalTree → Checked CType
 parameter_rule scope names words declarator =
-    one_parameter names words declarator (optional_type scope (name_place (optional_name declarator) words.place) Adjusted (words_type scope words) declarator)
+    one_parameter scope names words declarator (optional_type scope (name_place (optional_name declarator) words.place) Adjusted (words_type scope words) declarator)
 
 abbrev pub named_parameter : Scope → WordsTree → OptionalTree → List NamedType
 named_parameter scope words declarator = named_in_optional scope declarator ++ parameter_named scope words declarator (name_place (optional_name declarator) words.place)

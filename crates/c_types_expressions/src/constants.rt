@@ -2,12 +2,9 @@
 
 ghost use Rattle.std.specs.Prelude.{◌≡◌, IfOk, Some};
 ghost use Rattle.c_syntax.specs.Trees as Trees;
-ghost use Rattle.c_typed.specs.Types as T;
-ghost use Rattle.c_typed.specs.Typed as typed;
 ghost use Rattle.c_typed.specs.Table.{Interned};
 ghost use Rattle.c_rules.specs.Known as known;
 ghost use Rattle.c_rules.specs.Expressions as rules;
-ghost use Rattle.c_rules.specs.declared.constness.Constness.TheVariants as C;
 ghost use Rattle.c_types_state.specs.Finding.{Finds, IsExpr, ExprStands, expr_in, AllStand, each_in, TypedStands, typed_in};
 ghost use Rattle.c_types_state.specs.NameTables.{scope_of};
 ghost use Rattle.c_types_expressions.specs.Forms.{grouped_known, null_known};
@@ -20,12 +17,16 @@ use c_types_state::{Address, Checker, Known, TypedExpr, read_place};
 use std::alloc::{AllocError, Global};
 use text_place::Pos;
 
-/// A constant of an integer type (C17 6.4.4).
+/// A constant of an integer type, with a value of it (C17 6.4.4).
 pub(crate) fn constant(alloc: Global, int_type: IntType, number: i128) -> Result<Known, AllocError>
-    ensures { IfOk result (λ made. (table : Interned) → IsExpr table made (known.integer_value (T.Integer int_type) (C.Constant number) (typed.Constant number))) }
+    ensures { IfOk result (λ made. (table : Interned) → IsExpr table made (rules.integer_constant int_type number)) }
 {
-    let value = Box::new(alloc, Value::Constant(number))?;
-    Ok(Operand::integer(int_type, Constness::Constant(number), value).into_known())
+    let constness = Constness::Constant(number);
+    let constant = Value::Constant {
+        int_type,
+        value: number,
+    };
+    Ok(Operand::integer(int_type, constness, Box::new(alloc, constant)?).into_known())
 }
 
 /// A literal: an array of its bytes and a zero (C17 6.4.5 paragraph 6).

@@ -1,20 +1,13 @@
 // The names of types, and declarators (C17 6.7.6, 6.7.7).
 
 ghost use Rattle.std.specs.Prelude.{◌≡◌, ◌∷◌, [], IfOk, OnOk};
-ghost use Rattle.c_syntax.specs.Views.{expr_tree, type_tree, optional_of, declarator_tree, suffixes_of, parameters_of, words_tree};
-ghost use Rattle.c_syntax.specs.declared.expr.Parameter.{out-Parameter};
-ghost use Rattle.c_typed.specs.Table.{Stands, type_in};
-ghost use Rattle.c_rules.specs.Known.{known_already, given};
+ghost use Rattle.c_syntax.specs.Views.{expr_tree, type_tree, optional_of, declarator_tree, suffixes_of, parameters_of};
+ghost use Rattle.c_typed.specs.Table.{Stands};
 ghost use Rattle.c_types_state.specs.Checkers.{names_of};
-ghost use Rattle.c_rules.specs.Expressions as rules;
-ghost use Rattle.c_types_state.specs.Finding.{IsType, IsTypes, AllStand, each_in};
-ghost use Rattle.c_types_state.specs.NameTables.{scope_of};
-ghost use Rattle.c_types_state.specs.Staying.{IsSame};
-ghost use Rattle.c_types_expressions.specs.Roles.{role_of};
-ghost use Rattle.c_types_expressions.specs.Named.{named_in, named_in_type, named_in_optional, named_in_declarator, named_in_suffixes};
-ghost use Rattle.c_types_expressions.specs.Derived.{SameNames};
-ghost use Rattle.c_types_expressions.specs.Passes.{Passes, parameter_list};
-ghost use Rattle.c_types_expressions.specs.Suffixes.{suffix_of, named_in_suffix, suffix_type, named_in_list_of, named_parameter, parameter_rule};
+ghost use Rattle.c_types_state.specs.Finding.{AllStand};
+ghost use Rattle.c_types_expressions.specs.Suffixes.{suffix_of};
+ghost use Rattle.c_types_expressions.specs.Parts.{PassesTypeName, PassesOptional, PassesDeclarator, PassesSuffixes, PassesSuffix};
+ghost use Rattle.c_types_expressions.specs.Parts.{PassesLength, PassesParameters, PassesParameter, parameter_name, AddsName};
 
 use crate::derived::{
     array_of, as_element, as_result, constant_value, function_of, list_of, missing_length,
@@ -35,7 +28,7 @@ use text_place::Pos;
 /// A type name (C17 6.7.7).
 #[cycle(expr)]
 pub(crate) fn type_named(pass: &mut Pass, type_name: &TypeName) -> Result<Option<CType>, AllocError>
-    ensures { IfOk result (Passes IsType (rules.type_named (scope_of pass.old.checker) (type_tree type_name.now)) (named_in_type (scope_of pass.old.checker) (type_tree type_name.now)) pass.old pass.new) }
+    ensures { IfOk result (PassesTypeName (type_tree type_name.now) pass.old pass.new) }
 {
     let here = type_name.simple.place;
     let base = words_type(&mut pass.checker, &type_name.simple)?;
@@ -61,7 +54,7 @@ pub fn optional_type(
     declarator: &Option<Declarator>,
 ) -> Result<Option<CType>, AllocError>
     requires { AllStand Stands pass.old.checker.table base }
-    ensures { IfOk result (Passes IsType (rules.optional_type (scope_of pass.old.checker) here (role_of role) (known_already (each_in type_in pass.old.checker.table base)) (optional_of declarator.now)) (named_in_optional (scope_of pass.old.checker) (optional_of declarator.now)) pass.old pass.new) }
+    ensures { IfOk result (PassesOptional here role base (optional_of declarator.now) pass.old pass.new) }
 {
     match declarator {
         Some(declarator) => declared_type(pass, here, role, base, declarator),
@@ -79,7 +72,7 @@ pub fn declared_type(
     declarator: &Declarator,
 ) -> Result<Option<CType>, AllocError>
     requires { AllStand Stands pass.old.checker.table base }
-    ensures { IfOk result (Passes IsType (rules.declared_type (scope_of pass.old.checker) here (role_of role) (each_in type_in pass.old.checker.table base) (declarator_tree declarator.now)) (named_in_declarator (scope_of pass.old.checker) (declarator_tree declarator.now)) pass.old pass.new) }
+    ensures { IfOk result (PassesDeclarator here role base (declarator_tree declarator.now) pass.old pass.new) }
 {
     let base = pointed(&mut pass.checker, declarator.stars, base)?;
     let outside = role_outside(&declarator.direct, role);
@@ -100,7 +93,7 @@ fn suffixes_type(
     suffixes: &[Suffix],
 ) -> Result<Option<CType>, AllocError>
     requires { AllStand Stands pass.old.checker.table base }
-    ensures { IfOk result (Passes IsType (rules.suffixes_type (scope_of pass.old.checker) here (role_of role) (each_in type_in pass.old.checker.table base) (suffixes_of suffixes.now)) (named_in_suffixes (scope_of pass.old.checker) (suffixes_of suffixes.now)) pass.old pass.new) }
+    ensures { IfOk result (PassesSuffixes here role base (suffixes_of suffixes.now) pass.old pass.new) }
 {
     let mut c_type = base;
     let mut index = suffixes.len();
@@ -126,7 +119,7 @@ fn suffix_type(
     suffix: &Suffix,
 ) -> Result<Option<CType>, AllocError>
     requires { AllStand Stands pass.old.checker.table inner }
-    ensures { IfOk result (Passes IsType (suffix_type (scope_of pass.old.checker) here (role_of role) (suffix_of suffix.now) (known_already (each_in type_in pass.old.checker.table inner))) (named_in_suffix (scope_of pass.old.checker) (suffix_of suffix.now)) pass.old pass.new) }
+    ensures { IfOk result (PassesSuffix here role inner (suffix_of suffix.now) pass.old pass.new) }
 {
     match suffix {
         Suffix::Array(length) => {
@@ -148,7 +141,7 @@ fn suffix_type(
 /// A length that stands there: a positive constant.
 #[cycle(expr)]
 fn stated_length(pass: &mut Pass, here: Pos, value: &Expr) -> Result<Option<u64>, AllocError>
-    ensures { IfOk result (Passes IsSame (given (rules.as_constant (rules.place_of (expr_tree value.now)) (rules.expr (scope_of pass.old.checker) (expr_tree value.now))) (rules.positive here)) (named_in (scope_of pass.old.checker) (expr_tree value.now)) pass.old pass.new) }
+    ensures { IfOk result (PassesLength here (expr_tree value.now) pass.old pass.new) }
 {
     let place = place_of(value);
     let part = expr(pass, value)?;
@@ -167,7 +160,7 @@ fn function_parameters(
     pass: &mut Pass,
     parameters: &[Parameter],
 ) -> Result<Option<Parameters>, AllocError>
-    ensures { IfOk result (Passes IsTypes (parameter_list (scope_of pass.old.checker) (parameters_of parameters.now)) (named_in_list_of (scope_of pass.old.checker) (parameters_of parameters.now)) pass.old pass.new) }
+    ensures { IfOk result (PassesParameters (parameters_of parameters.now) pass.old pass.new) }
 {
     if is_void_alone(parameters) {
         return Ok(Some(pass.checker.no_parameters()?));
@@ -194,8 +187,8 @@ fn one_parameter(
     names: &mut IndexSet<Vec<u8>>,
     parameter: &Parameter,
 ) -> Result<Option<CType>, AllocError>
-    ensures found { IfOk result (Passes IsType (parameter_rule (scope_of pass.old.checker) (names_of names.old.keys) (words_tree (out-Parameter parameter.now).simple) (optional_of (out-Parameter parameter.now).declarator)) (named_parameter (scope_of pass.old.checker) (words_tree (out-Parameter parameter.now).simple) (optional_of (out-Parameter parameter.now).declarator)) pass.old pass.new) }
-    ensures names { OnOk result (SameNames (names_of names.new.keys) (rules.with_name (rules.optional_name (optional_of (out-Parameter parameter.now).declarator)) (names_of names.old.keys))) }
+    ensures found { IfOk result (PassesParameter (names_of names.old.keys) parameter.now pass.old pass.new) }
+    ensures names { OnOk result (AddsName (names_of names.old.keys) (names_of names.new.keys) (parameter_name parameter.now)) }
 {
     let name = optional_name(&parameter.declarator);
     let here = name_place(name, parameter.simple.place);

@@ -5,7 +5,7 @@ ghost use Rattle.c_syntax.specs.Views.{name_tree};
 ghost use Rattle.c_typed.specs.Types as T;
 ghost use Rattle.c_typed.specs.Table.{Stands, type_in, ListStands, types_in};
 ghost use Rattle.c_typed.specs.Kept.{IsObject};
-ghost use Rattle.c_rules.specs.Known.{with_known, give, also, unknown};
+ghost use Rattle.c_rules.specs.Known.{with_known, give, unknown};
 ghost use Rattle.c_types_state.specs.Checkers.{names_of};
 ghost use Rattle.c_rules.specs.Expressions as rules;
 ghost use Rattle.c_types_state.specs.Finding.{Finds, IsType, IsTypes, AllStand, each_in};
@@ -13,7 +13,8 @@ ghost use Rattle.c_types_state.specs.NameTables.{scope_of};
 ghost use Rattle.c_types_state.specs.Staying.{IsSame};
 ghost use Rattle.c_types_expressions.specs.Roles.{role_of, length_by};
 ghost use Rattle.c_types_expressions.specs.Passes.{TypesStand, list_in};
-ghost use Rattle.c_types_expressions.specs.Derived.{element_rule, result_rule, IsElement, SameNames};
+ghost use Rattle.c_types_expressions.specs.Derived.{element_rule, result_rule, function_rule, IsElement};
+ghost use Rattle.c_types_expressions.specs.Parts.{OfType, NotesName, AddsName};
 
 use crate::role::LengthRole;
 use c_num::IntType;
@@ -30,7 +31,7 @@ use text_place::Pos;
 /// The type of an array's elements: a complete object type. The declared name, or what stands for it, is here.
 pub(crate) fn as_element(checker: &mut Checker, here: Pos, element: Option<CType>) -> Option<CType>
     requires { AllStand Stands checker.old.table element }
-    ensures { Finds IsElement (with_known (each_in type_in checker.old.table element) (element_rule (scope_of checker.old) here)) checker.old checker.new result }
+    ensures { OfType IsElement (element_rule (scope_of checker.old) here) element checker.old checker.new result }
 {
     let c_type = element?;
     let is_complete = checker.is_complete(c_type);
@@ -121,7 +122,7 @@ pub(crate) fn array_of(
     length: Option<u64>,
 ) -> Result<Option<CType>, AllocError>
     requires { AllStand IsObject checker.old.table element }
-    ensures { IfOk result (Finds IsType (with_known (each_in type_in checker.old.table element) (λ c_type. with_known length (λ n. give (T.Array c_type n)))) checker.old checker.new) }
+    ensures { IfOk result (OfType IsType (λ c_type. with_known length (λ n. give (T.Array c_type n))) element checker.old checker.new) }
 {
     match (element, length) {
         (Some(element), Some(length)) => Ok(Some(checker.array_of(element, length)?)),
@@ -134,7 +135,7 @@ pub(crate) fn array_of(
 /// The type of a function's result: no array, function or structure.
 pub(crate) fn as_result(checker: &mut Checker, here: Pos, returned: Option<CType>) -> Option<CType>
     requires { AllStand Stands checker.old.table returned }
-    ensures { Finds IsType (with_known (each_in type_in checker.old.table returned) (result_rule here)) checker.old checker.new result }
+    ensures { OfType IsType (result_rule here) returned checker.old checker.new result }
 {
     let c_type = returned?;
     let can_return = match checker.shape(c_type) {
@@ -169,7 +170,7 @@ pub(crate) fn function_of(
 ) -> Result<Option<CType>, AllocError>
     requires returned { AllStand Stands checker.old.table returned }
     requires parameters { AllStand ListStands checker.old.table parameters }
-    ensures { IfOk result (Finds IsType (with_known (each_in type_in checker.old.table returned) (λ c_type. with_known (each_in types_in checker.old.table parameters) (λ types. give (T.Function c_type types)))) checker.old checker.new) }
+    ensures { IfOk result (OfType IsType (function_rule (each_in types_in checker.old.table parameters)) returned checker.old checker.new) }
 {
     match (returned, parameters) {
         (Some(returned), Some(parameters)) => Ok(Some(checker.function(returned, parameters)?)),
@@ -199,8 +200,8 @@ pub(crate) fn note_parameter(
     names: &mut IndexSet<Vec<u8>>,
     name: Option<&Name>,
 ) -> Result<(), AllocError>
-    ensures found { OnOk result (Finds IsSame (also (rules.name_clash (names_of names.old.keys) (option_map (λ name. name_tree name.now) name.entry)) (give (tt {0}))) checker.old checker.new (Some (tt {0}))) }
-    ensures names { OnOk result (SameNames (names_of names.new.keys) (rules.with_name (option_map (λ name. name_tree name.now) name.entry) (names_of names.old.keys))) }
+    ensures found { OnOk result (NotesName (names_of names.old.keys) (option_map (λ name. name_tree name.now) name.entry) checker.old checker.new) }
+    ensures names { OnOk result (AddsName (names_of names.old.keys) (names_of names.new.keys) (option_map (λ name. name_tree name.now) name.entry)) }
 {
     let Some(name) = name else {
         return Ok(());
@@ -214,21 +215,21 @@ pub(crate) fn note_parameter(
     Ok(())
 }
 
-/// The type of a parameter, adjusted (C17 6.7.6.3 paragraphs 7 and 8): no `void` and no structure.
+/// The type of a parameter, adjusted (C17 6.7.6.3 paragraphs 4, 7 and 8): that of a complete object, and no structure.
 pub fn parameter_type(
     checker: &mut Checker,
     here: Pos,
     named: Option<CType>,
 ) -> Result<Option<CType>, AllocError>
     requires { AllStand Stands checker.old.table named }
-    ensures { IfOk result (Finds IsType (with_known (each_in type_in checker.old.table named) (rules.parameter_type here)) checker.old checker.new) }
+    ensures { IfOk result (OfType IsType (rules.parameter_type (scope_of checker.old) here) named checker.old checker.new) }
 {
     let Some(named) = named else {
         return Ok(None);
     };
     let c_type = decayed(checker, named)?;
-    let is_object = !is_void(checker, c_type);
-    if !checker.require(is_object, TypeRule::T05, here) {
+    let is_complete = checker.is_complete(c_type);
+    if !checker.require(is_complete, TypeRule::T05, here) {
         return Ok(None);
     }
     let is_value = !is_struct(checker, c_type);

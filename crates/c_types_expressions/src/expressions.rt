@@ -1,14 +1,11 @@
 // Expressions (C17 6.5).
 
-ghost use Rattle.std.specs.Prelude.{IfOk, Some};
+ghost use Rattle.std.specs.Prelude.{IfOk};
 ghost use Rattle.c_syntax.specs.Trees as Trees;
 ghost use Rattle.c_syntax.specs.Views.{expr_tree, arguments_of, type_tree};
-ghost use Rattle.c_rules.specs.Expressions as rules;
-ghost use Rattle.c_types_state.specs.Finding.{IsExpr};
 ghost use Rattle.c_types_state.specs.NameTables.{scope_of};
-ghost use Rattle.c_types_expressions.specs.Named.{named_in, named_in_arguments};
-ghost use Rattle.c_types_expressions.specs.Passes.{Passes, IsArguments, arguments_checked};
-ghost use Rattle.c_types_expressions.specs.Forms.{called, named_in_call, FindsLibrary};
+ghost use Rattle.c_types_expressions.specs.Forms.{FindsLibrary};
+ghost use Rattle.c_types_expressions.specs.Parts.{PassesExpr, PassesCall, PassesArguments};
 
 use crate::constants::{constant, grouped, literal, null};
 use crate::declarators::type_named;
@@ -32,7 +29,7 @@ use text_place::Pos;
 /// An expression: what is known of it, where it violates nothing that is needed for that.
 #[cycle(expr)]
 pub fn expr(pass: &mut Pass, tree: &Expr) -> Result<Option<Known>, AllocError>
-    ensures { IfOk result (Passes IsExpr (rules.expr (scope_of pass.old.checker) (expr_tree tree.now)) (named_in (scope_of pass.old.checker) (expr_tree tree.now)) pass.old pass.new) }
+    ensures { IfOk result (PassesExpr (expr_tree tree.now) pass.old pass.new) }
 {
     match tree {
         Expr::Named(name) => named(&mut pass.checker, name),
@@ -40,7 +37,10 @@ pub fn expr(pass: &mut Pass, tree: &Expr) -> Result<Option<Known>, AllocError>
             value,
             int_type,
             ..
-        } => Ok(Some(constant(pass.alloc(), *int_type, i128::from(*value))?)),
+        } => {
+            let value = convert(i128::from(*value), *int_type);
+            Ok(Some(constant(pass.alloc(), *int_type, value)?))
+        }
         Expr::Character { byte, .. } => {
             let value = convert(i128::from(*byte), IntType::Char);
             Ok(Some(constant(pass.alloc(), IntType::Int, value)?))
@@ -136,7 +136,7 @@ pub fn expr(pass: &mut Pass, tree: &Expr) -> Result<Option<Known>, AllocError>
 /// `a[i]` (C17 6.5.2.1)
 #[cycle(expr)]
 fn index_expr(pass: &mut Pass, array: &Expr, index: &Expr) -> Result<Option<Known>, AllocError>
-    ensures { IfOk result (Passes IsExpr (rules.expr (scope_of pass.old.checker) (Trees.Index (expr_tree array.now) (expr_tree index.now))) (named_in (scope_of pass.old.checker) (Trees.Index (expr_tree array.now) (expr_tree index.now))) pass.old pass.new) }
+    ensures { IfOk result (PassesExpr (Trees.Index (expr_tree array.now) (expr_tree index.now)) pass.old pass.new) }
 {
     let left_place = place_of(array);
     let right_place = place_of(index);
@@ -154,7 +154,7 @@ fn call_expr(
     function: &Expr,
     arguments: &[Expr],
 ) -> Result<Option<Known>, AllocError>
-    ensures { IfOk result (Passes IsExpr (called (scope_of pass.old.checker) (expr_tree function.now) (arguments_of arguments.now)) (named_in_call (scope_of pass.old.checker) (expr_tree function.now) (arguments_of arguments.now)) pass.old pass.new) }
+    ensures { IfOk result (PassesCall (expr_tree function.now) (arguments_of arguments.now) pass.old pass.new) }
 {
     let values = argument_values(pass, arguments)?;
     let known = match library_called(&mut pass.checker, function)? {
@@ -167,7 +167,7 @@ fn call_expr(
 /// The values of arguments, in their order.
 #[cycle(expr)]
 fn argument_values(pass: &mut Pass, arguments: &[Expr]) -> Result<Vec<Argument>, AllocError>
-    ensures { IfOk result (λ made. Passes IsArguments (arguments_checked (rules.argument_values (scope_of pass.old.checker) (arguments_of arguments.now))) (named_in_arguments (scope_of pass.old.checker) (arguments_of arguments.now)) pass.old pass.new (Some made)) }
+    ensures { IfOk result (PassesArguments (arguments_of arguments.now) pass.old pass.new) }
 {
     let mut values = Vec::new(pass.alloc());
     for argument in arguments {
@@ -206,7 +206,7 @@ fn cast_expr(
     type_name: &TypeName,
     operand: &Expr,
 ) -> Result<Option<Known>, AllocError>
-    ensures { IfOk result (Passes IsExpr (rules.expr (scope_of pass.old.checker) (Trees.Cast place (type_tree type_name.now) (expr_tree operand.now))) (named_in (scope_of pass.old.checker) (Trees.Cast place (type_tree type_name.now) (expr_tree operand.now))) pass.old pass.new) }
+    ensures { IfOk result (PassesExpr (Trees.Cast place (type_tree type_name.now) (expr_tree operand.now)) pass.old pass.new) }
 {
     let operand_place = place_of(operand);
     let c_type = type_named(pass, type_name)?;
@@ -223,7 +223,7 @@ fn binary_expr(
     left: &Expr,
     right: &Expr,
 ) -> Result<Option<Known>, AllocError>
-    ensures { IfOk result (Passes IsExpr (rules.expr (scope_of pass.old.checker) (Trees.Binary operator (expr_tree left.now) (expr_tree right.now))) (named_in (scope_of pass.old.checker) (Trees.Binary operator (expr_tree left.now) (expr_tree right.now))) pass.old pass.new) }
+    ensures { IfOk result (PassesExpr (Trees.Binary operator (expr_tree left.now) (expr_tree right.now)) pass.old pass.new) }
 {
     let place = place_of(left);
     let right_place = place_of(right);
@@ -242,7 +242,7 @@ fn conditional_expr(
     then: &Expr,
     otherwise: &Expr,
 ) -> Result<Option<Known>, AllocError>
-    ensures { IfOk result (Passes IsExpr (rules.expr (scope_of pass.old.checker) (Trees.Conditional (expr_tree condition.now) (expr_tree then.now) (expr_tree otherwise.now))) (named_in (scope_of pass.old.checker) (Trees.Conditional (expr_tree condition.now) (expr_tree then.now) (expr_tree otherwise.now))) pass.old pass.new) }
+    ensures { IfOk result (PassesExpr (Trees.Conditional (expr_tree condition.now) (expr_tree then.now) (expr_tree otherwise.now)) pass.old pass.new) }
 {
     let whole = place_of(condition);
     let then_place = place_of(then);
@@ -264,7 +264,7 @@ fn assign_expr(
     object: &Expr,
     value: &Expr,
 ) -> Result<Option<Known>, AllocError>
-    ensures { IfOk result (Passes IsExpr (rules.expr (scope_of pass.old.checker) (Trees.Assign operator (expr_tree object.now) (expr_tree value.now))) (named_in (scope_of pass.old.checker) (Trees.Assign operator (expr_tree object.now) (expr_tree value.now))) pass.old pass.new) }
+    ensures { IfOk result (PassesExpr (Trees.Assign operator (expr_tree object.now) (expr_tree value.now)) pass.old pass.new) }
 {
     let op = operator_of(operator);
     let place = place_of(object);

@@ -2,15 +2,15 @@
 
 ghost use Rattle.std.specs.Prelude.{◌≡◌, IfOk};
 ghost use Rattle.c_syntax.specs.Views.{name_tree};
-ghost use Rattle.c_typed.specs.Table.{Interned, Stands, type_in};
-ghost use Rattle.c_rules.specs.Known.{with_known};
+ghost use Rattle.c_typed.specs.Table.{Interned, Stands};
 ghost use Rattle.c_rules.specs.Operators as rules;
-ghost use Rattle.c_types_state.specs.Finding.{Finds, IsExpr, ExprStands, expr_in, AllStand, each_in, condition_in};
+ghost use Rattle.c_types_state.specs.Finding.{IsExpr, ExprStands, expr_in, AllStand, each_in};
 ghost use Rattle.c_types_state.specs.NameTables.{scope_of};
-ghost use Rattle.c_types_operands.specs.Operands.{OperandStands, operand_in, TargetStands, target_in};
+ghost use Rattle.c_types_operands.specs.Operands.{OperandStands, operand_in, TargetStands};
 ghost use Rattle.c_types_calls.specs.Arguments.{ArgumentsStand, arguments_in};
 ghost use Rattle.c_types_calls.specs.Calls.{call_rule_on};
 ghost use Rattle.c_types_expressions.specs.Forms.{size_rule, ConditionStands};
+ghost use Rattle.c_types_expressions.specs.Parts.{OfType, OfExpr, OfOperand, OfOperands, OfCast, OfChoice, OfTarget};
 
 use c_num::BinOp;
 use c_syntax::{BinaryOperator, Name};
@@ -58,7 +58,7 @@ pub(crate) fn element_of(
 ) -> Result<Option<Known>, AllocError>
     requires left { AllStand OperandStands checker.old.table left }
     requires right { AllStand OperandStands checker.old.table right }
-    ensures { IfOk result (Finds IsExpr (with_known (each_in operand_in checker.old.table left) (λ a. with_known (each_in operand_in checker.old.table right) (rules.indexed (scope_of checker.old) left_place right_place a))) checker.old checker.new) }
+    ensures { IfOk result (OfOperands (rules.indexed (scope_of checker.old) left_place right_place) left right checker.old checker.new) }
 {
     match (left, right) {
         (Some(left), Some(right)) => indexed(checker, left_place, right_place, left, right),
@@ -74,7 +74,7 @@ pub(crate) fn member_of(
     object: Option<Known>,
 ) -> Result<Option<Known>, AllocError>
     requires { AllStand ExprStands checker.old.table object }
-    ensures { IfOk result (Finds IsExpr (with_known (each_in expr_in checker.old.table object) (rules.object_member (scope_of checker.old) whole (name_tree member.now))) checker.old checker.new) }
+    ensures { IfOk result (OfExpr (rules.object_member (scope_of checker.old) whole (name_tree member.now)) object checker.old checker.new) }
 {
     match object {
         Some(object) => object_member(checker, whole, member, object),
@@ -90,7 +90,7 @@ pub(crate) fn pointed_member_of(
     pointer: Option<Operand>,
 ) -> Result<Option<Known>, AllocError>
     requires { AllStand OperandStands checker.old.table pointer }
-    ensures { IfOk result (Finds IsExpr (with_known (each_in operand_in checker.old.table pointer) (rules.pointer_member (scope_of checker.old) whole (name_tree member.now))) checker.old checker.new) }
+    ensures { IfOk result (OfOperand (rules.pointer_member (scope_of checker.old) whole (name_tree member.now)) pointer checker.old checker.new) }
 {
     match pointer {
         Some(pointer) => pointer_member(checker, whole, member, pointer),
@@ -106,7 +106,7 @@ pub(crate) fn stepped(
     object: Option<Known>,
 ) -> Result<Option<Known>, AllocError>
     requires { AllStand ExprStands checker.old.table object }
-    ensures { IfOk result (Finds IsExpr (with_known (each_in expr_in checker.old.table object) (rules.stepped (scope_of checker.old) stepping place place)) checker.old checker.new) }
+    ensures { IfOk result (OfExpr (rules.stepped (scope_of checker.old) stepping place place) object checker.old checker.new) }
 {
     Ok(into_known(postfixed(checker, stepping, place, place, object)?))
 }
@@ -118,7 +118,7 @@ pub(crate) fn size_of_expr(
     operand: Option<Known>,
 ) -> Result<Option<Known>, AllocError>
     requires { AllStand ExprStands checker.old.table operand }
-    ensures { IfOk result (Finds IsExpr (with_known (each_in expr_in checker.old.table operand) (size_rule (scope_of checker.old) place)) checker.old checker.new) }
+    ensures { IfOk result (OfExpr (size_rule (scope_of checker.old) place) operand checker.old checker.new) }
 {
     match operand {
         Some(operand) => Ok(into_known(size_of(checker, place, operand.c_type)?)),
@@ -133,7 +133,7 @@ pub(crate) fn size_of_type(
     c_type: Option<CType>,
 ) -> Result<Option<Known>, AllocError>
     requires { AllStand Stands checker.old.table c_type }
-    ensures { IfOk result (Finds IsExpr (with_known (each_in type_in checker.old.table c_type) (rules.size_of (scope_of checker.old) place)) checker.old checker.new) }
+    ensures { IfOk result (OfType IsExpr (rules.size_of (scope_of checker.old) place) c_type checker.old checker.new) }
 {
     match c_type {
         Some(c_type) => Ok(into_known(size_of(checker, place, c_type)?)),
@@ -150,7 +150,7 @@ pub(crate) fn cast_of(
 ) -> Result<Option<Known>, AllocError>
     requires c_type { AllStand Stands checker.old.table c_type }
     requires operand { AllStand OperandStands checker.old.table operand }
-    ensures { IfOk result (Finds IsExpr (with_known (each_in type_in checker.old.table c_type) (λ t. with_known (each_in operand_in checker.old.table operand) (rules.cast_to (scope_of checker.old) whole t))) checker.old checker.new) }
+    ensures { IfOk result (OfCast (rules.cast_to (scope_of checker.old) whole) c_type operand checker.old checker.new) }
 {
     match (c_type, operand) {
         (Some(c_type), Some(operand)) => {
@@ -171,7 +171,7 @@ pub(crate) fn combination_of(
 ) -> Result<Option<Known>, AllocError>
     requires left { AllStand OperandStands checker.old.table left }
     requires right { AllStand OperandStands checker.old.table right }
-    ensures { IfOk result (Finds IsExpr (with_known (each_in operand_in checker.old.table left) (λ a. with_known (each_in operand_in checker.old.table right) (rules.combined (scope_of checker.old) operator whole right_place a))) checker.old checker.new) }
+    ensures { IfOk result (OfOperands (rules.combined (scope_of checker.old) operator whole right_place) left right checker.old checker.new) }
 {
     match (left, right) {
         (Some(left), Some(right)) => Ok(into_known(combined(
@@ -197,7 +197,7 @@ pub(crate) fn choice_of(
     requires condition { AllStand ConditionStands checker.old.table condition }
     requires then { AllStand OperandStands checker.old.table then }
     requires otherwise { AllStand OperandStands checker.old.table otherwise }
-    ensures { IfOk result (Finds IsExpr (with_known (each_in condition_in checker.old.table condition) (λ c. with_known (each_in operand_in checker.old.table then) (λ a. with_known (each_in operand_in checker.old.table otherwise) (rules.choice whole c a)))) checker.old checker.new) }
+    ensures { IfOk result (OfChoice (rules.choice whole) condition then otherwise checker.old checker.new) }
 {
     match (condition, then, otherwise) {
         (Some(condition), Some(then), Some(otherwise)) => {
@@ -218,7 +218,7 @@ pub(crate) fn assignment_of(
 ) -> Result<Option<Known>, AllocError>
     requires target { AllStand TargetStands checker.old.table target }
     requires operand { AllStand OperandStands checker.old.table operand }
-    ensures { IfOk result (Finds IsExpr (with_known (each_in target_in checker.old.table target) (λ object. with_known (each_in operand_in checker.old.table operand) (rules.assignment operator whole value_place object))) checker.old checker.new) }
+    ensures { IfOk result (OfTarget (rules.assignment operator whole value_place) target operand checker.old checker.new) }
 {
     match (target, operand) {
         (Some(target), Some(operand)) => Ok(into_known(assignment(
@@ -242,7 +242,7 @@ pub(crate) fn call_of(
 ) -> Result<Option<Known>, AllocError>
     requires function { AllStand ExprStands checker.old.table function }
     requires arguments { ArgumentsStand checker.old.table arguments.items }
-    ensures { IfOk result (Finds IsExpr (with_known (each_in expr_in checker.old.table function) (call_rule_on whole (arguments_in checker.old.table arguments.items))) checker.old checker.new) }
+    ensures { IfOk result (OfExpr (call_rule_on whole (arguments_in checker.old.table arguments.items)) function checker.old checker.new) }
 {
     Ok(into_known(call(checker, whole, function, arguments)?))
 }

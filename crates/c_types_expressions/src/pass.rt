@@ -21,11 +21,9 @@ pub struct Pass {
 
 impl Pass {
     ghost use Rattle.std.specs.Prelude.{◌≡◌, IfOk, OnOk, Some, None, [], List};
-    ghost use Rattle.c_typed.specs.Table.{KnownStands, known_in, type_in};
+    ghost use Rattle.c_typed.specs.Table.{KnownStands, known_in};
     ghost use Rattle.c_types_state.specs.NameTables.{no_state};
-    ghost use Rattle.c_types_state.specs.Finding.{each_in};
-    ghost use Rattle.c_types_expressions.specs.Named.{named_at};
-    ghost use Rattle.c_types_expressions.specs.Passes.{Names};
+    ghost use Rattle.c_types_expressions.specs.Parts.{NamesAt};
 
     /// Before a program.
     pub fn new(alloc: Global) -> Pass
@@ -47,7 +45,7 @@ impl Pass {
     pub fn name_type(&mut self, place: Pos, c_type: Option<CType>) -> Result<(), AllocError>
         requires { KnownStands self.old.checker.table c_type }
         ensures checker { OnOk result (self.new.checker ≡ self.old.checker) }
-        ensures names { OnOk result (Names (named_at place (each_in type_in self.old.checker.table c_type)) self.old.checker.table self.old.named.items self.new.named.items) }
+        ensures names { OnOk result (NamesAt place c_type self.old self.new) }
     {
         if let Some(c_type) = c_type {
             self.named.push(NamedType { place, c_type })?;

@@ -4,10 +4,11 @@ ghost use Rattle.std.specs.Prelude.{◌≡◌, ◌++◌, map, option_map, Some, 
 ghost use Rattle.c_typed.specs.Table.{Stands, type_in, ListStands, types_in, structs_in};
 ghost use Rattle.c_typed.specs.Layouts.{layouts};
 ghost use Rattle.c_typed.specs.DefinitionViews.{program_of, ProgramStands, function_in, FunctionsStand, TypesStand, global_in, GlobalsStand, literal_of};
-ghost use Rattle.c_typed.specs.StatementViews.{local_in, LocalsStand, start_in, StartStands, stmt_in, StmtStands, block_in, BlockStands, switch_in, SwitchStands};
+ghost use Rattle.c_typed.specs.StatementViews.{local_in, LocalsStand, start_in, StartStands, stmt_in, StmtStands};
+ghost use Rattle.c_typed.specs.StatementViews.{block_in, BlockStands, switch_in, SwitchStands};
 ghost use Rattle.c_types_expressions.specs.Passes.{named_type, AllNamedStand};
 ghost use Rattle.c_types_limits.specs.Limits as rules;
-ghost use Rattle.c_types_limits.specs.Measures.{measured, excess_of};
+ghost use Rattle.c_types_limits.specs.Measures.{measured, above_in, excess_in, size_of_statics, excess_of};
 
 use c_rules::is_before;
 use c_typed::{
@@ -127,7 +128,7 @@ fn first_excess(
     named: &[NamedType],
 ) -> Option<u64>
     requires { AllNamedStand types.now named.now }
-    ensures { result ≡ rules.excess_count (rules.first_excess (measured (layouts (structs_in types.now)) measure) greatest (map (named_type types.now) named.now)) }
+    ensures { result ≡ excess_in types.now measure greatest named.now }
 {
     let mut first: Option<(Pos, u64)> = None;
     for one in named {
@@ -152,7 +153,7 @@ fn earlier(first: Option<(Pos, u64)>, place: Pos, count: u64) -> (Pos, u64)
 #[cycle(parts)]
 fn part_above(types: &TypeTable, measure: Measure, greatest: u64, c_type: CType) -> Option<u64>
     requires { Stands types.now c_type }
-    ensures { result ≡ rules.first_above greatest (map (measured (layouts (structs_in types.now)) measure) (rules.parts (type_in types.now c_type))) }
+    ensures { result ≡ above_in types.now measure greatest (rules.parts (type_in types.now c_type)) }
 {
     let mut rest = c_type;
     loop {
@@ -182,7 +183,7 @@ fn function_above(
 ) -> Option<u64>
     requires returned { Stands types.now returned }
     requires parameters { ListStands types.now parameters }
-    ensures { result ≡ rules.first_above greatest (map (measured (layouts (structs_in types.now)) measure) (rules.parts (type_in types.now returned) ++ rules.parts_of_each (types_in types.now parameters))) }
+    ensures { result ≡ above_in types.now measure greatest (rules.parts (type_in types.now returned) ++ rules.parts_of_each (types_in types.now parameters)) }
 {
     if let Some(count) = part_above(types, measure, greatest, returned) {
         return Some(count);
@@ -313,7 +314,7 @@ fn stmt_size(types: &TypeTable, stmt: &Stmt) -> u64
 /// The size of all variables outside functions and all literals.
 fn static_size(program: &Program) -> u64
     requires { GlobalsStand program.now.types program.now.globals.items }
-    ensures { result ≡ rules.added (rules.globals_size (layouts (structs_in program.now.types)) (map (global_in program.now.types) program.now.globals.items)) (rules.literals_size (map literal_of program.now.literals.items)) }
+    ensures { result ≡ size_of_statics program.now }
 {
     globals_size(&program.types, program.globals.as_slice()).saturating_add(literals_size(
         program.literals.as_slice(),

@@ -1,6 +1,6 @@
 // Addresses that are known before the program runs (C17 6.6 paragraph 9).
 
-ghost use Rattle.std.specs.Prelude.{◌≡◌, pos, ◌+ℤ◌, neg_ℤ, IfOk};
+ghost use Rattle.std.specs.Prelude.{◌≡◌, pos, ◌+ℤ◌, IfOk};
 ghost use Rattle.c_typed.specs.Table.{Interned, Stands, type_in};
 ghost use Rattle.c_rules.specs.Known as known;
 ghost use Rattle.c_typed.specs.Types as types;
@@ -9,6 +9,7 @@ ghost use Rattle.c_types_state.specs.Finding.{AddressStands, address_in};
 ghost use Rattle.c_types_state.specs.NameTables.{scope_of};
 ghost use Rattle.c_types_operands.specs.Operands.{directed};
 ghost use Rattle.c_types_operands.specs.Directions.{directed_number};
+ghost use Rattle.c_types_operands.specs.Promises.{IsRetyped};
 
 use c_rules::Constness;
 use c_typed::{CType, Part, Shape};
@@ -144,7 +145,7 @@ pub fn retyped(checker: &Checker, target: CType, address: Address) -> Address
     requires target { Stands checker.now.table target }
     requires address { AddressStands checker.now.table address }
     ensures stands { AddressStands checker.now.table result }
-    ensures retyped { address_in checker.now.table result ≡ spec.retyped (scope_of checker.now).completed (type_in checker.now.table target) (address_in checker.now.table address) }
+    ensures retyped { IsRetyped checker.now target address result }
 {
     match &address {
         Address::Element { c_type, .. } => {

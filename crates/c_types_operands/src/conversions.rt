@@ -6,6 +6,7 @@ ghost use Rattle.c_typed.specs.Typed as typed;
 ghost use Rattle.c_typed.specs.Views.{value_in, ValueStands};
 ghost use Rattle.c_rules.specs.Operators as rules;
 ghost use Rattle.c_types_operands.specs.Operands.{OperandStands, operand_in};
+ghost use Rattle.c_types_operands.specs.Promises.{MakesValue, MakesInEach};
 
 use crate::operands::Operand;
 use crate::types::{is_integer, is_object_pointer, is_pointer, is_void_pointer, promoted_type};
@@ -50,7 +51,7 @@ pub fn converted(
     requires target { Stands checker.now.table target }
     requires operand { OperandStands checker.now.table operand }
     ensures stands { IfOk result (λ value. ValueStands checker.now.table value.value) }
-    ensures converted { IfOk result (λ value. value_in checker.now.table value.value ≡ rules.converted place (type_in checker.now.table target) (operand_in checker.now.table operand)) }
+    ensures converted { MakesValue checker.now.table (rules.converted place (type_in checker.now.table target) (operand_in checker.now.table operand)) result }
 {
     let alloc = checker.alloc();
     let c_type = operand.c_type;
@@ -60,7 +61,11 @@ pub fn converted(
         Shape::Integer(int_type) => integer_as(alloc, int_type, value),
         Shape::Pointer(pointed) => {
             if is_null {
-                Ok(Box::new(alloc, Value::MadeNull(value))?)
+                let null = Value::MadeNull {
+                    target: pointed,
+                    value,
+                };
+                Ok(Box::new(alloc, null)?)
             } else if checker.same(target, c_type) {
                 Ok(value)
             } else {
@@ -76,13 +81,17 @@ pub fn converted(
     }
 }
 
-/// A value that is left as it is, but for a null pointer constant.
-pub fn unconverted(alloc: Global, operand: Operand) -> Result<Box<Value>, AllocError>
-    ensures stands { IfOk result (λ value. (table : Interned) → OperandStands table operand → ValueStands table value.value) }
-    ensures unconverted { IfOk result (λ value. (table : Interned) → value_in table value.value ≡ rules.unconverted_value (operand_in table operand)) }
+/// A value that is left as it is, but for a null pointer constant, which becomes a pointer to the target.
+pub fn unconverted(alloc: Global, target: CType, operand: Operand) -> Result<Box<Value>, AllocError>
+    ensures stands { IfOk result (λ value. (table : Interned) → Stands table target → OperandStands table operand → ValueStands table value.value) }
+    ensures unconverted { MakesInEach (λ table. rules.unconverted_value (type_in table target) (operand_in table operand)) result }
 {
     if operand.is_null {
-        Ok(Box::new(alloc, Value::MadeNull(operand.into_value()))?)
+        let null = Value::MadeNull {
+            target,
+            value: operand.into_value(),
+        };
+        Ok(Box::new(alloc, null)?)
     } else {
         Ok(operand.into_value())
     }
@@ -95,7 +104,7 @@ pub fn integer_as(
     value: Box<Value>,
 ) -> Result<Box<Value>, AllocError>
     ensures stands { IfOk result (λ made. (table : Interned) → ValueStands table value.value → ValueStands table made.value) }
-    ensures converted { IfOk result (λ made. (table : Interned) → value_in table made.value ≡ typed.Converted int_type (value_in table value.value)) }
+    ensures converted { MakesInEach (λ table. typed.Converted int_type (value_in table value.value)) result }
 {
     Ok(Box::new(alloc, Value::Converted { int_type, value })?)
 }
@@ -104,7 +113,7 @@ pub fn integer_as(
 pub fn promoted_value(checker: &Checker, operand: Operand) -> Result<Box<Value>, AllocError>
     requires { OperandStands checker.now.table operand }
     ensures stands { IfOk result (λ value. ValueStands checker.now.table value.value) }
-    ensures promoted { IfOk result (λ value. value_in checker.now.table value.value ≡ rules.promoted_value (operand_in checker.now.table operand)) }
+    ensures promoted { MakesValue checker.now.table (rules.promoted_value (operand_in checker.now.table operand)) result }
 {
     let int_type = promoted_type(checker, operand.c_type);
     integer_as(checker.alloc(), int_type, operand.into_value())

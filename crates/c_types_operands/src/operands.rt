@@ -1,10 +1,7 @@
 // Operands in memory.
 
 ghost use Rattle.std.specs.Prelude.{◌≡◌};
-ghost use Rattle.c_typed.specs.Types as T;
-ghost use Rattle.c_typed.specs.Table.{Interned, Stands, type_in};
-ghost use Rattle.c_typed.specs.Views.{value_in, ValueStands};
-ghost use Rattle.c_rules.specs.Known.{value_of_type, integer_value};
+ghost use Rattle.c_typed.specs.Table.{Interned};
 ghost use Rattle.c_types_state.specs.Finding.{IsExpr};
 
 use crate::constants::is_zero;
@@ -25,11 +22,12 @@ pub struct Operand {
 }
 
 impl Operand {
-    ghost use Rattle.c_types_operands.specs.Operands.{IsOperand, OperandStands, operand_in};
+    ghost use Rattle.c_types_operands.specs.Promises.{IsOfType, IsOfInteger};
+    ghost use Rattle.c_types_operands.specs.Operands.{OperandStands, operand_in};
 
     /// A value of a type, of which nothing else is known.
     pub fn of_type(c_type: CType, value: Box<Value>) -> Operand
-        ensures { (table : Interned) → Stands table c_type → ValueStands table value.value → IsOperand table result (value_of_type (type_in table c_type) (value_in table value.value)) }
+        ensures { IsOfType c_type value result }
     {
         Operand {
             c_type,
@@ -42,7 +40,7 @@ impl Operand {
 
     /// A value of an integer type. A constant zero is a null pointer constant (C17 6.3.2.3 paragraph 3).
     pub fn integer(int_type: IntType, constness: Constness, value: Box<Value>) -> Operand
-        ensures { (table : Interned) → ValueStands table value.value → IsOperand table result (integer_value (T.Integer int_type) constness (value_in table value.value)) }
+        ensures { IsOfInteger int_type constness value result }
     {
         Operand {
             constness,

@@ -1,12 +1,13 @@
 // Expressions for their values (C17 6.3.2.1).
 
 ghost use Rattle.std.specs.Prelude.{◌≡◌, Some, IfOk};
-ghost use Rattle.c_typed.specs.Table.{Interned, Stands, type_in};
+ghost use Rattle.c_typed.specs.Table.{Interned, Stands};
 ghost use Rattle.c_typed.specs.Views.{value_in, ValueStands};
-ghost use Rattle.c_rules.specs.Known.{give, given, value_rule, read_value, value_of_typed, value_address, with_known};
+ghost use Rattle.c_rules.specs.Known.{give, read_value, value_of_typed};
 ghost use Rattle.c_rules.specs.Operators as rules;
-ghost use Rattle.c_types_state.specs.Finding.{Finds, AllStand, each_in, ExprStands, expr_in, TypedStands, typed_in, AddressStands, address_in, IsCondition};
+ghost use Rattle.c_types_state.specs.Finding.{Finds, AllStand, ExprStands, expr_in, TypedStands, typed_in, AddressStands, IsCondition};
 ghost use Rattle.c_types_operands.specs.Operands.{IsOperand, OperandStands, operand_in};
+ghost use Rattle.c_types_operands.specs.Promises.{FindsOfPart, value_of_part, scalar_of_part, integer_of_part, condition_of_part, MakesInEach, IsValueAddress};
 
 use crate::addresses::first_element;
 use crate::operands::Operand;
@@ -24,7 +25,7 @@ pub fn as_value(
     part: Option<Known>,
 ) -> Result<Option<Operand>, AllocError>
     requires { AllStand ExprStands checker.old.table part }
-    ensures { IfOk result (Finds IsOperand (with_known (each_in expr_in checker.old.table part) (value_rule place)) checker.old checker.new) }
+    ensures { FindsOfPart IsOperand (value_of_part place) part checker.old checker.new result }
 {
     let Some(known) = part else {
         return Ok(None);
@@ -67,7 +68,7 @@ fn value_address(
     requires c_type { Stands checker.now.table c_type }
     requires address { AddressStands checker.now.table address }
     ensures stands { IfOk result (AddressStands checker.now.table) }
-    ensures value { IfOk result (λ r. address_in checker.now.table r ≡ value_address (typed_in checker.now.table typed.now) (type_in checker.now.table c_type) (address_in checker.now.table address)) }
+    ensures value { IsValueAddress checker.now.table typed.now c_type address result }
 {
     match typed {
         TypedExpr::Object(_) => {
@@ -89,7 +90,7 @@ pub fn value_from(
     typed: TypedExpr,
 ) -> Result<Box<Value>, AllocError>
     ensures stands { IfOk result (λ value. (table : Interned) → TypedStands table typed → ValueStands table value.value) }
-    ensures value { IfOk result (λ value. (table : Interned) → value_in table value.value ≡ value_of_typed place is_array (typed_in table typed)) }
+    ensures value { MakesInEach (λ table. value_of_typed place is_array (typed_in table typed)) result }
 {
     match typed {
         TypedExpr::Value(value) => Ok(value),
@@ -114,7 +115,7 @@ pub fn as_scalar(
     part: Option<Known>,
 ) -> Result<Option<Operand>, AllocError>
     requires { AllStand ExprStands checker.old.table part }
-    ensures { IfOk result (Finds IsOperand (given (with_known (each_in expr_in checker.old.table part) (value_rule place)) (rules.scalar_rule place)) checker.old checker.new) }
+    ensures { FindsOfPart IsOperand (scalar_of_part place) part checker.old checker.new result }
 {
     let Some(operand) = as_value(checker, place, part)? else {
         return Ok(None);
@@ -133,7 +134,7 @@ pub fn as_integer(
     part: Option<Known>,
 ) -> Result<Option<Operand>, AllocError>
     requires { AllStand ExprStands checker.old.table part }
-    ensures { IfOk result (Finds IsOperand (given (with_known (each_in expr_in checker.old.table part) (value_rule place)) (rules.integer_rule place)) checker.old checker.new) }
+    ensures { FindsOfPart IsOperand (integer_of_part place) part checker.old checker.new result }
 {
     let Some(operand) = as_value(checker, place, part)? else {
         return Ok(None);
@@ -152,7 +153,7 @@ pub fn as_condition(
     part: Option<Known>,
 ) -> Result<Option<Condition>, AllocError>
     requires { AllStand ExprStands checker.old.table part }
-    ensures { IfOk result (Finds IsCondition (given (given (with_known (each_in expr_in checker.old.table part) (value_rule place)) (rules.scalar_rule place)) (λ value. give (rules.condition_of place value))) checker.old checker.new) }
+    ensures { FindsOfPart IsCondition (condition_of_part place) part checker.old checker.new result }
 {
     let Some(operand) = as_scalar(checker, place, part)? else {
         return Ok(None);

@@ -14,7 +14,7 @@ use Rattle.c_types_state.specs.declared.known.Known as memory_known
 use Rattle.c_rules.specs.Known.{OfValue, OfObject, OfFunction, Element, Checked, give, unknown, refuse, also, unless, require, with_known, given, given_two, given_three}
 use Rattle.c_rules.specs.Names.{Scope}
 use Rattle.c_types_state.specs.NameTables.{State, scope_of}
-use Rattle.c_typed.specs.DefinitionViews.{name_of}
+use Rattle.c_typed.specs.DefinitionViews.{static_of}
 use Rattle.c_types_state.specs.Finding.{typed_in, address_in, expr_in, condition_in, TypedStands, AddressStands, ExprStands, IsExpr, IsType, IsTypes, IsCondition, each_in, lesser, noted, IsOption, Finds}
 use Rattle.c_types_state.specs.Staying.{Stays, IsValue, IsObject, IsValues, IsSame, IsSeen}
 use Rattle.c_types_state.proofs.Noted.{noted_append}
@@ -41,7 +41,7 @@ module _ (old new : Interned) (grows : Grows old new) where
   address_stays (A.Function name) h = (tt, refl)
   address_stays (A.Element root parts c_type count index) h =
       let kept = stays old new grows c_type h in
-      (kept.0, λ i. Element (name_of root) parts.items (kept.1 i) count index)
+      (kept.0, λ i. Element (static_of root) parts.items (kept.1 i) count index)
 
   pub expr_stays : (k : memory_known.Known) → ExprStands old k → ExprStands new k × (expr_in new k ≡ expr_in old k)
   expr_stays k h =

@@ -5,3 +5,4 @@ pub mod Noted
 pub mod Findings
 mod Listing
 mod LiteralsAdded
+mod LiteralTypes

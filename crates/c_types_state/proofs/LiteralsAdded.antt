@@ -20,40 +20,39 @@ use Rattle.c_syntax.specs.declared.statement.BlockItem.{BlockItem}
 use Rattle.c_syntax.specs.declared.statement.BlockItem.TheVariants as B
 use Rattle.c_syntax.specs.declared.statement.SwitchItem.{SwitchItem}
 use Rattle.c_syntax.specs.declared.statement.SwitchItem.TheVariants as W
-use Rattle.c_typed.specs.declared.definition.LiteralDef as memory_literal
-use Rattle.c_typed.specs.DefinitionViews.{literal_of}
+use Rattle.c_types_state.specs.declared.literals.Text.{Text}
 use Rattle.c_typed.specs.Typed.{LiteralDef}
 use Rattle.c_rules.specs.Elaborated.{literals_in, literals_in_type, literals_in_optional, literals_in_declarator, literals_in_direct, literals_in_suffixes, literals_in_parameters, literals_in_declarators, literals_in_stmt, literals_in_block, literals_in_switch, literals_in_items}
-use Rattle.c_types_state.specs.Lists.{AddsLiterals, item_literals, suffix_literals}
+use Rattle.c_types_state.specs.Lists.{AddsLiterals, text_of, item_literals, suffix_literals}
 
-pub adds-none : (now : List memory_literal.LiteralDef) → AddsLiterals [] now now
-adds-none now = sym (append-nil (map literal_of now))
+pub adds-none : (now : List Text) → AddsLiterals [] now now
+adds-none now = sym (append-nil (map text_of now))
 
-pub adds-one : (now : List memory_literal.LiteralDef) (one : memory_literal.LiteralDef) → AddsLiterals (literal_of one ∷ []) now (now ++ one ∷ [])
-adds-one now one = map-append literal_of now (one ∷ [])
+pub adds-one : (now : List Text) (one : Text) → AddsLiterals (text_of one ∷ []) now (now ++ one ∷ [])
+adds-one now one = map-append text_of now (one ∷ [])
 
-pub adds-then : (first then : List LiteralDef) (old now new : List memory_literal.LiteralDef)
+pub adds-then : (first then : List LiteralDef) (old now new : List Text)
     → AddsLiterals first old now → AddsLiterals then now new → AddsLiterals (first ++ then) old new
-adds-then first then old now new h k = k ∙ ap (λ ls. ls ++ then) h ∙ append_assoc (map literal_of old) first then
+adds-then first then old now new h k = k ∙ ap (λ ls. ls ++ then) h ∙ append_assoc (map text_of old) first then
 
 -- ---- loops
 
 -- what was added so far, and then what is left, is what all have
-abbrev pub SoFar : List LiteralDef → List LiteralDef → List memory_literal.LiteralDef → List memory_literal.LiteralDef → Type 0
-SoFar all left old now = map literal_of now ++ left ≡ map literal_of old ++ all
+abbrev pub SoFar : List LiteralDef → List LiteralDef → List Text → List Text → Type 0
+SoFar all left old now = map text_of now ++ left ≡ map text_of old ++ all
 
-pub so_far-more : {A : Type 0} (of : List A → List LiteralDef) (items : List A) (here : ℕ) (item : A) (one all : List LiteralDef) (old now new : List memory_literal.LiteralDef)
+pub so_far-more : {A : Type 0} (of : List A → List LiteralDef) (items : List A) (here : ℕ) (item : A) (one all : List LiteralDef) (old now new : List Text)
     → here < length items → item ≡ get_or items here item → of (item ∷ drop (here + 1) items) ≡ one ++ of (drop (here + 1) items)
     → SoFar all (of (drop here items)) old now → AddsLiterals one now new → SoFar all (of (drop (here + 1) items)) old new
 so_far-more of items here item one all old now new within is split far adds =
     let rest = drop (here + 1) items in
-    ap (λ ls. ls ++ of rest) adds ∙ append_assoc (map literal_of now) one (of rest)
-    ∙ ap (λ ls. map literal_of now ++ ls) (sym split ∙ ap (λ i. of (i ∷ rest)) is ∙ sym (ap of (drop_more items here item within))) ∙ far
+    ap (λ ls. ls ++ of rest) adds ∙ append_assoc (map text_of now) one (of rest)
+    ∙ ap (λ ls. map text_of now ++ ls) (sym split ∙ ap (λ i. of (i ∷ rest)) is ∙ sym (ap of (drop_more items here item within))) ∙ far
 
-pub so_far-all : {A : Type 0} (of : List A → List LiteralDef) (items : List A) (here : ℕ) (all : List LiteralDef) (old now : List memory_literal.LiteralDef)
+pub so_far-all : {A : Type 0} (of : List A → List LiteralDef) (items : List A) (here : ℕ) (all : List LiteralDef) (old now : List Text)
     → length items ≤ here → of [] ≡ [] → SoFar all (of (drop here items)) old now → AddsLiterals all old now
 so_far-all of items here all old now end none far =
-    sym (append-nil (map literal_of now)) ∙ ap (λ ls. map literal_of now ++ ls) (sym none ∙ sym (ap of (drop_all here items end))) ∙ far
+    sym (append-nil (map text_of now)) ∙ ap (λ ls. map text_of now ++ ls) (sym none ∙ sym (ap of (drop_all here items end))) ∙ far
 
 -- ---- what one item has
 

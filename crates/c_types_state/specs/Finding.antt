@@ -8,7 +8,7 @@ use Rattle.c_typed.specs.Views.{value_in, object_in, designator_in, ValueStands,
 use Rattle.c_rules.specs.declared.violation.Violation.{Violation}
 use Rattle.c_types_state.specs.declared.known.TypedExpr as memory_typed
 use Rattle.c_types_state.specs.declared.known.TypedExpr.TheVariants as E
-use Rattle.c_typed.specs.DefinitionViews.{name_of}
+use Rattle.c_typed.specs.DefinitionViews.{static_of}
 use Rattle.c_types_state.specs.declared.known.Address as memory_address
 use Rattle.c_types_state.specs.declared.known.Address.TheVariants as A
 use Rattle.c_types_state.specs.declared.known.Known as memory_known
@@ -30,7 +30,7 @@ address_in table A.Unknown = NoAddress
 address_in table A.Outside = Outside
 address_in table A.Null = NullAddress
 address_in table (A.Function name) = FunctionAddress name
-address_in table (A.Element root parts c_type count index) = Element (name_of root) parts.items (type_in table c_type) count index
+address_in table (A.Element root parts c_type count index) = Element (static_of root) parts.items (type_in table c_type) count index
 
 abbrev pub expr_in : Interned → memory_known.Known → Known
 expr_in table known =

@@ -4,3 +4,4 @@ pub mod LocalTables
 pub mod Checkers
 pub mod Staying
 pub mod Lists
+pub mod Listed

@@ -6,7 +6,9 @@ use Rattle.c_syntax.specs.Trees
 use Rattle.c_syntax.specs.Trees.{NameTree, BaseTree, ItemTree}
 use Rattle.c_syntax.specs.Views.{length_tree, parameters_tree}
 use Rattle.c_typed.specs.declared.definition.LiteralDef as memory_literal
-use Rattle.c_typed.specs.DefinitionViews.{literal_of}
+use Rattle.c_typed.specs.DefinitionViews.{literal_of, LiteralStands}
+use Rattle.c_typed.specs.Table.{Interned, Grows}
+use Rattle.c_types_state.specs.declared.literals.Text.{Text}
 use Rattle.c_typed.specs.Typed.{LiteralDef}
 use Rattle.c_rules.specs.Elaborated.{literals_in_length, literals_in_parameters, literals_in_base, literals_in_declarator, literals_in_declarators, literals_in_block}
 use Rattle.c_types_state.specs.NameTables.{State}
@@ -44,6 +46,16 @@ abbrev pub item_literals : ItemTree → List LiteralDef
 item_literals (Trees.Declaration base declarators) = literals_in_base base ++ literals_in_declarators declarators
 item_literals (Trees.Function base declarator place body) = literals_in_base base ++ literals_in_declarator declarator ++ literals_in_block body
 
+-- what a text that was found is
+abbrev pub text_of : Text → LiteralDef
+text_of text = record { place = text.place; bytes = text.bytes }
+
 -- these literals were added
-abbrev pub AddsLiterals : List LiteralDef → List memory_literal.LiteralDef → List memory_literal.LiteralDef → Type 0
-AddsLiterals literals old new = map literal_of new ≡ map literal_of old ++ literals
+abbrev pub AddsLiterals : List LiteralDef → List Text → List Text → Type 0
+AddsLiterals literals old new = map text_of new ≡ map text_of old ++ literals
+
+-- a literal was made of a text, with its type, and all else stays
+pub record MakesLiteral (old new : Interned) (text : Text) (made : memory_literal.LiteralDef) : Type 0 where
+  pub is_text : literal_of made ≡ text_of text
+  pub stands : LiteralStands new made
+  pub grows : Grows old new

@@ -4,7 +4,8 @@ ghost use Rattle.std.specs.Prelude.{◌≡◌, ◌∷◌, ◌++◌, ◌≤◌, t
 ghost use Rattle.c_syntax.specs.Views.{name_tree};
 ghost use Rattle.c_typed.specs.Types as T;
 ghost use Rattle.c_typed.specs.Layouts.{is_complete, layout_of};
-ghost use Rattle.c_typed.specs.Table.{structs_in, Stands, type_in, ListStands, types_in, KnownStands, known_in, TagStands, tag_in, members_of, IsMember, IsMemberType, HasShape, IsSplit, AreComplete, member_entries, completed};
+ghost use Rattle.c_typed.specs.Table.{structs_in, Stands, type_in, ListStands, types_in, KnownStands, known_in, TagStands, tag_in};
+ghost use Rattle.c_typed.specs.Table.{members_of, IsMember, IsMemberType, HasShape, IsSplit, AreComplete, member_entries, completed};
 ghost use Rattle.c_rules.specs.Known.{give, unless};
 ghost use Rattle.c_rules.specs.Names.{Scope, LocalName, declares_tag, is_local_here, meaning_of, with_local, with_file_name, file_name, entered, locals_in};
 ghost use Rattle.c_typed.specs.Names.{contains};
@@ -259,7 +260,8 @@ impl Checker {
     pub fn function(&mut self, returned: CType, parameters: Parameters) -> Result<CType, AllocError>
         requires returned { Stands self.old.table returned }
         requires parameters { ListStands self.old.table parameters }
-        ensures made { IfOk result (λ made. Finds IsType (give (T.Function (type_in self.old.table returned) (types_in self.old.table parameters))) self.old self.new (Some made)) }
+        ensures made { IfOk result (λ made.
+            Finds IsType (give (T.Function (type_in self.old.table returned) (types_in self.old.table parameters))) self.old self.new (Some made)) }
         ensures unmade { OnErr result (self.new ≡ self.old) }
     {
         Ok(self.types.function(returned, parameters)?)
@@ -277,7 +279,8 @@ impl Checker {
     pub fn parameter(&mut self, first: CType, others: Parameters) -> Result<Parameters, AllocError>
         requires first { Stands self.old.table first }
         requires others { ListStands self.old.table others }
-        ensures made { IfOk result (λ made. Finds IsTypes (give (T.MoreTypes (type_in self.old.table first) (types_in self.old.table others))) self.old self.new (Some made)) }
+        ensures made { IfOk result (λ made.
+            Finds IsTypes (give (T.MoreTypes (type_in self.old.table first) (types_in self.old.table others))) self.old self.new (Some made)) }
         ensures unmade { OnErr result (self.new ≡ self.old) }
     {
         Ok(self.types.parameter(first, others)?)
@@ -351,7 +354,8 @@ impl Checker {
     /// Declares a local in the innermost block.
     pub fn declare_local(&mut self, name: &[u8], c_type: Option<CType>) -> Result<(), AllocError>
         requires { KnownStands self.old.table c_type }
-        ensures done { OnOk result (ScopeGrows (with_local name.now (known_in self.old.table.tags self.old.table.entries c_type) (scope_of self.old)) self.old self.new) }
+        ensures done { OnOk result (
+            ScopeGrows (with_local name.now (known_in self.old.table.tags self.old.table.entries c_type) (scope_of self.old)) self.old self.new) }
         ensures undone { OnErr result (self.new ≡ self.old) }
     {
         self.locals.declare(name, c_type)
@@ -368,7 +372,8 @@ impl Checker {
     /// Leaves the innermost block, whose locals are no longer in scope.
     pub fn leave(&mut self, outer: usize)
         requires { outer ≤ length (scope_of self.old).outer }
-        ensures { (block around : List LocalName) → (scope_of self.old).outer ≡ block ++ around → length around ≡ outer → ScopeGrows (record (scope_of self.old) { inner = block; outer = around }) self.old self.new }
+        ensures { (block around : List LocalName) → (scope_of self.old).outer ≡ block ++ around → length around ≡ outer
+            → ScopeGrows (record (scope_of self.old) { inner = block; outer = around }) self.old self.new }
     {
         self.locals.leave(outer);
     }
@@ -383,7 +388,9 @@ impl Checker {
     /// Puts what is known of a name outside functions in the place of what was known of it.
     pub fn put_file_entry(&mut self, name: &[u8], entry: FileEntry) -> Result<(), AllocError>
         requires { KnownStands self.old.table entry.c_type }
-        ensures done { OnOk result (ScopeGrows (record (scope_of self.old) { file = with_file_name (file_row self.old.table (record { name = name.now; entry = entry })) (scope_of self.old).file }) self.old self.new) }
+        ensures done { OnOk result (ScopeGrows (record (scope_of self.old) {
+          file = with_file_name (file_row self.old.table (record { name = name.now; entry = entry })) (scope_of self.old).file;
+        }) self.old self.new) }
         ensures undone { OnErr result (self.new ≡ self.old) }
     {
         self.file.insert(Vec::from_slice(self.alloc, name)?, entry)?;

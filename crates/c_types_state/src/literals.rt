@@ -1,21 +1,43 @@
 // The literals of a program, in the order of its text (C17 6.4.5).
 
-ghost use Rattle.std.specs.Prelude.{◌≡◌, ◌++◌, IfOk, OnOk, map, option_map};
-ghost use Rattle.c_syntax.specs.Views.{expr_tree, type_tree, optional_of, declarator_tree, parameters_of, value_tree, init_tree, init_declarator_tree, declaration_tree, for_tree, stmt_tree, block_of, switch_of, member_tree, base_tree, item_tree, program_tree};
-ghost use Rattle.c_typed.specs.DefinitionViews.{literal_of};
+ghost use Rattle.std.specs.Prelude.{◌≡◌, IfOk, OnOk, map};
+ghost use Rattle.c_syntax.specs.Views.{expr_tree, type_tree, declarator_tree, parameters_of, value_tree, init_tree, init_declarator_tree};
+ghost use Rattle.c_syntax.specs.Views.{declaration_tree, for_tree, stmt_tree, block_of, switch_of, member_tree, base_tree, item_tree, program_tree};
+ghost use Rattle.c_typed.specs.Table.{Grows};
+ghost use Rattle.c_typed.specs.DefinitionViews.{literal_of, LiteralsStand};
 ghost use Rattle.c_rules.specs.Elaborated as rules;
-ghost use Rattle.c_types_state.specs.Lists.{AddsLiterals, item_literals, suffix_literals};
+ghost use Rattle.c_types_state.specs.Lists.{MakesLiteral, text_of, item_literals, suffix_literals};
+ghost use Rattle.c_types_state.specs.Listed.{declarator_literals, ListsLiterals};
 
+use c_num::IntType;
 use c_syntax::{
     Base, BlockItem, Declaration, Declarator, Direct, Expr, ForFirst, Init, InitDeclarator, Item,
     Member, Parameter, Program, Stmt, Suffix, SwitchItem, TypeName,
 };
-use c_typed::{ByteString, LiteralDef};
+use c_typed::{ByteString, CType, LiteralDef, TypeTable};
 use std::alloc::{AllocError, Global};
+use text_place::Pos;
 
-/// The literals of a program.
-pub fn literals_of(alloc: Global, program: &Program) -> Result<Vec<LiteralDef>, AllocError>
-    ensures { IfOk result (λ made. map literal_of made.items ≡ rules.literals_in_items (program_tree program.now).items) }
+/// The literals of a program, with their types.
+pub fn literals_of(
+    alloc: Global,
+    types: &mut TypeTable,
+    program: &Program,
+) -> Result<Vec<LiteralDef>, AllocError>
+    ensures literals { IfOk result (λ made. map literal_of made.items ≡ rules.literals_in_items (program_tree program.now).items) }
+    ensures stand { IfOk result (λ made. LiteralsStand types.new made.items) }
+    ensures grows { OnOk result (Grows types.old types.new) }
+{
+    let mut literals = Vec::new(alloc);
+    for text in texts_of(alloc, program)? {
+        literals.push(text.with_type(types)?)?;
+    }
+    Ok(literals)
+}
+
+/// The literals of a program, without their types.
+fn texts_of(alloc: Global, program: &Program) -> Result<Vec<Text>, AllocError>
+    ensures { IfOk result (λ made. map text_of made.items ≡ rules.literals_in_items (program_tree program.now).items) }
 {
     let mut literals = Literals {
         alloc,
@@ -27,15 +49,37 @@ pub fn literals_of(alloc: Global, program: &Program) -> Result<Vec<LiteralDef>, 
     Ok(literals.found)
 }
 
+/// A literal of the text, without the zero at its end.
+#[derive(Drop)]
+struct Text {
+    place: Pos,
+    bytes: ByteString,
+}
+
+impl Text {
+    /// With its type: an array with room for the zero (C17 6.4.5 paragraph 6).
+    fn with_type(self, types: &mut TypeTable) -> Result<LiteralDef, AllocError>
+        ensures { IfOk result (λ made. MakesLiteral types.old types.new self made) }
+    {
+        let length = self.bytes.as_slice().len() as u64 + 1;
+        let c_type = types.array_of(CType::integer(IntType::Char), length)?;
+        Ok(LiteralDef {
+            place: self.place,
+            bytes: self.bytes,
+            c_type,
+        })
+    }
+}
+
 #[derive(Drop)]
 struct Literals {
     alloc: Global,
-    found: Vec<LiteralDef>,
+    found: Vec<Text>,
 }
 
 impl Literals {
     fn of_item(&mut self, item: &Item) -> Result<(), AllocError>
-        ensures { OnOk result (AddsLiterals (item_literals (item_tree item.now)) self.old.found.items self.new.found.items) }
+        ensures { ListsLiterals (item_literals (item_tree item.now)) self.old self.new result }
     {
         match item {
             Item::Declaration { base, declarators } => {
@@ -55,7 +99,7 @@ impl Literals {
     }
 
     fn of_base(&mut self, base: &Base) -> Result<(), AllocError>
-        ensures { OnOk result (AddsLiterals (rules.literals_in_base (base_tree base.now)) self.old.found.items self.new.found.items) }
+        ensures { ListsLiterals (rules.literals_in_base (base_tree base.now)) self.old self.new result }
     {
         match base {
             Base::Simple(_) => Ok(()),
@@ -69,7 +113,7 @@ impl Literals {
     }
 
     fn of_member(&mut self, member: &Member) -> Result<(), AllocError>
-        ensures { OnOk result (AddsLiterals (rules.literals_in_each (member_tree member.now).declarators) self.old.found.items self.new.found.items) }
+        ensures { ListsLiterals (rules.literals_in_each (member_tree member.now).declarators) self.old self.new result }
     {
         for declarator in member.declarators.as_slice() {
             self.of_declarator(declarator)?;
@@ -79,11 +123,11 @@ impl Literals {
 
     #[cycle(expr)]
     fn of_expr(&mut self, tree: &Expr) -> Result<(), AllocError>
-        ensures { OnOk result (AddsLiterals (rules.literals_in (expr_tree tree.now)) self.old.found.items self.new.found.items) }
+        ensures { ListsLiterals (rules.literals_in (expr_tree tree.now)) self.old self.new result }
     {
         match tree {
             Expr::Literal { bytes, place } => {
-                self.found.push(LiteralDef {
+                self.found.push(Text {
                     place: *place,
                     bytes: ByteString::from_slice(self.alloc, bytes.as_slice())?,
                 })?;
@@ -143,7 +187,7 @@ impl Literals {
 
     #[cycle(expr)]
     fn of_type(&mut self, type_name: &TypeName) -> Result<(), AllocError>
-        ensures { OnOk result (AddsLiterals (rules.literals_in_type (type_tree type_name.now)) self.old.found.items self.new.found.items) }
+        ensures { ListsLiterals (rules.literals_in_type (type_tree type_name.now)) self.old self.new result }
     {
         match &type_name.declarator {
             Some(declarator) => self.of_declarator(declarator),
@@ -153,7 +197,7 @@ impl Literals {
 
     #[cycle(expr)]
     fn of_declarator(&mut self, declarator: &Declarator) -> Result<(), AllocError>
-        ensures { OnOk result (AddsLiterals (rules.literals_in_declarator (declarator_tree declarator.now)) self.old.found.items self.new.found.items) }
+        ensures { ListsLiterals (rules.literals_in_declarator (declarator_tree declarator.now)) self.old self.new result }
     {
         if let Direct::Nested(inner) = &declarator.direct {
             self.of_declarator(inner)?;
@@ -166,7 +210,7 @@ impl Literals {
 
     #[cycle(expr)]
     fn of_suffix(&mut self, suffix: &Suffix) -> Result<(), AllocError>
-        ensures { OnOk result (AddsLiterals (suffix_literals suffix.now) self.old.found.items self.new.found.items) }
+        ensures { ListsLiterals (suffix_literals suffix.now) self.old self.new result }
     {
         match suffix {
             Suffix::Array(Some(length)) => self.of_expr(length),
@@ -177,7 +221,7 @@ impl Literals {
 
     #[cycle(expr)]
     fn of_parameters(&mut self, parameters: &[Parameter]) -> Result<(), AllocError>
-        ensures { OnOk result (AddsLiterals (rules.literals_in_parameters (parameters_of parameters.now)) self.old.found.items self.new.found.items) }
+        ensures { ListsLiterals (rules.literals_in_parameters (parameters_of parameters.now)) self.old self.new result }
     {
         for parameter in parameters {
             if let Some(declarator) = &parameter.declarator {
@@ -188,7 +232,7 @@ impl Literals {
     }
 
     fn of_value(&mut self, value: &Option<Expr>) -> Result<(), AllocError>
-        ensures { OnOk result (AddsLiterals (rules.literals_in_value (value_tree value.now)) self.old.found.items self.new.found.items) }
+        ensures { ListsLiterals (rules.literals_in_value (value_tree value.now)) self.old self.new result }
     {
         match value {
             Some(value) => self.of_expr(value),
@@ -197,7 +241,7 @@ impl Literals {
     }
 
     fn of_init(&mut self, init: &Init) -> Result<(), AllocError>
-        ensures { OnOk result (AddsLiterals (rules.literals_in_init (init_tree init.now)) self.old.found.items self.new.found.items) }
+        ensures { ListsLiterals (rules.literals_in_init (init_tree init.now)) self.old self.new result }
     {
         match init {
             Init::Value(value) => self.of_expr(value),
@@ -211,7 +255,7 @@ impl Literals {
     }
 
     fn of_init_declarator(&mut self, tree: &InitDeclarator) -> Result<(), AllocError>
-        ensures { OnOk result (AddsLiterals (rules.literals_in_declarator (declarator_tree tree.now.declarator) ++ rules.literals_in_first (option_map init_tree tree.now.init)) self.old.found.items self.new.found.items) }
+        ensures { ListsLiterals (declarator_literals tree.now) self.old self.new result }
     {
         self.of_declarator(&tree.declarator)?;
         match &tree.init {
@@ -221,7 +265,7 @@ impl Literals {
     }
 
     fn of_declarators(&mut self, declarators: &[InitDeclarator]) -> Result<(), AllocError>
-        ensures { OnOk result (AddsLiterals (rules.literals_in_declarators (map init_declarator_tree declarators.now)) self.old.found.items self.new.found.items) }
+        ensures { ListsLiterals (rules.literals_in_declarators (map init_declarator_tree declarators.now)) self.old self.new result }
     {
         for declarator in declarators {
             self.of_init_declarator(declarator)?;
@@ -230,13 +274,13 @@ impl Literals {
     }
 
     fn of_declaration(&mut self, declaration: &Declaration) -> Result<(), AllocError>
-        ensures { OnOk result (AddsLiterals (rules.literals_in_declarators (declaration_tree declaration.now).declarators) self.old.found.items self.new.found.items) }
+        ensures { ListsLiterals (rules.literals_in_declarators (declaration_tree declaration.now).declarators) self.old self.new result }
     {
         self.of_declarators(declaration.declarators.as_slice())
     }
 
     fn of_start(&mut self, first: &ForFirst) -> Result<(), AllocError>
-        ensures { OnOk result (AddsLiterals (rules.literals_in_start (for_tree first.now)) self.old.found.items self.new.found.items) }
+        ensures { ListsLiterals (rules.literals_in_start (for_tree first.now)) self.old self.new result }
     {
         match first {
             ForFirst::Nothing => Ok(()),
@@ -247,7 +291,7 @@ impl Literals {
 
     #[cycle(stmt)]
     fn of_stmt(&mut self, stmt: &Stmt) -> Result<(), AllocError>
-        ensures { OnOk result (AddsLiterals (rules.literals_in_stmt (stmt_tree stmt.now)) self.old.found.items self.new.found.items) }
+        ensures { ListsLiterals (rules.literals_in_stmt (stmt_tree stmt.now)) self.old self.new result }
     {
         match stmt {
             Stmt::Block(block) => self.of_block(block.items.as_slice()),
@@ -309,7 +353,7 @@ impl Literals {
 
     #[cycle(stmt)]
     fn of_block(&mut self, items: &[BlockItem]) -> Result<(), AllocError>
-        ensures { OnOk result (AddsLiterals (rules.literals_in_block (block_of items.now)) self.old.found.items self.new.found.items) }
+        ensures { ListsLiterals (rules.literals_in_block (block_of items.now)) self.old self.new result }
     {
         for item in items {
             match item {
@@ -322,7 +366,7 @@ impl Literals {
 
     #[cycle(stmt)]
     fn of_switch(&mut self, items: &[SwitchItem]) -> Result<(), AllocError>
-        ensures { OnOk result (AddsLiterals (rules.literals_in_switch (switch_of items.now)) self.old.found.items self.new.found.items) }
+        ensures { ListsLiterals (rules.literals_in_switch (switch_of items.now)) self.old self.new result }
     {
         for item in items {
             match item {

@@ -111,7 +111,8 @@ impl Locals {
     /// Leaves the innermost block, whose locals are no longer in scope.
     pub(crate) fn leave(&mut self, outer: usize)
         requires { outer ≤ length self.old.outer }
-        ensures { (block around : List LocalEntry) → self.old.outer ≡ block ++ around → length around ≡ outer → self.new ≡ record { inner = block; outer = around } }
+        ensures { (block around : List LocalEntry) → self.old.outer ≡ block ++ around → length around ≡ outer
+            → self.new ≡ record { inner = block; outer = around } }
     {
         while self.has_locals_in_block() {
             self.forget_newest();

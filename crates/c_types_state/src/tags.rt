@@ -1,10 +1,11 @@
 // The tags that a program declares: those of each `struct NAME` outside function bodies and parameter lists (C17 6.2.1
 // paragraph 7), the structures that it completes, and the functions that it defines.
 
-ghost use Rattle.std.specs.Prelude.{◌≡◌, ◌++◌, OnOk, map, option_map};
-ghost use Rattle.c_syntax.specs.Views.{expr_tree, type_tree, declarator_tree, words_tree, init_tree, init_declarator_tree, member_tree, base_tree, program_tree};
+ghost use Rattle.std.specs.Prelude.{◌≡◌, OnOk};
+ghost use Rattle.c_syntax.specs.Views.{expr_tree, type_tree, declarator_tree, words_tree, init_tree, base_tree, program_tree};
 ghost use Rattle.c_rules.specs.Programs as rules;
 ghost use Rattle.c_types_state.specs.Lists.{with_tags, with_outline, with_outline_base, suffix_tags};
+ghost use Rattle.c_types_state.specs.Listed.{member_tags, declarator_tags};
 
 use crate::checker::Checker;
 use crate::names::declared_name;
@@ -59,7 +60,7 @@ fn tags_in_base(checker: &mut Checker, base: &Base) -> Result<(), AllocError>
 }
 
 fn tags_in_member(checker: &mut Checker, member: &Member) -> Result<(), AllocError>
-    ensures { OnOk result (checker.new ≡ with_tags (rules.tag_of (words_tree member.now.simple).words ++ rules.tags_in_each (map declarator_tree member.now.declarators.items)) checker.old) }
+    ensures { OnOk result (checker.new ≡ with_tags (member_tags member.now) checker.old) }
 {
     tag_of(checker, &member.simple)?;
     for declarator in member.declarators.as_slice() {
@@ -78,7 +79,7 @@ fn tag_of(checker: &mut Checker, simple: &Simple) -> Result<(), AllocError>
 }
 
 fn tags_in_init_declarator(checker: &mut Checker, tree: &InitDeclarator) -> Result<(), AllocError>
-    ensures { OnOk result (checker.new ≡ with_tags (rules.tags_in_declarator (declarator_tree tree.now.declarator) ++ rules.tags_in_first (option_map init_tree tree.now.init)) checker.old) }
+    ensures { OnOk result (checker.new ≡ with_tags (declarator_tags tree.now) checker.old) }
 {
     tags_in_declarator(checker, &tree.declarator)?;
     match &tree.init {

@@ -1,12 +1,12 @@
 // Casts (C17 6.5.4).
 
-ghost use Rattle.std.specs.Prelude.{◌≡◌, ◌&&◌, IfOk};
+ghost use Rattle.std.specs.Prelude.{◌≡◌, ◌&&◌};
 ghost use Rattle.c_typed.specs.Types as T;
 ghost use Rattle.c_typed.specs.Table.{Stands, type_in};
 ghost use Rattle.c_rules.specs.Operators as rules;
-ghost use Rattle.c_types_state.specs.Finding.{Finds};
 ghost use Rattle.c_types_state.specs.NameTables.{scope_of};
-ghost use Rattle.c_types_operands.specs.Operands.{IsOperand, OperandStands, operand_in};
+ghost use Rattle.c_types_operands.specs.Operands.{IsOperand, OperandStands};
+ghost use Rattle.c_types_operands.specs.Promises.{FindsOfOne};
 
 use c_num::IntType;
 use c_rules::TypeRule;
@@ -29,7 +29,7 @@ pub fn cast_to(
 ) -> Result<Option<Operand>, AllocError>
     requires c_type { Stands checker.old.table c_type }
     requires operand { OperandStands checker.old.table operand }
-    ensures { IfOk result (Finds IsOperand (rules.cast_to (scope_of checker.old) whole (type_in checker.old.table c_type) (operand_in checker.old.table operand)) checker.old checker.new) }
+    ensures { FindsOfOne IsOperand (rules.cast_to (scope_of checker.old) whole (type_in checker.old.table c_type)) operand checker.old checker.new result }
 {
     match checker.shape(c_type) {
         Shape::Void => {
@@ -55,7 +55,7 @@ fn cast_to_integer(
     operand: Operand,
 ) -> Result<Option<Operand>, AllocError>
     requires { OperandStands checker.old.table operand }
-    ensures { IfOk result (Finds IsOperand (rules.cast_to (scope_of checker.old) whole (T.Integer int_type) (operand_in checker.old.table operand)) checker.old checker.new) }
+    ensures { FindsOfOne IsOperand (rules.cast_to (scope_of checker.old) whole (T.Integer int_type)) operand checker.old checker.new result }
 {
     let is_integer = is_integer(checker, operand.c_type);
     if !checker.require(is_integer, TypeRule::T16, whole) {
@@ -80,20 +80,23 @@ fn cast_to_pointer(
     requires target { Stands checker.old.table target }
     requires pointer { type_in checker.old.table c_type ≡ T.Pointer (type_in checker.old.table target) }
     requires operand { OperandStands checker.old.table operand }
-    ensures { IfOk result (Finds IsOperand (rules.cast_to (scope_of checker.old) whole (type_in checker.old.table c_type) (operand_in checker.old.table operand)) checker.old checker.new) }
+    ensures { FindsOfOne IsOperand (rules.cast_to (scope_of checker.old) whole (type_in checker.old.table c_type)) operand checker.old checker.new result }
 {
     let alloc = checker.alloc();
     if operand.is_null {
         let is_null = stays_null(checker, target, operand.c_type);
-        let null = Box::new(alloc, Value::MadeNull(operand.into_value()))?;
+        let null = Value::MadeNull {
+            target,
+            value: operand.into_value(),
+        };
+        let null = Box::new(alloc, null)?;
         return Ok(Some(Operand {
             is_null,
             address: Address::Null,
             ..Operand::of_type(c_type, Box::new(alloc, Value::Cast(null))?)
         }));
     }
-    let is_function = is_function(checker, target);
-    let agrees = if is_function {
+    let agrees = if is_function(checker, target) {
         is_function_pointer(checker, operand.c_type)
     } else {
         is_object_pointer(checker, operand.c_type)
@@ -101,16 +104,12 @@ fn cast_to_pointer(
     if !checker.require(agrees, TypeRule::T16, whole) {
         return Ok(None);
     }
-    let value = if is_function {
-        operand.value
-    } else {
-        let repointed = Value::Repointed {
-            place: whole,
-            target,
-            value: operand.value,
-        };
-        Box::new(alloc, repointed)?
+    let repointed = Value::Repointed {
+        place: whole,
+        target,
+        value: operand.value,
     };
+    let value = Box::new(alloc, repointed)?;
     Ok(Some(Operand {
         address: retyped(checker, target, operand.address),
         ..Operand::of_type(c_type, Box::new(alloc, Value::Cast(value))?)

@@ -6,10 +6,11 @@ ghost use Rattle.c_typed.specs.Table.{Interned, Stands, type_in};
 ghost use Rattle.c_typed.specs.Views as views;
 ghost use Rattle.c_typed.specs.Views.{ObjectStands};
 ghost use Rattle.c_rules.specs.Operators as rules;
-ghost use Rattle.c_types_state.specs.Finding.{Finds, IsExpr, ExprStands, expr_in, TypedStands, typed_in};
+ghost use Rattle.c_types_state.specs.Finding.{IsExpr, ExprStands, TypedStands, typed_in};
 ghost use Rattle.c_types_state.specs.NameTables.{scope_of};
-ghost use Rattle.c_types_operands.specs.Operands.{OperandStands, operand_in};
+ghost use Rattle.c_types_operands.specs.Operands.{OperandStands};
 ghost use Rattle.c_types_unary.specs.Members.{IsMemberOf};
+ghost use Rattle.c_types_operands.specs.Promises.{FindsOfExpr, FindsOfOne};
 
 use crate::names::object_at;
 use c_rules::TypeRule;
@@ -51,7 +52,7 @@ pub fn object_member(
     known: Known,
 ) -> Result<Option<Known>, AllocError>
     requires { ExprStands checker.old.table known }
-    ensures { IfOk result (Finds IsExpr (rules.object_member (scope_of checker.old) whole (name_tree member.now) (expr_in checker.old.table known)) checker.old checker.new) }
+    ensures { FindsOfExpr IsExpr (rules.object_member (scope_of checker.old) whole (name_tree member.now)) known checker.old checker.new result }
 {
     let Known {
         c_type,
@@ -91,7 +92,7 @@ pub fn pointer_member(
     pointer: Operand,
 ) -> Result<Option<Known>, AllocError>
     requires { OperandStands checker.old.table pointer }
-    ensures { IfOk result (Finds IsExpr (rules.pointer_member (scope_of checker.old) whole (name_tree member.now) (operand_in checker.old.table pointer)) checker.old checker.new) }
+    ensures { FindsOfOne IsExpr (rules.pointer_member (scope_of checker.old) whole (name_tree member.now)) pointer checker.old checker.new result }
 {
     let is_complete = is_pointer_to_complete(checker, pointer.c_type);
     if !checker.require(is_complete, TypeRule::T14, whole) {

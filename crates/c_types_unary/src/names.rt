@@ -1,13 +1,13 @@
 // Names (C17 6.5.1).
 
-ghost use Rattle.std.specs.Prelude.{◌≡◌, IfOk};
+ghost use Rattle.std.specs.Prelude.{IfOk};
 ghost use Rattle.c_syntax.specs.Views.{name_tree};
-ghost use Rattle.c_typed.specs.Table.{Interned, Stands, type_in};
-ghost use Rattle.c_typed.specs.Views.{object_in, ObjectStands};
-ghost use Rattle.c_rules.specs.Known as known;
+ghost use Rattle.c_typed.specs.Table.{Stands};
 ghost use Rattle.c_rules.specs.Operators as rules;
-ghost use Rattle.c_types_state.specs.Finding.{Finds, IsExpr, AddressStands, address_in};
+ghost use Rattle.c_types_state.specs.Finding.{Finds, IsExpr};
 ghost use Rattle.c_types_state.specs.NameTables.{scope_of};
+ghost use Rattle.c_types_operands.specs.Promises.{FindsOfType};
+ghost use Rattle.c_types_unary.specs.Unary.{IsObjectAt};
 
 use c_rules::{Constness, TypeRule};
 use c_syntax::Name;
@@ -45,7 +45,7 @@ pub fn named(checker: &mut Checker, name: &Name) -> Result<Option<Known>, AllocE
 
 /// An object at an address.
 pub(crate) fn object_at(c_type: CType, object: Box<Object>, address: Address) -> Known
-    ensures { (table : Interned) → Stands table c_type → ObjectStands table object.value → AddressStands table address → IsExpr table result (known.object_at (type_in table c_type) (object_in table object.value) (address_in table address)) }
+    ensures { IsObjectAt c_type object address result }
 {
     Known {
         c_type,
@@ -63,7 +63,7 @@ fn outer_name(
     c_type: CType,
 ) -> Result<Option<Known>, AllocError>
     requires { Stands checker.old.table c_type }
-    ensures { IfOk result (Finds IsExpr (rules.outer_name (scope_of checker.old) (name_tree name.now) (type_in checker.old.table c_type)) checker.old checker.new) }
+    ensures { FindsOfType IsExpr (rules.outer_name (scope_of checker.old) (name_tree name.now)) c_type checker.old checker.new result }
 {
     let alloc = checker.alloc();
     let bytes = name.bytes.as_slice();

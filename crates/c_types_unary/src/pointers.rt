@@ -1,15 +1,14 @@
 // Pointers (C17 6.5.2.1, 6.5.3.2, 6.5.6).
 
-ghost use Rattle.std.specs.Prelude.{◌≡◌, Some, IfOk};
-ghost use Rattle.c_typed.specs.Types as T;
-ghost use Rattle.c_typed.specs.Table.{Stands, type_in};
-ghost use Rattle.c_typed.specs.Views.{value_in, ValueStands, object_in, ObjectStands};
-ghost use Rattle.c_rules.specs.Known as known;
-ghost use Rattle.c_rules.specs.Known.{give, value_of_type};
+ghost use Rattle.std.specs.Prelude.{IfOk};
+ghost use Rattle.c_typed.specs.Table.{Stands};
+ghost use Rattle.c_typed.specs.Views.{ValueStands, ObjectStands};
 ghost use Rattle.c_rules.specs.Operators as rules;
-ghost use Rattle.c_types_state.specs.Finding.{Finds, IsExpr, ExprStands, expr_in, AddressStands, address_in};
+ghost use Rattle.c_types_state.specs.Finding.{Finds, IsExpr, ExprStands, expr_in, AddressStands};
 ghost use Rattle.c_types_state.specs.NameTables.{scope_of};
 ghost use Rattle.c_types_operands.specs.Operands.{IsOperand, OperandStands, operand_in};
+ghost use Rattle.c_types_operands.specs.Promises.{FindsOfTwo};
+ghost use Rattle.c_types_unary.specs.Unary.{FindsElement, FindsPointer};
 
 use crate::names::object_at;
 use c_rules::TypeRule;
@@ -32,7 +31,7 @@ pub fn indexed(
 ) -> Result<Option<Known>, AllocError>
     requires left { OperandStands checker.old.table left }
     requires right { OperandStands checker.old.table right }
-    ensures { IfOk result (Finds IsExpr (rules.indexed (scope_of checker.old) left_place right_place (operand_in checker.old.table left) (operand_in checker.old.table right)) checker.old checker.new) }
+    ensures { FindsOfTwo IsExpr (rules.indexed (scope_of checker.old) left_place right_place) left right checker.old checker.new result }
 {
     let alloc = checker.alloc();
     if !is_pointer(checker, left.c_type) && is_pointer(checker, right.c_type) {
@@ -89,7 +88,7 @@ fn element(
     requires index { Stands checker.old.table index }
     requires object { ObjectStands checker.old.table object.value }
     requires address { AddressStands checker.old.table address }
-    ensures { Finds IsExpr (rules.element_at (scope_of checker.old) whole index_place (type_in checker.old.table pointer) (type_in checker.old.table index) (object_in checker.old.table object.value) (address_in checker.old.table address)) checker.old checker.new result }
+    ensures { FindsElement whole index_place pointer index object address checker.old checker.new result }
 {
     let is_complete = is_pointer_to_complete(checker, pointer);
     if !checker.require(is_complete, TypeRule::T14, whole) {
@@ -185,7 +184,7 @@ fn pointer_at(
     requires target { Stands checker.old.table target }
     requires value { ValueStands checker.old.table value.value }
     requires address { AddressStands checker.old.table address }
-    ensures { IfOk result (λ operand. Finds IsOperand (give (record (value_of_type (T.Pointer (type_in checker.old.table target)) (value_in checker.old.table value.value)) { address = address_in checker.old.table address })) checker.old checker.new (Some operand)) }
+    ensures { FindsPointer target value address checker.old checker.new result }
 {
     let c_type = checker.pointer_to(target)?;
     Ok(Operand {

@@ -1,16 +1,16 @@
 // Operators of one operand (C17 6.5.2.4, 6.5.3).
 
 ghost use Rattle.std.specs.Prelude.{◌≡◌, ◌||◌, Option, IfOk};
-ghost use Rattle.c_typed.specs.Types as T;
 ghost use Rattle.c_typed.specs.Table.{Interned, Stands, type_in, shape_type};
-ghost use Rattle.c_typed.specs.Views.{value_in, ValueStands, object_in, ObjectStands};
+ghost use Rattle.c_typed.specs.Views.{ValueStands, object_in, ObjectStands};
 ghost use Rattle.c_rules.specs.Known as known;
-ghost use Rattle.c_rules.specs.Known.{give, given, with_known, value_rule};
+ghost use Rattle.c_rules.specs.Known.{with_known};
 ghost use Rattle.c_rules.specs.Operators as rules;
-ghost use Rattle.c_types_state.specs.Finding.{Finds, IsExpr, ExprStands, expr_in, AllStand, each_in, IsOption};
+ghost use Rattle.c_types_state.specs.Finding.{Finds, IsExpr, ExprStands, AllStand, IsOption};
 ghost use Rattle.c_types_state.specs.NameTables.{scope_of};
-ghost use Rattle.c_types_operands.specs.Operands.{IsOperand, OperandStands, operand_in, IsTarget};
-ghost use Rattle.c_types_unary.specs.Unary.{prefixed_rule};
+ghost use Rattle.c_types_operands.specs.Operands.{IsOperand};
+ghost use Rattle.c_types_unary.specs.Unary.{prefixed_rule, negation_of, plus_of, minus_of, complement_of, step_of, is_stepped};
+ghost use Rattle.c_types_operands.specs.Promises.{FindsOfPart, MakesInEach};
 
 use crate::pointers::{address_of, dereferenced};
 use c_num::IntType;
@@ -33,7 +33,7 @@ pub fn prefixed(
     operand: Option<Known>,
 ) -> Result<Option<Known>, AllocError>
     requires { AllStand ExprStands checker.old.table operand }
-    ensures { IfOk result (Finds IsExpr (with_known (each_in expr_in checker.old.table operand) (prefixed_rule (scope_of checker.old) operator whole place)) checker.old checker.new) }
+    ensures { FindsOfPart IsExpr (λ part. with_known part (prefixed_rule (scope_of checker.old) operator whole place)) operand checker.old checker.new result }
 {
     match operator {
         PrefixOperator::Dereference => {
@@ -80,7 +80,7 @@ fn negation(
     operand: Option<Known>,
 ) -> Result<Option<Operand>, AllocError>
     requires { AllStand ExprStands checker.old.table operand }
-    ensures { IfOk result (Finds IsOperand (given (given (with_known (each_in expr_in checker.old.table operand) (value_rule place)) (rules.scalar_rule place)) (λ value. give (rules.logical_not (rules.condition_of place value)))) checker.old checker.new) }
+    ensures { FindsOfPart IsOperand (negation_of place) operand checker.old checker.new result }
 {
     let Some(condition) = as_condition(checker, place, operand)? else {
         return Ok(None);
@@ -96,7 +96,7 @@ fn with_plus(
     operand: Option<Known>,
 ) -> Result<Option<Operand>, AllocError>
     requires { AllStand ExprStands checker.old.table operand }
-    ensures { IfOk result (Finds IsOperand (given (given (with_known (each_in expr_in checker.old.table operand) (value_rule place)) (rules.integer_rule place)) (λ value. give (rules.with_plus value))) checker.old checker.new) }
+    ensures { FindsOfPart IsOperand (plus_of place) operand checker.old checker.new result }
 {
     let Some(operand) = as_integer(checker, place, operand)? else {
         return Ok(None);
@@ -116,7 +116,7 @@ fn with_minus(
     operand: Option<Known>,
 ) -> Result<Option<Operand>, AllocError>
     requires { AllStand ExprStands checker.old.table operand }
-    ensures { IfOk result (Finds IsOperand (given (given (with_known (each_in expr_in checker.old.table operand) (value_rule place)) (rules.integer_rule place)) (λ value. give (rules.with_minus whole value))) checker.old checker.new) }
+    ensures { FindsOfPart IsOperand (minus_of whole place) operand checker.old checker.new result }
 {
     let Some(operand) = as_integer(checker, place, operand)? else {
         return Ok(None);
@@ -139,7 +139,7 @@ fn with_complement(
     operand: Option<Known>,
 ) -> Result<Option<Operand>, AllocError>
     requires { AllStand ExprStands checker.old.table operand }
-    ensures { IfOk result (Finds IsOperand (given (given (with_known (each_in expr_in checker.old.table operand) (value_rule place)) (rules.integer_rule place)) (λ value. give (rules.with_complement value))) checker.old checker.new) }
+    ensures { FindsOfPart IsOperand (complement_of place) operand checker.old checker.new result }
 {
     let Some(operand) = as_integer(checker, place, operand)? else {
         return Ok(None);
@@ -163,7 +163,7 @@ pub fn postfixed(
     operand: Option<Known>,
 ) -> Result<Option<Operand>, AllocError>
     requires { AllStand ExprStands checker.old.table operand }
-    ensures { IfOk result (Finds IsOperand (with_known (each_in expr_in checker.old.table operand) (rules.stepped (scope_of checker.old) stepping whole place)) checker.old checker.new) }
+    ensures { FindsOfPart IsOperand (step_of (scope_of checker.old) stepping whole place) operand checker.old checker.new result }
 {
     let Some(known) = operand else {
         return Ok(None);
@@ -194,7 +194,7 @@ pub fn postfixed(
 /// Whether an object of a type can be counted up or down: an integer, or a pointer to an object type whose size is known.
 fn can_step(checker: &Checker, c_type: CType) -> bool
     requires { Stands checker.now.table c_type }
-    ensures { result ≡ (T.is_integer (type_in checker.now.table c_type) || rules.is_pointer_to_complete (scope_of checker.now) (type_in checker.now.table c_type)) }
+    ensures { result ≡ is_stepped (scope_of checker.now) (type_in checker.now.table c_type) }
 {
     is_integer(checker, c_type) || is_pointer_to_complete(checker, c_type)
 }
@@ -208,7 +208,7 @@ fn step_value(
     object: Box<Object>,
 ) -> Result<Box<Value>, AllocError>
     ensures stands { IfOk result (λ value. (table : Interned) → ObjectStands table object.value → ValueStands table value.value) }
-    ensures step { IfOk result (λ value. (table : Interned) → value_in table value.value ≡ rules.step_value stepping place (shape_type table shape) (object_in table object.value)) }
+    ensures step { MakesInEach (λ table. rules.step_value stepping place (shape_type table shape) (object_in table object.value)) result }
 {
     let value = match shape {
         Shape::Integer(int_type) => Value::StepInteger {
@@ -240,6 +240,10 @@ pub fn size_of(
         return Ok(None);
     }
     let size = i128::from(checker.size_of(c_type));
-    let value = Box::new(checker.alloc(), Value::Constant(size))?;
+    let value = Value::Constant {
+        int_type: IntType::ULong,
+        value: size,
+    };
+    let value = Box::new(checker.alloc(), value)?;
     Ok(Some(Operand::integer(IntType::ULong, Constness::Constant(size), value)))
 }

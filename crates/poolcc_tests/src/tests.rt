@@ -419,10 +419,11 @@ fn refusals_name_their_place(rt: HostRuntime) -> Result<(), Fail> {
 }
 
 // Each type rule, at its place: expected lines are those of an independent model.
-const TYPE_RULES: [(&str, &str); 84] = [
+const TYPE_RULES: [(&str, &str); 89] = [
     ("int main(void) { break; }", "T20 at 1:18"),
     ("int main;", "T02 at 1:5"),
     ("void main(void) {}", "T02 at 1:6"),
+    ("int main{return 0;}", "T02 at 1:5"),
     ("int main(void) { return x; }", "T03 at 1:25"),
     (
         "int f(struct s *p); int main(void){return 0;}",
@@ -448,6 +449,10 @@ const TYPE_RULES: [(&str, &str); 84] = [
         "struct s {int x;}; struct s {int x;}; int main(void){return 0;}",
         "T04 at 1:27",
     ),
+    (
+        "int x; long x{return 0;} int main(void){return 0;}",
+        "T04 at 1:13",
+    ),
     ("int malloc; int main(void){return 0;}", "T04 at 1:5"),
     (
         "void free(void *p) {} int main(void){return 0;}",
@@ -467,6 +472,18 @@ const TYPE_RULES: [(&str, &str); 84] = [
     ("int main(void) { return sizeof(void); }", "T05 at 1:32"),
     ("int x { } int main(void){return 0;}", "T05 at 1:5"),
     ("int f(int, void); int main(void){return 0;}", "T05 at 1:12"),
+    (
+        "struct u; int f(struct u x); int main(void){return 0;}",
+        "T05 at 1:26",
+    ),
+    (
+        "struct u; int f(struct u); int main(void){return 0;}",
+        "T05 at 1:17",
+    ),
+    (
+        "struct u; int f(struct u x) { return 0; } int main(void){return 0;}",
+        "T05 at 1:26",
+    ),
     ("int f(void)[3]; int main(void){return 0;}", "T05 at 1:5"),
     ("int main(void) { int f(void); }", "T05 at 1:22"),
     ("int a[]; int main(void){return 0;}", "T06 at 1:5"),
@@ -1133,7 +1150,7 @@ fn programs_over_lists_mean_what_they_write(rt: HostRuntime) -> Result<(), Fail>
     Ok(())
 }
 
-const MEANT: [(&str, &str, u8, &[u8]); 9] = [
+const MEANT: [(&str, &str, u8, &[u8]); 11] = [
     ("int main(void){return 0;}", "", 0, b""),
     (
         "int main(void) { int c; while ((c = getchar()) != EOF) putchar(c); return 7; }",
@@ -1144,6 +1161,18 @@ const MEANT: [(&str, &str, u8, &[u8]); 9] = [
     ("int main(void) { return 263; }", "", 7, b""),
     ("int main(void) { return -249; }", "", 7, b""),
     ("int main(void) { return 4294967295u + 1u; }", "", 0, b""),
+    (
+        "void *v = &\"abc\"; char *p = \"abc\" + 1; int main(void) { char (*a)[4] = v; return (*a)[2] - *p; }",
+        "",
+        1,
+        b"",
+    ),
+    (
+        "int f(void) { return 5; } int main(void) { return ((int (*)(void))(int (*)(int))f)(); }",
+        "",
+        5,
+        b"",
+    ),
     (
         "struct a { int x; }; struct b { long y; long z; }; struct c { void *p; struct c *next; }; struct c *add(struct c *l, void *p) { struct c *q = malloc(sizeof(struct c)); q->p = p; q->next = l; return q; } int main(void) { struct a *a = malloc(sizeof(struct a)); struct b *b = malloc(sizeof(struct b)); struct c *l = NULL; a->x = 65; b->y = 66; l = add(l, a); l = add(l, b); putchar(((struct b *)l->p)->y); putchar(((struct a *)l->next->p)->x); return 0; }",
         "",

@@ -14,7 +14,7 @@ pub value_last : (around : TypeEnvironment) (table : Interned) (v : memory_value
     → ((place : _) (object : _) → v ≡ V.Decay place object → ⊥)
     → ((int_type : _) (value : _) → v ≡ V.Converted int_type value → ⊥)
     → ((place : _) (target : _) (value : _) → v ≡ V.Repointed place target value → ⊥)
-    → ((value : _) → v ≡ V.MadeNull value → ⊥)
+    → ((target : _) (value : _) → v ≡ V.MadeNull target value → ⊥)
     → ((place : _) (value : _) → v ≡ V.Tested place value → ⊥)
     → ((place : _) (int_type : _) (operand : _) → v ≡ V.Minus place int_type operand → ⊥)
     → ((int_type : _) (operand : _) → v ≡ V.Complement int_type operand → ⊥)
@@ -35,7 +35,7 @@ pub value_last : (around : TypeEnvironment) (table : Interned) (v : memory_value
     → ((stepping : _) (place : _) (int_type : _) (object : _) → v ≡ V.StepInteger stepping place int_type object → ⊥)
     → ((stepping : _) (place : _) (object : _) → v ≡ V.StepPointer stepping place object → ⊥)
     → parts.value_next around (value_in table v) a ≡ give (parts.Comes a)
-value_last around table (V.Constant value) a _ _ _ _ _ _ _ _ _ _ _ _ _ _ _ _ _ _ _ _ _ _ _ _ = refl
+value_last around table (V.Constant int_type value) a _ _ _ _ _ _ _ _ _ _ _ _ _ _ _ _ _ _ _ _ _ _ _ _ = refl
 value_last around table V.NullPointer a _ _ _ _ _ _ _ _ _ _ _ _ _ _ _ _ _ _ _ _ _ _ _ _ = refl
 value_last around table (V.Grouped' p inner) a _ _ _ _ _ _ _ _ _ _ _ _ _ _ _ _ _ _ _ _ _ _ _ _ = refl
 value_last around table (V.Read' place p object) a h _ _ _ _ _ _ _ _ _ _ _ _ _ _ _ _ _ _ _ _ _ _ _ = absurd (h _ _ (sym (roll-out-Value (V.Read' place p object)) ∙ ap roll-Value (V.outs-Read' place p object) ∙ V.rolls-Read _ _))
@@ -43,7 +43,7 @@ value_last around table (V.Decay' place p object) a _ h _ _ _ _ _ _ _ _ _ _ _ _ 
 value_last around table (V.FunctionValue' p function) a _ _ _ _ _ _ _ _ _ _ _ _ _ _ _ _ _ _ _ _ _ _ _ _ = refl
 value_last around table (V.Converted' int_type p value) a _ _ h _ _ _ _ _ _ _ _ _ _ _ _ _ _ _ _ _ _ _ _ _ = absurd (h _ _ (sym (roll-out-Value (V.Converted' int_type p value)) ∙ ap roll-Value (V.outs-Converted' int_type p value) ∙ V.rolls-Converted _ _))
 value_last around table (V.Repointed' place target p value) a _ _ _ h _ _ _ _ _ _ _ _ _ _ _ _ _ _ _ _ _ _ _ _ = absurd (h _ _ _ (sym (roll-out-Value (V.Repointed' place target p value)) ∙ ap roll-Value (V.outs-Repointed' place target p value) ∙ V.rolls-Repointed _ _ _))
-value_last around table (V.MadeNull' p value) a _ _ _ _ h _ _ _ _ _ _ _ _ _ _ _ _ _ _ _ _ _ _ _ = absurd (h _ (sym (roll-out-Value (V.MadeNull' p value)) ∙ ap roll-Value (V.outs-MadeNull' p value) ∙ V.rolls-MadeNull _))
+value_last around table (V.MadeNull' target p value) a _ _ _ _ h _ _ _ _ _ _ _ _ _ _ _ _ _ _ _ _ _ _ _ = absurd (h _ _ (sym (roll-out-Value (V.MadeNull' target p value)) ∙ ap roll-Value (V.outs-MadeNull' target p value) ∙ V.rolls-MadeNull _ _))
 value_last around table (V.Tested' place p value) a _ _ _ _ _ h _ _ _ _ _ _ _ _ _ _ _ _ _ _ _ _ _ _ = absurd (h _ _ (sym (roll-out-Value (V.Tested' place p value)) ∙ ap roll-Value (V.outs-Tested' place p value) ∙ V.rolls-Tested _ _))
 value_last around table (V.Plus' p operand) a _ _ _ _ _ _ _ _ _ _ _ _ _ _ _ _ _ _ _ _ _ _ _ _ = refl
 value_last around table (V.Minus' place int_type p operand) a _ _ _ _ _ _ h _ _ _ _ _ _ _ _ _ _ _ _ _ _ _ _ _ = absurd (h _ _ _ (sym (roll-out-Value (V.Minus' place int_type p operand)) ∙ ap roll-Value (V.outs-Minus' place int_type p operand) ∙ V.rolls-Minus _ _ _))

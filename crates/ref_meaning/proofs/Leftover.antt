@@ -19,7 +19,7 @@ is-assignment table v (inr (inr (is_minus, place, object, number, is))) = subst 
 
 -- it waits for another
 pub awaited-value : (table : Interned) (v : Value)
-    → ((value : _) → v ≡ V.Constant value → ⊥)
+    → ((int_type : _) (value : _) → v ≡ V.Constant int_type value → ⊥)
     → (v ≡ V.NullPointer → ⊥)
     → ((inner : _) → v ≡ V.Grouped inner → ⊥)
     → ((operand : _) → v ≡ V.Plus operand → ⊥)
@@ -30,7 +30,7 @@ pub awaited-value : (table : Interned) (v : Value)
     → ((place : _) (object : _) → v ≡ V.AddressOf place object → ⊥)
     → ((function : _) (groups : _) (place : _) (arguments : _) → v ≡ V.LibraryCall function groups place arguments → ⊥)
     → IsAwaited (value_entry (value_in table v))
-awaited-value table (V.Constant value) h _ _ _ _ _ _ _ _ _ = absurd (h value refl)
+awaited-value table (V.Constant int_type value) h _ _ _ _ _ _ _ _ _ = absurd (h int_type value refl)
 awaited-value table V.NullPointer _ h _ _ _ _ _ _ _ _ = absurd (h refl)
 awaited-value table (V.Grouped' p inner) _ _ h _ _ _ _ _ _ _ = absurd (h _ (sym (roll-out-Value (V.Grouped' p inner)) ∙ ap roll-Value (V.outs-Grouped' p inner) ∙ V.rolls-Grouped _))
 awaited-value table (V.Read' place p object) _ _ _ _ _ _ _ _ _ _ = tt
@@ -38,7 +38,7 @@ awaited-value table (V.Decay' place p object) _ _ _ _ _ _ _ _ _ _ = tt
 awaited-value table (V.FunctionValue' p function) _ _ _ _ _ _ h _ _ _ = absurd (h _ (sym (roll-out-Value (V.FunctionValue' p function)) ∙ ap roll-Value (V.outs-FunctionValue' p function) ∙ V.rolls-FunctionValue _))
 awaited-value table (V.Converted' int_type p value) _ _ _ _ _ _ _ _ _ _ = tt
 awaited-value table (V.Repointed' place target p value) _ _ _ _ _ _ _ _ _ _ = tt
-awaited-value table (V.MadeNull' p value) _ _ _ _ _ _ _ _ _ _ = tt
+awaited-value table (V.MadeNull' target p value) _ _ _ _ _ _ _ _ _ _ = tt
 awaited-value table (V.Tested' place p value) _ _ _ _ _ _ _ _ _ _ = tt
 awaited-value table (V.Plus' p operand) _ _ _ h _ _ _ _ _ _ = absurd (h _ (sym (roll-out-Value (V.Plus' p operand)) ∙ ap roll-Value (V.outs-Plus' p operand) ∙ V.rolls-Plus _))
 awaited-value table (V.Minus' place int_type p operand) _ _ _ _ _ _ _ _ _ _ = tt

@@ -50,7 +50,7 @@ module _ (run : RefRun) (holds : Holds run) (name : List ℕ) (number : ℕ) (nu
     called-is = found.is ∙ (λ i. Some (number, function_in (sym holds.types i) (item-is i)))
 
     program-stands : FunctionStands run.program.now.types function
-    program-stands = subst (FunctionStands run.program.now.types) item-is (item-stands run.program.now.types run.program.now.functions.items number found.item there holds.program.1)
+    program-stands = subst (FunctionStands run.program.now.types) item-is (item-stands run.program.now.types run.program.now.functions.items number found.item there holds.program.functions)
 
     pub called-stands : FunctionStands (table_of run) function
     called-stands = subst (λ table. FunctionStands table function) (sym holds.types) program-stands

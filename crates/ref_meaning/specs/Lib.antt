@@ -7,3 +7,4 @@ pub mod Numbers
 pub mod Doing
 pub mod Moving
 pub mod Running
+pub mod Promises

@@ -13,6 +13,7 @@ ghost use Rattle.ref_semantics.specs.Values as values;
 ghost use Rattle.ref_steps.specs.Steps as steps;
 ghost use Rattle.ref_steps.specs.Steps.{ScalarGiven, WayGiven};
 ghost use Rattle.ref_store.specs.Views.{scalar_in, ScalarStands};
+ghost use Rattle.ref_meaning.specs.Promises.{part_seen, scalar_seen, newest_seen};
 ghost use Rattle.ref_meaning.specs.declared.control.Frame as memory_frame;
 ghost use Rattle.ref_meaning.specs.declared.control.Stage.TheVariants as S;
 ghost use Rattle.ref_meaning.specs.declared.control.Task.TheVariants as K;
@@ -154,7 +155,8 @@ impl<'a> RefRun<'a> {
         requires node { NodeStands (table_of self.old) call }
         requires function { ScalarStands (table_of self.old) function }
         requires innermost { IsInnermost self.old top (part_in (table_of self.old) call) S.First }
-        ensures moves { Moves self.old self.new (taking self.old (waiting (part_in (table_of self.old) call.entry)) (ScalarGiven (scalar_in (table_of self.old) function.entry))) result }
+        ensures moves { Moves self.old self.new (taking self.old (waiting (part_seen self.old call.entry))
+            (ScalarGiven (scalar_seen self.old function.entry))) result }
         ensures kept { IsKept self.old self.new }
     {
         self.next_argument(top, call, function, 0)
@@ -176,7 +178,8 @@ impl<'a> RefRun<'a> {
         requires argument { ScalarStands (table_of self.old) argument }
         requires call { IsCall call }
         requires innermost { IsInnermost self.old top (part_in (table_of self.old) call) (S.Argument function count) }
-        ensures moves { Moves self.old self.new (taking self.old (innermost self.old (part_in (table_of self.old) call.entry) (S.Argument function.entry count)) (ScalarGiven (scalar_in (table_of self.old) argument.entry))) result }
+        ensures moves { Moves self.old self.new (taking self.old (innermost self.old (part_seen self.old call.entry) (S.Argument function.entry count))
+            (ScalarGiven (scalar_seen self.old argument.entry))) result }
         ensures kept { IsKept self.old self.new }
     {
         match self.operands.push(argument) {
@@ -195,7 +198,8 @@ impl<'a> RefRun<'a> {
     ) -> Result<(), Halt>
         requires number { suc top ≡ length self.old.frames.items }
         requires node { NodeStands (table_of self.old) call }
-        ensures goes { (first : memory_frame.Frame) (others : List memory_frame.Frame) → stack_of self.old ≡ first ∷ others → GoesOn self.old self.new call.entry function.entry count others }
+        ensures goes { (first : memory_frame.Frame) (others : List memory_frame.Frame) → stack_of self.old ≡ first ∷ others
+            → GoesOn self.old self.new call.entry function.entry count others }
         ensures ok { IsOk result }
     {
         match argument(call, count) {
@@ -266,7 +270,8 @@ impl<'a> RefRun<'a> {
         requires holds { Holds self.old }
         requires task { self.old.control.task ≡ K.Apply function count }
         requires c_type { Stands (table_of self.old) c_type }
-        ensures moves { Moves self.old self.new (steps.make_call (around_run self.old) (functions_of self.old) is_used place (type_in (table_of self.old) c_type) (scalar_in (table_of self.old) function.entry) (newest (table_of self.old) count (operands_of self.old)) (config_in self.old)) result }
+        ensures moves { Moves self.old self.new (steps.make_call (around_run self.old) (functions_of self.old) is_used place
+            (type_in (table_of self.old) c_type) (scalar_seen self.old function.entry) (newest_seen self.old count) (config_in self.old)) result }
         ensures kept { IsKept self.old self.new }
     {
         let Scalar::Function(name) = function else {
@@ -299,7 +304,9 @@ impl<'a> RefRun<'a> {
         requires function { FunctionStands (table_of self.old) function.now }
         requires there { count ≤ length (operands_of self.old) }
         requires operands { operands_after self.old.control.task (operands_of self.old) ≡ drop count (operands_of self.old) }
-        ensures moves { (number : ℕ) → Moves self.old self.new (steps.begin_call (around_run self.old) (functions_of self.old) is_used place number (function_in (table_of self.old) function.now) (newest (table_of self.old) count (operands_of self.old)) (config_in self.old).frames (config_in self.old).depth) result }
+        ensures moves { (number : ℕ) → Moves self.old self.new
+            (steps.begin_call (around_run self.old) (functions_of self.old) is_used place number (function_in (table_of self.old) function.now)
+            (newest_seen self.old count) (config_in self.old).frames (config_in self.old).depth) result }
         ensures kept { IsKept self.old self.new }
     {
         if self.depth >= GREATEST_DEPTH {
@@ -361,7 +368,8 @@ impl<'a> RefRun<'a> {
         requires body { IsBody node }
         requires way { WayStands (table_of self.old) way }
         requires innermost { (top : ℕ) × IsInnermost self.old top (part_in (table_of self.old) node) (S.Call is_used place base) }
-        ensures moves { Moves self.old self.new (taking self.old (innermost self.old (part_in (table_of self.old) node.entry) (S.Call is_used place base)) (WayGiven (way_in (table_of self.old) way.entry))) result }
+        ensures moves { Moves self.old self.new (taking self.old (innermost self.old (part_seen self.old node.entry) (S.Call is_used place base))
+            (WayGiven (way_in (table_of self.old) way.entry))) result }
         ensures kept { IsKept self.old self.new }
     {
         let returned = match way {
@@ -400,7 +408,8 @@ impl<'a> RefRun<'a> {
     ) -> Result<Scalar<'a>, Halt>
         requires holds { Holds self.old }
         requires there { count ≤ length (operands_of self.old) }
-        ensures evaluates { Evaluates self.old self.new (library (around_run self.old) function place (newest (table_of self.old) count (operands_of self.old))) result (I.left input.old) (O.written out.old) (I.left input.new) (O.written out.new) }
+        ensures evaluates { Evaluates self.old self.new (library (around_run self.old) function place (newest_seen self.old count)) result (I.left input.old)
+            (O.written out.old) (I.left input.new) (O.written out.new) }
         ensures stored { IsStored self.old self.new }
         ensures remains { OnOk result (Remains self.old self.new) }
         ensures stands { IfOk result (ScalarStands (table_of self.old)) }
@@ -440,7 +449,9 @@ impl<'a> RefRun<'a> {
         out: &mut O,
     ) -> Result<Scalar<'a>, Halt>
         requires { ScalarStands (table_of self.old) argument }
-        ensures evaluates { (is_left : Option (List ℕ)) → Evaluates self.old self.new (library (around_run self.old) function place (scalar_in (table_of self.old) argument.entry ∷ [])) result is_left (O.written out.old) is_left (O.written out.new) }
+        ensures evaluates { (is_left : Option (List ℕ)) → Evaluates self.old self.new
+            (library (around_run self.old) function place (scalar_seen self.old argument.entry ∷ [])) result is_left (O.written out.old) is_left
+            (O.written out.new) }
         ensures stored { IsStored self.old self.new }
         ensures remains { OnOk result (Remains self.old self.new) }
         ensures stands { IfOk result (ScalarStands (table_of self.old)) }
@@ -474,7 +485,8 @@ impl<'a> RefRun<'a> {
         count: usize,
         input: &mut I,
     ) -> Result<Scalar<'a>, Halt>
-        ensures evaluates { (place : Pos) (given : List values.Scalar) (written : Option (List ℕ)) → count ≡ length given → only_of given ≡ None → Evaluates self.now self.now (library (around_run self.now) function place given) result (I.left input.old) written (I.left input.new) written }
+        ensures evaluates { (place : Pos) (given : List values.Scalar) (written : Option (List ℕ)) → count ≡ length given → only_of given ≡ None
+            → Evaluates self.now self.now (library (around_run self.now) function place given) result (I.left input.old) written (I.left input.new) written }
         ensures stands { IfOk result (ScalarStands (table_of self.now)) }
         ensures unwritten { result ≡ Err Halts.WriteFault → ⊥ }
         ensures read_cause { result ≡ Err Halts.ReadFault → Rose (I.faults input.old) (I.faults input.new) }
@@ -505,7 +517,8 @@ fn low_byte(value: Scalar<'_>) -> u8
 
 /// The type of a function's parameter, by its number.
 fn parameter(body: Node<'_>, number: usize) -> Option<CType>
-    ensures is { (table : Interned) → IsBody body.entry → option_map (type_in table) result ≡ slice_get (function_of (part_in table body.entry)).parameters number }
+    ensures is { (table : Interned) → IsBody body.entry → option_map (type_in table) result
+        ≡ slice_get (function_of (part_in table body.entry)).parameters number }
     ensures stands { (table : Interned) → NodeStands table body.entry → IfSome result (Stands table) }
 {
     match body {

@@ -42,7 +42,7 @@ pub(crate) fn spends(node: Node<'_>) -> bool
             | Value::FunctionValue(_)
             | Value::Converted { .. }
             | Value::Repointed { .. }
-            | Value::MadeNull(_)
+            | Value::MadeNull { .. }
             | Value::Tested { .. } => false,
             _ => true,
         },
@@ -86,7 +86,7 @@ fn value_entry(value: &Value) -> Entry<'_>
     ensures stands { (table : Interned) → ValueStands table value.now → EntryStands table (N.Value value.entry) result }
 {
     match value {
-        Value::Constant(value) => Entry::Give(Scalar::Integer(*value)),
+        Value::Constant { value, .. } => Entry::Give(Scalar::Integer(*value)),
         Value::NullPointer => Entry::Give(Scalar::Null),
         Value::Grouped(inner) => into(Node::Value(&**inner)),
         Value::Plus(operand) => into(Node::Value(&**operand)),
@@ -102,7 +102,8 @@ fn value_entry(value: &Value) -> Entry<'_>
 
 /// That of an operator whose operands are evaluated before it works.
 fn operand_entry(value: &Value) -> Entry<'_>
-    ensures means { (table : Interned) → IsAwaited (parts.value_entry (value_in table value.now)) → entry_in table result ≡ parts.value_entry (value_in table value.now) }
+    ensures means { (table : Interned) → IsAwaited (parts.value_entry (value_in table value.now))
+        → entry_in table result ≡ parts.value_entry (value_in table value.now) }
     ensures stands { (table : Interned) (node : memory_node.Node) → ValueStands table value.now → EntryStands table node result }
 {
     waits(match value {
@@ -115,7 +116,7 @@ fn operand_entry(value: &Value) -> Entry<'_>
         Value::StepPointer { object, .. } => Node::Object(&**object),
         Value::Converted { value, .. } => Node::Value(&**value),
         Value::Repointed { value, .. } => Node::Value(&**value),
-        Value::MadeNull(operand) => Node::Value(&**operand),
+        Value::MadeNull { value, .. } => Node::Value(&**value),
         Value::Tested { value, .. } => Node::Value(&**value),
         Value::Minus { operand, .. } => Node::Value(&**operand),
         Value::Complement { operand, .. } => Node::Value(&**operand),

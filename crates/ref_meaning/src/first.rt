@@ -8,6 +8,8 @@ ghost use Rattle.ref_semantics.specs.Meaning as meaning;
 ghost use Rattle.ref_steps.specs.Parts as parts;
 ghost use Rattle.ref_store.specs.Views.{place_in, scalar_in, ScalarStands, PlaceStands};
 ghost use Rattle.ref_store.specs.Holding.{IsStore, CallGives};
+ghost use Rattle.ref_store.specs.Promises.{place_seen, value_seen, GivesScalar};
+ghost use Rattle.ref_meaning.specs.Promises.{part_stored, GivesNext};
 ghost use Rattle.ref_meaning.specs.Views.{part_in};
 ghost use Rattle.ref_meaning.specs.Holding.{NodeStands};
 ghost use Rattle.ref_meaning.specs.Nexts.{scalar_next, place_next};
@@ -47,7 +49,8 @@ pub(crate) fn after_first<'a>(
     requires store { IsStore store.old }
     requires node { NodeStands store.old.types.now node }
     requires first { ScalarStands store.old.types.now first }
-    ensures gives { (around : TypeEnvironment) (base : ℕ) → CallGives around store.old store.new base (next_in store.old.types.now) (parts.next_of around (part_in store.old.types.now node.entry) (scalar_in store.old.types.now first.entry)) result }
+    ensures gives { GivesNext store.old store.new (λ around.
+        parts.next_of around (part_stored store.old node.entry) (value_seen store.old first.entry)) result }
     ensures stands { IfOk result (NextStands store.old.types.now) }
     ensures types { store.new.types ≡ store.old.types }
     ensures locals { store.new.locals ≡ store.old.locals }
@@ -69,7 +72,8 @@ fn after_value<'a>(
     requires store { IsStore store.old }
     requires value { ValueStands store.old.types.now value.now }
     requires first { ScalarStands store.old.types.now first }
-    ensures gives { (around : TypeEnvironment) (base : ℕ) → CallGives around store.old store.new base (next_in store.old.types.now) (parts.value_next around (value_in store.old.types.now value.now) (scalar_in store.old.types.now first.entry)) result }
+    ensures gives { GivesNext store.old store.new (λ around.
+        parts.value_next around (value_in store.old.types.now value.now) (value_seen store.old first.entry)) result }
     ensures stands { IfOk result (NextStands store.old.types.now) }
     ensures types { store.new.types ≡ store.old.types }
     ensures locals { store.new.locals ≡ store.old.locals }
@@ -79,7 +83,7 @@ fn after_value<'a>(
         Value::Decay { .. } => pointed(store.decayed(first.place())),
         Value::Converted { int_type, .. } => Ok(Next::Given(converted(*int_type, first))),
         Value::Repointed { place, target, .. } => given(store.repointed(*place, *target, first)),
-        Value::MadeNull(_) => Ok(Next::Given(Scalar::Null)),
+        Value::MadeNull { .. } => Ok(Next::Given(Scalar::Null)),
         Value::Tested { place, .. } => given(store.tested(*place, first)),
         Value::Minus {
             place,
@@ -180,7 +184,8 @@ fn after_object<'a>(
     requires store { IsStore store.old }
     requires object { ObjectStands store.old.types.now object.now }
     requires first { ScalarStands store.old.types.now first }
-    ensures gives { (around : TypeEnvironment) (base : ℕ) → CallGives around store.old store.new base (next_in store.old.types.now) (parts.object_next around (object_in store.old.types.now object.now) (scalar_in store.old.types.now first.entry)) result }
+    ensures gives { GivesNext store.old store.new (λ around.
+        parts.object_next around (object_in store.old.types.now object.now) (value_seen store.old first.entry)) result }
     ensures stands { IfOk result (NextStands store.old.types.now) }
     ensures types { store.new.types ≡ store.old.types }
     ensures locals { store.new.locals ≡ store.old.locals }
@@ -228,7 +233,7 @@ fn step_integer<'a>(
 ) -> Result<Scalar<'a>, Stop>
     requires store { IsStore store.old }
     requires place { PlaceStands store.old.types.now place }
-    ensures gives { (around : TypeEnvironment) (base : ℕ) → CallGives around store.old store.new base (scalar_in store.old.types.now) (parts.step_integer around stepping here int_type (place_in store.old.types.now place.entry)) result }
+    ensures gives { GivesScalar store.old store.new (λ around. parts.step_integer around stepping here int_type (place_seen store.old place.entry)) result }
     ensures stands { IfOk result (ScalarStands store.old.types.now) }
     ensures types { store.new.types ≡ store.old.types }
     ensures locals { store.new.locals ≡ store.old.locals }
@@ -252,7 +257,7 @@ fn step_pointer<'a>(
 ) -> Result<Scalar<'a>, Stop>
     requires store { IsStore store.old }
     requires place { PlaceStands store.old.types.now place }
-    ensures gives { (around : TypeEnvironment) (base : ℕ) → CallGives around store.old store.new base (scalar_in store.old.types.now) (parts.step_pointer around stepping here (place_in store.old.types.now place.entry)) result }
+    ensures gives { GivesScalar store.old store.new (λ around. parts.step_pointer around stepping here (place_seen store.old place.entry)) result }
     ensures stands { IfOk result (ScalarStands store.old.types.now) }
     ensures types { store.new.types ≡ store.old.types }
     ensures locals { store.new.locals ≡ store.old.locals }

@@ -9,6 +9,8 @@ ghost use Rattle.ref_steps.specs.Parts as parts;
 ghost use Rattle.ref_store.specs.declared.store.Store.{Store};
 ghost use Rattle.ref_store.specs.Views.{scalar_in, ScalarStands};
 ghost use Rattle.ref_store.specs.Holding.{IsStore, CallGives};
+ghost use Rattle.ref_store.specs.Promises.{value_seen, GivesScalar};
+ghost use Rattle.ref_meaning.specs.Promises.{part_stored};
 ghost use Rattle.ref_meaning.specs.Views.{part_in};
 ghost use Rattle.ref_meaning.specs.Holding.{NodeStands};
 ghost use Rattle.ref_meaning.specs.Doing.{IsAssignment};
@@ -36,7 +38,9 @@ pub(crate) fn arithmetic<'a>(
     left: Scalar<'a>,
     right: Scalar<'a>,
 ) -> Result<Scalar<'a>, Stop>
-    ensures gives { (around : TypeEnvironment) (store : Store) (base : ℕ) → CallGives around store store base (scalar_in store.types.now) (meaning.arithmetic op int_type here (scalar_in store.types.now left.entry) (scalar_in store.types.now right.entry)) result }
+    ensures gives { (around : TypeEnvironment) (store : Store) (base : ℕ)
+        → CallGives around store store base (scalar_in store.types.now)
+        (meaning.arithmetic op int_type here (scalar_in store.types.now left.entry) (scalar_in store.types.now right.entry)) result }
     ensures stands { (table : Interned) → IfOk result (ScalarStands table) }
 {
     let right = match op {
@@ -81,7 +85,8 @@ pub(crate) fn after_second<'a>(
     requires node { NodeStands store.old.types.now node }
     requires first { ScalarStands store.old.types.now first }
     requires second { ScalarStands store.old.types.now second }
-    ensures gives { (around : TypeEnvironment) (base : ℕ) → CallGives around store.old store.new base (scalar_in store.old.types.now) (parts.both_of around (part_in store.old.types.now node.entry) (scalar_in store.old.types.now first.entry) (scalar_in store.old.types.now second.entry)) result }
+    ensures gives { GivesScalar store.old store.new (λ around.
+        parts.both_of around (part_stored store.old node.entry) (value_seen store.old first.entry) (value_seen store.old second.entry)) result }
     ensures stands { IfOk result (ScalarStands store.old.types.now) }
     ensures types { store.new.types ≡ store.old.types }
     ensures locals { store.new.locals ≡ store.old.locals }
@@ -103,7 +108,8 @@ fn after_value<'a>(
     requires store { IsStore store.old }
     requires first { ScalarStands store.old.types.now first }
     requires second { ScalarStands store.old.types.now second }
-    ensures gives { (around : TypeEnvironment) (base : ℕ) → CallGives around store.old store.new base (scalar_in store.old.types.now) (parts.value_of_both around (value_in store.old.types.now value.now) (scalar_in store.old.types.now first.entry) (scalar_in store.old.types.now second.entry)) result }
+    ensures gives { GivesScalar store.old store.new (λ around.
+        parts.value_of_both around (value_in store.old.types.now value.now) (value_seen store.old first.entry) (value_seen store.old second.entry)) result }
     ensures stands { IfOk result (ScalarStands store.old.types.now) }
     ensures types { store.new.types ≡ store.old.types }
     ensures locals { store.new.locals ≡ store.old.locals }
@@ -145,7 +151,9 @@ fn after_assigned<'a>(
     requires store { IsStore store.old }
     requires first { ScalarStands store.old.types.now first }
     requires second { ScalarStands store.old.types.now second }
-    ensures gives { (around : TypeEnvironment) (base : ℕ) → IsAssignment (value_in store.old.types.now value.now) → CallGives around store.old store.new base (scalar_in store.old.types.now) (parts.value_of_both around (value_in store.old.types.now value.now) (scalar_in store.old.types.now first.entry) (scalar_in store.old.types.now second.entry)) result }
+    ensures gives { (around : TypeEnvironment) (base : ℕ) → IsAssignment (value_in store.old.types.now value.now)
+        → CallGives around store.old store.new base (scalar_in store.old.types.now)
+        (parts.value_of_both around (value_in store.old.types.now value.now) (value_seen store.old first.entry) (value_seen store.old second.entry)) result }
     ensures stands { IfOk result (ScalarStands store.old.types.now) }
     ensures types { store.new.types ≡ store.old.types }
     ensures locals { store.new.locals ≡ store.old.locals }
@@ -192,7 +200,8 @@ fn after_object<'a>(
 ) -> Result<Scalar<'a>, Stop>
     requires first { ScalarStands store.now.types.now first }
     requires second { ScalarStands store.now.types.now second }
-    ensures gives { (around : TypeEnvironment) (base : ℕ) → CallGives around store.now store.now base (scalar_in store.now.types.now) (parts.object_of_both (object_in store.now.types.now object.now) (scalar_in store.now.types.now first.entry) (scalar_in store.now.types.now second.entry)) result }
+    ensures gives { GivesScalar store.now store.now (λ around.
+        parts.object_of_both (object_in store.now.types.now object.now) (value_seen store.now first.entry) (value_seen store.now second.entry)) result }
     ensures stands { IfOk result (ScalarStands store.now.types.now) }
 {
     let found: Place<'a> = match object {
@@ -211,7 +220,8 @@ fn after_address<'a>(
 ) -> Result<Scalar<'a>, Stop>
     requires first { ScalarStands store.now.types.now first }
     requires second { ScalarStands store.now.types.now second }
-    ensures gives { (around : TypeEnvironment) (base : ℕ) → CallGives around store.now store.now base (scalar_in store.now.types.now) (parts.address_of_both (object_in store.now.types.now object.now) (scalar_in store.now.types.now first.entry) (scalar_in store.now.types.now second.entry)) result }
+    ensures gives { GivesScalar store.now store.now (λ around.
+        parts.address_of_both (object_in store.now.types.now object.now) (value_seen store.now first.entry) (value_seen store.now second.entry)) result }
     ensures stands { IfOk result (ScalarStands store.now.types.now) }
 {
     match object {

@@ -8,6 +8,7 @@ ghost use Rattle.c_typed.specs.DefinitionViews.{program_of, ProgramStands};
 ghost use Rattle.ref_steps.specs.Steps.{ScalarGiven, Search, First};
 ghost use Rattle.ref_steps.specs.Units.{takes_unit};
 ghost use Rattle.ref_store.specs.Views.{scalar_in, ScalarStands};
+ghost use Rattle.ref_meaning.specs.Promises.{part_seen, scalar_seen};
 ghost use Rattle.ref_meaning.specs.declared.control.Frame as memory_frame;
 ghost use Rattle.ref_meaning.specs.declared.control.Given.TheVariants as G;
 ghost use Rattle.ref_meaning.specs.declared.control.Stage.TheVariants as S;
@@ -145,16 +146,21 @@ impl<'a> RefRun<'a> {
     pub fn run<I: Source, O: Sink>(&mut self, input: &mut I, out: &mut O, steps: u64) -> RefEnd
         requires holds { HoldsUnlessOver self.old }
         requires counted { self.old.spent + steps < 2 ^ 64 }
-        ensures answers { (written : List ℕ) (behaviour : Behaviour) (base left : List ℕ) → StandsFor self.old written behaviour → I.left input.old ≡ Some left → O.written out.old ≡ Some (base ++ written) → RunAnswers self.old self.new behaviour base left steps result (I.left input.new) (O.written out.new) }
+        ensures answers { (written : List ℕ) (behaviour : Behaviour) (base left : List ℕ) → StandsFor self.old written behaviour
+            → I.left input.old ≡ Some left → O.written out.old ≡ Some (base ++ written)
+            → RunAnswers self.old self.new behaviour base left steps result (I.left input.new) (O.written out.new) }
         ensures holds { HoldsUnlessOver self.new }
         ensures read_cause { result ≡ RefEnd.ReadFault → Rose (I.faults input.old) (I.faults input.new) }
         ensures write_cause { result ≡ RefEnd.WriteFault → Rose (O.faults out.old) (O.faults out.new) }
         ensures memory_cause { result ≡ RefEnd.OutOfMemory → (I.faults input.new ≡ I.faults input.old) × (O.faults out.new ≡ O.faults out.old) }
         ensures reads_counted { I.faults input.old ≤ I.faults input.new }
         ensures writes_counted { O.faults out.old ≤ O.faults out.new }
-        ensures again { (final : Final) → end_in self.old.control.task ≡ Some final → (result ≡ answer_of final) × (self.new ≡ self.old) × (input.new ≡ input.old) × (out.new ≡ out.old) }
+        ensures again { (final : Final) → end_in self.old.control.task ≡ Some final → (result ≡ answer_of final) × (self.new ≡ self.old)
+            × (input.new ≡ input.old) × (out.new ≡ out.old) }
         ensures kept { (final : Final) → result ≡ answer_of final → end_in self.new.control.task ≡ Some final }
-        ensures needed { (written : List ℕ) (behaviour : Behaviour) (base left : List ℕ) (final : Final) → StandsFor self.old written behaviour → I.left input.old ≡ Some left → O.written out.old ≡ Some (base ++ written) → result ≡ answer_of final → SpendsNeeded self.old self.new behaviour left steps (final_of final) }
+        ensures needed { (written : List ℕ) (behaviour : Behaviour) (base left : List ℕ) (final : Final) → StandsFor self.old written behaviour
+            → I.left input.old ≡ Some left → O.written out.old ≡ Some (base ++ written) → result ≡ answer_of final
+            → SpendsNeeded self.old self.new behaviour left steps (final_of final) }
         ensures counts { self.old.spent ≤ self.new.spent }
         ensures within { self.new.spent ≤ self.old.spent + steps }
     {
@@ -168,7 +174,9 @@ impl<'a> RefRun<'a> {
     fn go_on<I: Source, O: Sink>(&mut self, input: &mut I, out: &mut O, steps: u64) -> RefEnd
         requires holds { HoldsUnlessOver self.old }
         requires counted { self.old.spent + steps < 2 ^ 64 }
-        ensures answers { (written : List ℕ) (behaviour : Behaviour) (base left : List ℕ) → StandsFor self.old written behaviour → I.left input.old ≡ Some left → O.written out.old ≡ Some (base ++ written) → RunAnswers self.old self.new behaviour base left steps result (I.left input.new) (O.written out.new) }
+        ensures answers { (written : List ℕ) (behaviour : Behaviour) (base left : List ℕ) → StandsFor self.old written behaviour
+            → I.left input.old ≡ Some left → O.written out.old ≡ Some (base ++ written)
+            → RunAnswers self.old self.new behaviour base left steps result (I.left input.new) (O.written out.new) }
         ensures holds { HoldsUnlessOver self.new }
         ensures read_cause { result ≡ RefEnd.ReadFault → Rose (I.faults input.old) (I.faults input.new) }
         ensures write_cause { result ≡ RefEnd.WriteFault → Rose (O.faults out.old) (O.faults out.new) }
@@ -177,7 +185,9 @@ impl<'a> RefRun<'a> {
         ensures reads_counted { I.faults input.old ≤ I.faults input.new }
         ensures writes_counted { O.faults out.old ≤ O.faults out.new }
         ensures kept { (final : Final) → result ≡ answer_of final → end_in self.new.control.task ≡ Some final }
-        ensures needed { (written : List ℕ) (behaviour : Behaviour) (base left : List ℕ) (final : Final) → StandsFor self.old written behaviour → I.left input.old ≡ Some left → O.written out.old ≡ Some (base ++ written) → result ≡ answer_of final → SpendsNeeded self.old self.new behaviour left steps (final_of final) }
+        ensures needed { (written : List ℕ) (behaviour : Behaviour) (base left : List ℕ) (final : Final) → StandsFor self.old written behaviour
+            → I.left input.old ≡ Some left → O.written out.old ≡ Some (base ++ written) → result ≡ answer_of final
+            → SpendsNeeded self.old self.new behaviour left steps (final_of final) }
         ensures counts { self.old.spent ≤ self.new.spent }
         ensures within { self.new.spent ≤ self.old.spent + steps }
     {
@@ -314,7 +324,8 @@ impl<'a> RefRun<'a> {
         stage: Stage<'a>,
         part: Node<'a>,
     ) -> Result<(), Halt>
-        ensures waits { OnOk result (Becomes self.old self.new (record { node = part.entry; task = K.Enter }) (record { node = node.entry; stage = stage.entry } ∷ stack_of self.old)) }
+        ensures waits { OnOk result (Becomes self.old self.new (record { node = part.entry; task = K.Enter })
+            (record { node = node.entry; stage = stage.entry } ∷ stack_of self.old)) }
         ensures same { OnErr result (IsSame self.old self.new) }
         ensures only { IfErr result (λ e. e ≡ Halts.OutOfMemory) }
     {
@@ -331,7 +342,8 @@ impl<'a> RefRun<'a> {
         stage: Stage<'a>,
         way: Way<'a>,
     ) -> Result<(), Halt>
-        ensures waits { OnOk result (Becomes self.old self.new (record { node = self.old.control.node; task = K.Give (G.Way way.entry) }) (record { node = node.entry; stage = stage.entry } ∷ stack_of self.old)) }
+        ensures waits { OnOk result (Becomes self.old self.new (record { node = self.old.control.node; task = K.Give (G.Way way.entry) })
+            (record { node = node.entry; stage = stage.entry } ∷ stack_of self.old)) }
         ensures same { OnErr result (IsSame self.old self.new) }
         ensures only { IfErr result (λ e. e ≡ Halts.OutOfMemory) }
     {
@@ -344,21 +356,24 @@ impl<'a> RefRun<'a> {
     /// What waits comes to another stage.
     pub(crate) fn at_stage(&mut self, top: usize, node: Node<'a>, stage: Stage<'a>)
         requires { suc top ≡ length self.old.frames.items }
-        ensures { (first : memory_frame.Frame) (others : List memory_frame.Frame) → stack_of self.old ≡ first ∷ others → Becomes self.old self.new self.old.control (record { node = node.entry; stage = stage.entry } ∷ others) }
+        ensures { (first : memory_frame.Frame) (others : List memory_frame.Frame) → stack_of self.old ≡ first ∷ others
+            → Becomes self.old self.new self.old.control (record { node = node.entry; stage = stage.entry } ∷ others) }
     {
         self.frames[top] = Frame { node, stage };
     }
 
     /// What waits is left.
     pub(crate) fn let_go(&mut self)
-        ensures { (first : memory_frame.Frame) (others : List memory_frame.Frame) → stack_of self.old ≡ first ∷ others → Becomes self.old self.new self.old.control others }
+        ensures { (first : memory_frame.Frame) (others : List memory_frame.Frame) → stack_of self.old ≡ first ∷ others
+            → Becomes self.old self.new self.old.control others }
     {
         self.frames.pop();
     }
 
     /// What waits comes to this.
     pub(crate) fn done(&mut self, given: Given<'a>) -> Result<(), Halt>
-        ensures becomes { (first : memory_frame.Frame) (others : List memory_frame.Frame) → stack_of self.old ≡ first ∷ others → Becomes self.old self.new (record { node = self.old.control.node; task = K.Give given.entry }) others }
+        ensures becomes { (first : memory_frame.Frame) (others : List memory_frame.Frame) → stack_of self.old ≡ first ∷ others
+            → Becomes self.old self.new (record { node = self.old.control.node; task = K.Give given.entry }) others }
         ensures ok { IsOk result }
     {
         self.frames.pop();
@@ -432,7 +447,8 @@ impl<'a> RefRun<'a> {
         requires stage { StageStands (table_of self.old) stage }
         requires given { GivenStands (table_of self.old) given }
         requires innermost { IsInnermost self.old top (part_in (table_of self.old) node) stage }
-        ensures moves { Moves self.old self.new (taking self.old (innermost self.old (part_in (table_of self.old) node.entry) stage.entry) (given_in (table_of self.old) given.entry)) result }
+        ensures moves { Moves self.old self.new (taking self.old (innermost self.old (part_seen self.old node.entry) stage.entry)
+            (given_in (table_of self.old) given.entry)) result }
         ensures kept { IsKept self.old self.new }
     {
         match stage {
@@ -462,7 +478,8 @@ impl<'a> RefRun<'a> {
         requires waits { Waits node }
         requires first { ScalarStands (table_of self.old) first }
         requires innermost { IsInnermost self.old top (part_in (table_of self.old) node) S.First }
-        ensures moves { Moves self.old self.new (taking self.old (waiting (part_in (table_of self.old) node.entry)) (ScalarGiven (scalar_in (table_of self.old) first.entry))) result }
+        ensures moves { Moves self.old self.new (taking self.old (waiting (part_seen self.old node.entry))
+            (ScalarGiven (scalar_seen self.old first.entry))) result }
         ensures kept { IsKept self.old self.new }
     {
         match node {
@@ -487,7 +504,8 @@ impl<'a> RefRun<'a> {
         requires first { ScalarStands (table_of self.old) first }
         requires innermost { IsInnermost self.old top (part_in (table_of self.old) node) S.First }
         requires operand { waiting (part_in (table_of self.old) node) ≡ First (part_in (table_of self.old) node) }
-        ensures moves { Moves self.old self.new (taking self.old (waiting (part_in (table_of self.old) node.entry)) (ScalarGiven (scalar_in (table_of self.old) first.entry))) result }
+        ensures moves { Moves self.old self.new (taking self.old (waiting (part_seen self.old node.entry))
+            (ScalarGiven (scalar_seen self.old first.entry))) result }
         ensures kept { IsKept self.old self.new }
     {
         let next = after_first(&mut self.store, node, first)?;
@@ -513,7 +531,8 @@ impl<'a> RefRun<'a> {
 
 /// Whether an item of a `switch` is a `case`.
 fn is_case(switch: Node<'_>, number: usize) -> bool
-    ensures { (table : Interned) (z : ℤ) (default : Option SwitchItems) → NodeStands table switch.entry → result ≡ takes_unit (Search z (case_items_from number (case_items_of (stmt_of (part_in table switch.entry)))) default) }
+    ensures { (table : Interned) (z : ℤ) (default : Option SwitchItems) → NodeStands table switch.entry
+        → result ≡ takes_unit (Search z (case_items_from number (case_items_of (stmt_of (part_in table switch.entry)))) default) }
 {
     match switch {
         Node::Stmt(stmt) => match case_item(stmt, number) {

@@ -10,6 +10,7 @@ ghost use Rattle.ref_semantics.specs.Meaning.{Normal};
 ghost use Rattle.ref_steps.specs.Parts.{StmtPart};
 ghost use Rattle.ref_steps.specs.Steps.{ScalarGiven, WayGiven};
 ghost use Rattle.ref_store.specs.Views.{scalar_in, ScalarStands};
+ghost use Rattle.ref_meaning.specs.Promises.{part_seen, scalar_seen};
 ghost use Rattle.ref_meaning.specs.declared.control.Frame as memory_frame;
 ghost use Rattle.ref_meaning.specs.declared.control.Node.TheVariants as N;
 ghost use Rattle.ref_meaning.specs.declared.control.Stage.TheVariants as S;
@@ -142,7 +143,8 @@ impl<'a> RefRun<'a> {
 
     /// A scope begins, in which a part waits at a stage.
     fn open_scope(&mut self, node: Node<'a>, stage: Stage<'a>) -> Result<(), Halt>
-        ensures opens { OnOk result (Becomes self.old self.new self.old.control (record { node = node.entry; stage = stage.entry } ∷ record { node = N.Nothing; stage = S.Scope (length self.old.store.locals.items) } ∷ stack_of self.old)) }
+        ensures opens { OnOk result (Becomes self.old self.new self.old.control (record { node = node.entry; stage = stage.entry }
+            ∷ record { node = N.Nothing; stage = S.Scope (length self.old.store.locals.items) } ∷ stack_of self.old)) }
         ensures same { OnErr result (IsSame self.old self.new) }
         ensures only { IfErr result (λ e. e ≡ Halts.OutOfMemory) }
     {
@@ -168,7 +170,8 @@ impl<'a> RefRun<'a> {
         requires stands { StmtStands (table_of self.old) stmt.now }
         requires value { ScalarStands (table_of self.old) value }
         requires innermost { IsInnermost self.old top (StmtPart (stmt_in (table_of self.old) stmt.now)) S.First }
-        ensures moves { Moves self.old self.new (taking self.old (waiting (StmtPart (stmt_in (table_of self.old) stmt.now))) (ScalarGiven (scalar_in (table_of self.old) value.entry))) result }
+        ensures moves { Moves self.old self.new (taking self.old (waiting (StmtPart (stmt_in (table_of self.old) stmt.now)))
+            (ScalarGiven (scalar_seen self.old value.entry))) result }
         ensures kept { IsKept self.old self.new }
     {
         match stmt {
@@ -231,7 +234,8 @@ impl<'a> RefRun<'a> {
         requires fits { Fits node stage }
         requires given { GivenStands (table_of self.old) given }
         requires innermost { IsInnermost self.old top (part_in (table_of self.old) node) stage }
-        ensures moves { Moves self.old self.new (taking self.old (innermost self.old (part_in (table_of self.old) node.entry) stage.entry) (given_in (table_of self.old) given.entry)) result }
+        ensures moves { Moves self.old self.new (taking self.old (innermost self.old (part_seen self.old node.entry) stage.entry)
+            (given_in (table_of self.old) given.entry)) result }
         ensures kept { IsKept self.old self.new }
     {
         match stage {
@@ -265,7 +269,8 @@ impl<'a> RefRun<'a> {
         requires items { HasItems node }
         requires way { WayStands (table_of self.old) way }
         requires innermost { IsInnermost self.old top (part_in (table_of self.old) node) (S.Item number) }
-        ensures moves { Moves self.old self.new (taking self.old (at_item (part_in (table_of self.old) node.entry) number) (WayGiven (way_in (table_of self.old) way.entry))) result }
+        ensures moves { Moves self.old self.new (taking self.old (at_item (part_seen self.old node.entry) number)
+            (WayGiven (way_in (table_of self.old) way.entry))) result }
         ensures kept { IsKept self.old self.new }
     {
         match node {
@@ -318,7 +323,8 @@ impl<'a> RefRun<'a> {
         requires items { IsBlock node }
         requires way { WayStands (table_of self.old) way }
         requires innermost { IsInnermost self.old top (part_in (table_of self.old) node) (S.Item number) }
-        ensures moves { Moves self.old self.new (taking self.old (at_item (part_in (table_of self.old) node.entry) number) (WayGiven (way_in (table_of self.old) way.entry))) result }
+        ensures moves { Moves self.old self.new (taking self.old (at_item (part_seen self.old node.entry) number)
+            (WayGiven (way_in (table_of self.old) way.entry))) result }
         ensures kept { IsKept self.old self.new }
     {
         match way {
@@ -351,7 +357,8 @@ impl<'a> RefRun<'a> {
         requires local { LocalStands (table_of self.old) local.now }
         requires number { suc number < 2 ^ 64 }
         requires innermost { IsInnermost self.old top (part_in (table_of self.old) node) (S.Item number) }
-        ensures moves { Moves self.old self.new (declaring self.old (local_in (table_of self.old) local.now) (at_item (part_in (table_of self.old) node.entry) (suc number))) result }
+        ensures moves { Moves self.old self.new (declaring self.old (local_in (table_of self.old) local.now)
+            (at_item (part_seen self.old node.entry) (suc number))) result }
         ensures kept { IsKept self.old self.new }
     {
         self.frames.reserve(1)?;
@@ -377,7 +384,9 @@ impl<'a> RefRun<'a> {
     ) -> Result<(), Halt>
         requires room { vec_len self.old.frames < vec_capacity self.old.frames }
         requires top { suc top ≡ length self.old.frames.items }
-        ensures becomes { (first : memory_frame.Frame) (others : List memory_frame.Frame) → stack_of self.old ≡ first ∷ others → Becomes self.old self.new (record { node = N.Value value.entry; task = K.Enter }) (record { node = N.Nothing; stage = S.Local place.entry } ∷ record { node = node.entry; stage = stage.entry } ∷ others) }
+        ensures becomes { (first : memory_frame.Frame) (others : List memory_frame.Frame) → stack_of self.old ≡ first ∷ others
+            → Becomes self.old self.new (record { node = N.Value value.entry; task = K.Enter }) (record { node = N.Nothing; stage = S.Local place.entry }
+            ∷ record { node = node.entry; stage = stage.entry } ∷ others) }
         ensures ok { IsOk result }
     {
         self.frames[top] = Frame { node, stage };
@@ -433,7 +442,8 @@ impl<'a> RefRun<'a> {
         requires is_loop { IsLoop node }
         requires top { IsOnTop self.old top (part_in (table_of self.old) node) }
         requires condition { ValueStands (table_of self.old) condition.now }
-        ensures moves { Moves self.old self.new (asking self.old (stmt_of (part_in (table_of self.old) node.entry)) (value_in (table_of self.old) condition.now)) result }
+        ensures moves { Moves self.old self.new (asking self.old (stmt_of (part_seen self.old node.entry))
+            (value_in (table_of self.old) condition.now)) result }
         ensures kept { IsKept self.old self.new }
     {
         self.at_stage(top, node, Stage::First);
@@ -448,7 +458,8 @@ impl<'a> RefRun<'a> {
         requires turns { IsTurning node }
         requires way { WayStands (table_of self.old) way }
         requires innermost { IsInnermost self.old top (part_in (table_of self.old) node) S.Turn }
-        ensures moves { Moves self.old self.new (taking self.old (behind_body (part_in (table_of self.old) node.entry)) (WayGiven (way_in (table_of self.old) way.entry))) result }
+        ensures moves { Moves self.old self.new (taking self.old (behind_body (part_seen self.old node.entry))
+            (WayGiven (way_in (table_of self.old) way.entry))) result }
         ensures kept { IsKept self.old self.new }
     {
         let Node::Stmt(stmt) = node else {

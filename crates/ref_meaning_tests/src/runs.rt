@@ -79,8 +79,20 @@ fn undefined_behaviour_is_answered_again(rt: HostRuntime) -> Result<(), Fail> {
         op: BinOp::Div,
         place: HERE,
         int_type: IntType::Int,
-        left: Box::new(alloc, Value::Constant(1))?,
-        right: Box::new(alloc, Value::Constant(0))?,
+        left: Box::new(
+            alloc,
+            Value::Constant {
+                int_type: IntType::Int,
+                value: 1,
+            },
+        )?,
+        right: Box::new(
+            alloc,
+            Value::Constant {
+                int_type: IntType::Int,
+                value: 0,
+            },
+        )?,
     };
     let program = program(alloc, Stmt::Return(Some(quotient)))?;
     let mut run = RefRun::new(alloc, &program)?;
@@ -98,7 +110,10 @@ fn a_loop_spends_all_units(rt: HostRuntime) -> Result<(), Fail> {
     let alloc = rt.alloc();
     // int main(void) { while (1) ; }
     let turning = Stmt::While {
-        condition: Value::Constant(1),
+        condition: Value::Constant {
+            int_type: IntType::Int,
+            value: 1,
+        },
         body: Box::new(alloc, Stmt::Empty)?,
     };
     let program = program(alloc, turning)?;

@@ -1,19 +1,19 @@
 -- What a program does from its beginning (C17 5.1.2.2.1, 5.1.2.2.3, 6.7.9 paragraph 10).
-use Rattle.std.specs.Prelude.{ℕ, zero, suc, ◌-◌, true, ◌==◌, if◌then◌else◌, List, [], ◌∷◌, length, Option, Some, None, pos, bytes_eq, codes}
+use Rattle.std.specs.Prelude.{ℕ, zero, suc, ◌-◌, true, ◌==◌, if◌then◌else◌, List, [], ◌∷◌, Option, Some, None, pos, bytes_eq, codes}
 use Rattle.run_theory.specs.Runs.{Answer, Over, Ended}
 use Rattle.text_place.specs.declared.place.Pos.{Pos}
 use Rattle.c_num.specs.declared.IntType.TheVariants as I
 use Rattle.c_num.specs.Conversion.{convert_to}
-use Rattle.c_typed.specs.Types.{CType, Void, Integer, Function, NoTypes}
+use Rattle.c_typed.specs.Types.{CType, Void, Integer, Function, NoTypes, literal_type}
 use Rattle.c_typed.specs.Values as first
 use Rattle.c_typed.specs.Typed.{GlobalDef, LiteralDef, Program}
 use Rattle.c_typed.specs.declared.part.Part.{Part}
 use Rattle.c_typed.specs.declared.part.Part.TheVariants as Parts
 use Rattle.c_typed.specs.Places.{is_same_place}
-use Rattle.ref_semantics.specs.Values.{Name, Heap, GlobalObject, LiteralObject, LocalObject, Place, Scalar, IntegerValue, NullValue, FunctionValue, PointerValue, RawPointer, Content, Dead, Elements, object_place, at_index}
-use Rattle.ref_semantics.specs.Store.{TypeEnvironment, Objects, State, Outcome, Then, Stopped, Eval, offset_of, member_at, decayed, row_of, with_scalar}
+use Rattle.ref_semantics.specs.Values.{Name, Heap, GlobalObject, LiteralObject, Place, Scalar, IntegerValue, NullValue, FunctionValue, PointerValue, Content, Dead, Elements, object_place, at_index}
+use Rattle.ref_semantics.specs.Store.{TypeEnvironment, Objects, State, Outcome, Then, Stopped, Eval, offset_of, member_at, decayed}
 use Rattle.ref_semantics.specs.Library.{low_byte}
-use Rattle.ref_semantics.specs.Meaning.{literal_type, call_named, bodies_within, greatest_depth}
+use Rattle.ref_semantics.specs.Meaning.{call_named, bodies_within, greatest_depth}
 
 abbrev pub around_of : Program → TypeEnvironment
 around_of program = record { structs = program.structs; completed = program.completed }
@@ -43,11 +43,9 @@ static_type program _ = Void
 
 -- ---- first values
 
-abbrev pub name_of : first.Name → Name
-name_of (first.Heap number) = Heap number
-name_of (first.Outer name) = GlobalObject name
-name_of (first.Text place) = LiteralObject place
-name_of (first.Own number) = LocalObject number
+abbrev pub name_of : first.Static → Name
+name_of (first.StaticVariable name) = GlobalObject name
+name_of (first.StaticLiteral place) = LiteralObject place
 
 abbrev pub stepped : TypeEnvironment → Place → Part → Place
 stepped around place (Parts.Member index number) = member_at around (at_index place index) number
@@ -58,15 +56,14 @@ abbrev pub walked : TypeEnvironment → Place → List Part → ℕ → Place
 walked around place [] index = at_index place index
 walked around place (step ∷ steps) index = walked around (stepped around place step) steps index
 
-abbrev pub first_place : Program → first.Place → Place
-first_place program place = walked (around_of program) (object_place (name_of place.name) (static_type program (name_of place.name))) place.steps place.index
+abbrev pub first_place : Program → first.FirstPlace → Place
+first_place program place = walked (around_of program) (object_place (name_of place.root) (static_type program (name_of place.root))) place.steps place.index
 
-abbrev pub first_scalar : Program → first.Scalar → Scalar
+abbrev pub first_scalar : Program → first.FirstScalar → Scalar
 first_scalar program (first.IntegerValue z) = IntegerValue z
 first_scalar program first.NullValue = NullValue
 first_scalar program (first.FunctionValue name) = FunctionValue name
 first_scalar program (first.PointerValue place) = PointerValue (first_place program place)
-first_scalar program (first.RawPointer number) = RawPointer number
 
 -- the scalars of an object of a type, by their offsets
 abbrev pub first_held : Program → CType → List first.Held → ℕ → Option Scalar
@@ -80,7 +77,7 @@ global_content program [] name = Dead
 global_content program (first ∷ others) name =
     if bytes_eq first.name name then Elements true first.c_type 1 (first_held program first.c_type first.first) else global_content program others name
 
--- the bytes of a literal, as a row of characters
+-- the bytes of a literal, as the characters of its array
 abbrev pub characters : List ℕ → ℕ → Option Scalar
 characters [] offset = None
 characters (byte ∷ bytes) zero = Some (IntegerValue (convert_to I.Char (pos byte)))
@@ -88,7 +85,7 @@ characters (byte ∷ bytes) (suc offset) = characters bytes offset
 
 abbrev pub literal_content : Option LiteralDef → Content
 literal_content None = Dead
-literal_content (Some literal) = Elements true (Integer I.Char) (suc (length literal.bytes)) (characters literal.bytes)
+literal_content (Some literal) = Elements true (literal_type literal.bytes) 1 (characters literal.bytes)
 
 abbrev pub first_objects : Program → Objects
 first_objects program (GlobalObject name) = global_content program program.globals name

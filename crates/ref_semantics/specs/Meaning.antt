@@ -19,14 +19,14 @@ use Rattle.c_num.specs.declared.ArithUb.TheVariants as U
 use Rattle.c_num.specs.Types.{common_of}
 use Rattle.c_num.specs.Conversion.{convert_to}
 use Rattle.c_num.specs.Arith.{is_shift, outcome_of, compare_of}
-use Rattle.c_typed.specs.Types.{CType, Integer, Array, same_type, is_void}
+use Rattle.c_typed.specs.Types.{CType, literal_type, same_type, is_void}
 use Rattle.c_typed.specs.Values.{not_zero}
 use Rattle.c_typed.specs.Typed as T
 use Rattle.c_typed.specs.Typed.{Value, Object, Designator, Stmt, Block, SwitchItems, LocalDef, ForStart, FunctionDef}
 use Rattle.c_typed.specs.declared.typed.Stepping.{Stepping}
 use Rattle.c_typed.specs.declared.typed.Stepping.TheVariants as Steppings
 use Rattle.ref_semantics.specs.Values.{Name, LocalObject, GlobalObject, LiteralObject, Place, Scalar, IntegerValue, NullValue, FunctionValue, PointerValue, Dead, Elements, first_of_row, object_place, integer_of}
-use Rattle.ref_semantics.specs.Store.{TypeEnvironment, Objects, State, Outcome, Then, Stopped, Eval, ◌>>=◌, give, halt, undefined, tick, ticks, emit, with_objects, store_content, premise, unless, with_content, row_of, member_at, decayed}
+use Rattle.ref_semantics.specs.Store.{TypeEnvironment, Objects, Outcome, Then, Stopped, Eval, ◌>>=◌, give, halt, undefined, tick, ticks, emit, with_objects, store_content, premise, unless, with_content, row_of, member_at, decayed}
 use Rattle.ref_semantics.specs.Pointers.{truth, accessed, added, element, repointed, tested, compared_pointers, difference, read, write}
 use Rattle.ref_semantics.specs.Library.{library}
 
@@ -71,10 +71,6 @@ local_name (newest ∷ others) number = if length others == number then Some (Lo
 abbrev pub named : Name → Eval Place
 named name = with_objects (λ objects. give (first_of_row name (row_of (objects name))))
 
--- an array with room for the zero at its end (C17 6.4.5 paragraph 6)
-abbrev pub literal_type : List ℕ → CType
-literal_type bytes = Array (Integer I.Char) (suc (length bytes))
-
 abbrev pub local_place : ℕ → Eval Place
 local_place number state = by (local_name state.locals number) state
   where
@@ -98,84 +94,7 @@ step_result Steppings.PostIncrement old new = old
 step_result Steppings.PostDecrement old new = old
 step_result _ old new = new
 
-abbrev mutual
-  pub value : TypeEnvironment → Calls → Value → Eval Scalar
-  value around calls (T.Constant z) = tick (give (IntegerValue z))
-  value around calls T.NullPointer = tick (give NullValue)
-  value around calls (T.Grouped inner) = tick (value around calls inner)
-  value around calls (T.Read place object) = find around calls object >>= λ p. read around place p
-  value around calls (T.Decay place object) = find around calls object >>= λ p. give (PointerValue (decayed around p))
-  value around calls (T.FunctionValue function) = designated around calls function
-  value around calls (T.Converted int_type operand) = value around calls operand >>= λ a. give (converted int_type a)
-  value around calls (T.Repointed place target operand) = value around calls operand >>= λ a. repointed around place target a
-  value around calls (T.MadeNull operand) = value around calls operand >>= λ a. give NullValue
-  value around calls (T.Tested place operand) = value around calls operand >>= λ a. tested place a
-  value around calls (T.Plus operand) = tick (value around calls operand)
-  value around calls (T.Minus place int_type operand) = tick (value around calls operand >>= λ a. arithmetic B.Sub int_type place (IntegerValue (pos 0)) a)
-  value around calls (T.Complement int_type operand) = tick (value around calls operand >>= λ a. give (converted int_type (IntegerValue (neg_ℤ (integer_of a) -ℤ pos 1))))
-  value around calls (T.Not operand) = tick (value around calls operand >>= λ a. give (truth (not (is_true a))))
-  value around calls (T.Arithmetic op place int_type left right) = tick (value around calls left >>= λ a. value around calls right >>= λ b. arithmetic op int_type place a b)
-  value around calls (T.Compare relation left right) = tick (value around calls left >>= λ a. value around calls right >>= λ b. give (truth (compare_of relation (integer_of a) (integer_of b))))
-  value around calls (T.ComparePointers relation place left right) = tick (value around calls left >>= λ a. value around calls right >>= λ b. compared_pointers around relation place a b)
-  value around calls (T.PointerPlus place pointer number) = tick (value around calls pointer >>= λ p. value around calls number >>= λ n. added place p (integer_of n))
-  value around calls (T.NumberPlus place number pointer) = tick (value around calls number >>= λ n. value around calls pointer >>= λ p. added place p (integer_of n))
-  value around calls (T.PointerMinus place pointer number) = tick (value around calls pointer >>= λ p. value around calls number >>= λ n. added place p (neg_ℤ (integer_of n)))
-  value around calls (T.PointerDifference place left right) = tick (value around calls left >>= λ a. value around calls right >>= λ b. difference place a b)
-  value around calls (T.And left right) = tick (value around calls left >>= λ a. if is_true a then (value around calls right >>= λ b. give (truth (is_true b))) else give (truth false))
-  value around calls (T.Or left right) = tick (value around calls left >>= λ a. if is_true a then give (truth true) else (value around calls right >>= λ b. give (truth (is_true b))))
-  value around calls (T.Conditional condition taken otherwise) = tick (value around calls condition >>= λ c. if is_true c then value around calls taken else value around calls otherwise)
-  value around calls (T.AddressOf place object) = tick (address around calls object)
-  value around calls (T.AddressOfFunction function) = tick (designated around calls function)
-  value around calls (T.Cast operand) = tick (value around calls operand)
-  value around calls (T.CastVoid operand) = tick (value around calls operand)
-  value around calls (T.Assign place object operand) = tick (find around calls object >>= λ p. value around calls operand >>= λ a. write around place p a)
-  value around calls (T.AssignArithmetic op place object_type int_type object operand) =
-      tick (find around calls object >>= λ p. value around calls operand >>= λ b. read around place p >>= λ a. arithmetic op int_type place (converted int_type a) b >>= λ c. write around place p (converted object_type c))
-  value around calls (T.AssignMoved is_minus place object number) =
-      tick (find around calls object >>= λ p. value around calls number >>= λ n. read around place p >>= λ a. added place a (if is_minus then neg_ℤ (integer_of n) else integer_of n) >>= λ c. write around place p c)
-  value around calls (T.StepInteger stepping place int_type object) =
-      tick (find around calls object >>= λ p. read around place p >>= λ a. arithmetic (step_operator stepping) (common_of int_type I.Int) place (converted (common_of int_type I.Int) a) (IntegerValue (pos 1)) >>= λ c. write around place p (converted int_type c) >>= λ new. give (step_result stepping a new))
-  value around calls (T.StepPointer stepping place object) =
-      tick (find around calls object >>= λ p. read around place p >>= λ a. added place a (step_amount stepping) >>= λ c. write around place p c >>= λ new. give (step_result stepping a new))
-  value around calls (T.Call is_used place function c_type arguments) = tick (designated around calls function >>= λ f. values around calls arguments >>= λ given. calls place is_used c_type f given)
-  value around calls (T.LibraryCall function groups place arguments) = tick (ticks groups (tick (values around calls arguments >>= λ given. library around function place given)))
-
-  pub values : TypeEnvironment → Calls → T.Values → Eval (List Scalar)
-  values around calls T.NoValues = give []
-  values around calls (T.MoreValues first others) = value around calls first >>= λ a. values around calls others >>= λ given. give (a ∷ given)
-
-  -- the object of an expression
-  pub find : TypeEnvironment → Calls → Object → Eval Place
-  find around calls (T.Local number) = tick (local_place number)
-  find around calls (T.Global name) = tick (named (GlobalObject name))
-  find around calls (T.Literal place bytes) = tick (give (object_place (LiteralObject place) (literal_type bytes)))
-  find around calls (T.GroupedObject place inner) = tick (find around calls inner)
-  find around calls (T.Pointed place pointer) = tick (value around calls pointer >>= λ p. accessed place p)
-  find around calls (T.Element place pointer number) = tick (value around calls pointer >>= λ p. value around calls number >>= λ n. element place p (integer_of n))
-  find around calls (T.ElementOf place number pointer) = tick (value around calls number >>= λ n. value around calls pointer >>= λ p. element place p (integer_of n))
-  find around calls (T.MemberOf place object number) = tick (find around calls object >>= λ p. give (member_at around p number))
-  find around calls (T.PointedMember place pointer number) = tick (value around calls pointer >>= λ a. accessed place a >>= λ p. give (member_at around p number))
-
-  -- the address of an object: `&*p` is p and `&p[i]` is p + i (C17 6.5.3.2 paragraph 3)
-  pub address : TypeEnvironment → Calls → Object → Eval Scalar
-  address around calls (T.Pointed place pointer) = tick (value around calls pointer)
-  address around calls (T.Element place pointer number) = tick (value around calls pointer >>= λ p. value around calls number >>= λ n. added place p (integer_of n))
-  address around calls (T.ElementOf place number pointer) = tick (value around calls number >>= λ n. value around calls pointer >>= λ p. added place p (integer_of n))
-  address around calls (T.GroupedObject place inner) = tick (address around calls inner)
-  address around calls (T.Local number) = tick (local_place number) >>= λ p. give (PointerValue p)
-  address around calls (T.Global name) = tick (named (GlobalObject name) >>= λ p. give (PointerValue p))
-  address around calls (T.Literal place bytes) = tick (give (PointerValue (object_place (LiteralObject place) (literal_type bytes))))
-  address around calls (T.MemberOf place object number) = tick (find around calls object >>= λ p. give (PointerValue (member_at around p number)))
-  address around calls (T.PointedMember place pointer number) = tick (value around calls pointer >>= λ a. accessed place a >>= λ p. give (PointerValue (member_at around p number)))
-
-  -- the function of an expression, which may be null where it is a pointer's
-  pub designated : TypeEnvironment → Calls → Designator → Eval Scalar
-  designated around calls (T.Function name) = tick (give (FunctionValue name))
-  designated around calls (T.GroupedFunction inner) = tick (designated around calls inner)
-  designated around calls (T.PointedFunction place pointer) = tick (value around calls pointer)
-  designated around calls (T.ThroughPointer place pointer) = value around calls pointer
-
--- ---- statements
+-- ---- how statements end, turns of loops, and the life of locals
 
 -- how a statement ends
 pub data Completion : Type 0 where
@@ -219,14 +138,6 @@ abbrev pub stored_first : TypeEnvironment → Place → Option Scalar → Eval C
 stored_first around place None = give Normal
 stored_first around place (Some a) = write around (record { line = 1; column = 1 }) place a >>= λ b. give Normal
 
--- a local begins to live, and then gets its first value (C17 6.2.4 paragraph 6)
-abbrev pub declare : TypeEnvironment → Calls → LocalDef → Eval Completion
-declare around calls local = new_local local.c_type >>= λ p. optional_value (value around calls) local.first >>= λ a. stored_first around p a
-
-abbrev pub declare_all : TypeEnvironment → Calls → List LocalDef → Eval Completion
-declare_all around calls [] = give Normal
-declare_all around calls (first ∷ others) = declare around calls first >>= λ way. declare_all around calls others
-
 abbrev pub killed : ℕ → List ℕ → Objects → Objects
 killed count [] objects = objects
 killed count (newest ∷ others) objects = if nat_lt (length others) count then objects else killed count others (with_content (LocalObject newest) Dead objects)
@@ -241,11 +152,6 @@ leave way count state = Then way (record state { objects = killed count state.lo
 
 abbrev pub scoped : Eval Completion → Eval Completion
 scoped inside state = (inside >>= λ way. leave way (length state.locals)) state
-
-abbrev pub start : TypeEnvironment → Calls → ForStart → Eval Completion
-start around calls T.StartNothing = give Normal
-start around calls (T.StartValue v) = value around calls v >>= λ a. give Normal
-start around calls (T.StartLocals locals) = declare_all around calls locals
 
 -- the labels of a `switch` are tested in order; without one that fits it goes on at `default`
 pub data Entry : Type 0 where
@@ -289,41 +195,136 @@ abbrev pub for_step : Option Completion → Eval (Option Scalar) → Eval (Optio
 for_step (Some way) step = give (Some way)
 for_step None step = step >>= λ a. give None
 
-abbrev mutual
-  pub stmt : TypeEnvironment → Calls → Stmt → Eval Completion
-  stmt around calls (T.BlockStmt items) = tick (scoped (block around calls items))
-  stmt around calls T.Empty = tick (give Normal)
-  stmt around calls (T.Expression v) = tick (value around calls v >>= λ a. give Normal)
-  stmt around calls (T.If condition taken) = tick (value around calls condition >>= λ c. if is_true c then stmt around calls taken else give Normal)
-  stmt around calls (T.IfElse condition taken otherwise) = tick (value around calls condition >>= λ c. if is_true c then stmt around calls taken else stmt around calls otherwise)
-  stmt around calls (T.While condition body) =
-      tick (loop (value around calls condition >>= λ c. if is_true c then (stmt around calls body >>= λ way. give (after_body way)) else give (Some Normal)))
-  stmt around calls (T.DoWhile body condition) =
-      tick (loop (stmt around calls body >>= λ way. do_condition (after_body way) (value around calls condition)))
-  stmt around calls (T.For begin condition step body) =
-      tick (scoped (start around calls begin >>= λ begun. loop (optional_value (value around calls) condition >>= λ c.
-      if holds c then (stmt around calls body >>= λ way. for_step (after_body way) (optional_value (value around calls) step)) else give (Some Normal))))
-  stmt around calls (T.Switch v items) =
-      tick (value around calls v >>= λ a. case_at (integer_of a) 0 items >>= λ found. switch_from around calls (entry_or found (default_at items)) items >>= λ way. give (broken_out way))
-  stmt around calls T.Break = tick (give Break)
-  stmt around calls T.Continue = tick (give Continue)
-  stmt around calls (T.Return v) = tick (optional_value (value around calls) v >>= λ a. give (Return a))
+-- ---- the rules, in an environment of types, where calls mean this
 
-  pub block : TypeEnvironment → Calls → Block → Eval Completion
-  block around calls T.Close = give Normal
-  block around calls (T.Declare local others) = declare around calls local >>= λ begun. block around calls others
-  block around calls (T.Perform one others) = stmt around calls one >>= λ way. block_rest way (block around calls others)
+module _ (around : TypeEnvironment) (calls : Calls) where
+  abbrev mutual
+    pub value : Value → Eval Scalar
+    value (T.Constant int_type z) = tick (give (IntegerValue z))
+    value T.NullPointer = tick (give NullValue)
+    value (T.Grouped inner) = tick (value inner)
+    value (T.Read place object) = find object >>= λ p. read around place p
+    value (T.Decay place object) = find object >>= λ p. give (PointerValue (decayed around p))
+    value (T.FunctionValue function) = designated function
+    value (T.Converted int_type operand) = value operand >>= λ a. give (converted int_type a)
+    value (T.Repointed place target operand) = value operand >>= λ a. repointed around place target a
+    value (T.MadeNull target operand) = value operand >>= λ a. give NullValue
+    value (T.Tested place operand) = value operand >>= λ a. tested place a
+    value (T.Plus operand) = tick (value operand)
+    value (T.Minus place int_type operand) = tick (value operand >>= λ a. arithmetic B.Sub int_type place (IntegerValue (pos 0)) a)
+    value (T.Complement int_type operand) = tick (value operand >>= λ a. give (converted int_type (IntegerValue (neg_ℤ (integer_of a) -ℤ pos 1))))
+    value (T.Not operand) = tick (value operand >>= λ a. give (truth (not (is_true a))))
+    value (T.Arithmetic op place int_type left right) = tick (value left >>= λ a. value right >>= λ b. arithmetic op int_type place a b)
+    value (T.Compare relation left right) = tick (value left >>= λ a. value right >>= λ b. give (truth (compare_of relation (integer_of a) (integer_of b))))
+    value (T.ComparePointers relation place left right) = tick (value left >>= λ a. value right >>= λ b. compared_pointers around relation place a b)
+    value (T.PointerPlus place pointer number) = tick (value pointer >>= λ p. value number >>= λ n. added place p (integer_of n))
+    value (T.NumberPlus place number pointer) = tick (value number >>= λ n. value pointer >>= λ p. added place p (integer_of n))
+    value (T.PointerMinus place pointer number) = tick (value pointer >>= λ p. value number >>= λ n. added place p (neg_ℤ (integer_of n)))
+    value (T.PointerDifference place left right) = tick (value left >>= λ a. value right >>= λ b. difference place a b)
+    value (T.And left right) = tick (value left >>= λ a. if is_true a then (value right >>= λ b. give (truth (is_true b))) else give (truth false))
+    value (T.Or left right) = tick (value left >>= λ a. if is_true a then give (truth true) else (value right >>= λ b. give (truth (is_true b))))
+    value (T.Conditional condition taken otherwise) = tick (value condition >>= λ c. if is_true c then value taken else value otherwise)
+    value (T.AddressOf place object) = tick (address object)
+    value (T.AddressOfFunction function) = tick (designated function)
+    value (T.Cast operand) = tick (value operand)
+    value (T.CastVoid operand) = tick (value operand)
+    value (T.Assign place object operand) = tick (find object >>= λ p. value operand >>= λ a. write around place p a)
+    value (T.AssignArithmetic op place object_type int_type object operand) =
+        tick (find object >>= λ p. value operand >>= λ b. read around place p >>= λ a. arithmetic op int_type place (converted int_type a) b >>= λ c. write around place p (converted object_type c))
+    value (T.AssignMoved is_minus place object number) =
+        tick (find object >>= λ p. value number >>= λ n. read around place p >>= λ a. added place a (if is_minus then neg_ℤ (integer_of n) else integer_of n) >>= λ c. write around place p c)
+    value (T.StepInteger stepping place int_type object) =
+        tick (find object >>= λ p. read around place p >>= λ a. arithmetic (step_operator stepping) (common_of int_type I.Int) place (converted (common_of int_type I.Int) a) (IntegerValue (pos 1)) >>= λ c. write around place p (converted int_type c) >>= λ new. give (step_result stepping a new))
+    value (T.StepPointer stepping place object) =
+        tick (find object >>= λ p. read around place p >>= λ a. added place a (step_amount stepping) >>= λ c. write around place p c >>= λ new. give (step_result stepping a new))
+    value (T.Call is_used place function c_type arguments) = tick (designated function >>= λ f. values arguments >>= λ given. calls place is_used c_type f given)
+    value (T.LibraryCall function groups place arguments) = tick (ticks groups (tick (values arguments >>= λ given. library around function place given)))
 
-  -- from an item on
-  pub switch_from : TypeEnvironment → Calls → Entry → SwitchItems → Eval Completion
-  switch_from around calls NoEntry items = give Normal
-  switch_from around calls entry T.SwitchEnd = give Normal
-  switch_from around calls (At (suc number)) (T.Case label others) = switch_from around calls (At number) others
-  switch_from around calls (At (suc number)) (T.Default others) = switch_from around calls (At number) others
-  switch_from around calls (At (suc number)) (T.SwitchStmt one others) = switch_from around calls (At number) others
-  switch_from around calls (At zero) (T.Case label others) = switch_from around calls (At zero) others
-  switch_from around calls (At zero) (T.Default others) = switch_from around calls (At zero) others
-  switch_from around calls (At zero) (T.SwitchStmt one others) = stmt around calls one >>= λ way. block_rest way (switch_from around calls (At zero) others)
+    pub values : T.Values → Eval (List Scalar)
+    values T.NoValues = give []
+    values (T.MoreValues first others) = value first >>= λ a. values others >>= λ given. give (a ∷ given)
+
+    -- the object of an expression
+    pub find : Object → Eval Place
+    find (T.Local number) = tick (local_place number)
+    find (T.Global name) = tick (named (GlobalObject name))
+    find (T.Literal place bytes) = tick (give (object_place (LiteralObject place) (literal_type bytes)))
+    find (T.GroupedObject place inner) = tick (find inner)
+    find (T.Pointed place pointer) = tick (value pointer >>= λ p. accessed place p)
+    find (T.Element place pointer number) = tick (value pointer >>= λ p. value number >>= λ n. element place p (integer_of n))
+    find (T.ElementOf place number pointer) = tick (value number >>= λ n. value pointer >>= λ p. element place p (integer_of n))
+    find (T.MemberOf place object number) = tick (find object >>= λ p. give (member_at around p number))
+    find (T.PointedMember place pointer number) = tick (value pointer >>= λ a. accessed place a >>= λ p. give (member_at around p number))
+
+    -- the address of an object: `&*p` is p and `&p[i]` is p + i (C17 6.5.3.2 paragraph 3)
+    pub address : Object → Eval Scalar
+    address (T.Pointed place pointer) = tick (value pointer)
+    address (T.Element place pointer number) = tick (value pointer >>= λ p. value number >>= λ n. added place p (integer_of n))
+    address (T.ElementOf place number pointer) = tick (value number >>= λ n. value pointer >>= λ p. added place p (integer_of n))
+    address (T.GroupedObject place inner) = tick (address inner)
+    address (T.Local number) = tick (local_place number) >>= λ p. give (PointerValue p)
+    address (T.Global name) = tick (named (GlobalObject name) >>= λ p. give (PointerValue p))
+    address (T.Literal place bytes) = tick (give (PointerValue (object_place (LiteralObject place) (literal_type bytes))))
+    address (T.MemberOf place object number) = tick (find object >>= λ p. give (PointerValue (member_at around p number)))
+    address (T.PointedMember place pointer number) = tick (value pointer >>= λ a. accessed place a >>= λ p. give (PointerValue (member_at around p number)))
+
+    -- the function of an expression, which may be null where it is a pointer's
+    pub designated : Designator → Eval Scalar
+    designated (T.Function name) = tick (give (FunctionValue name))
+    designated (T.GroupedFunction inner) = tick (designated inner)
+    designated (T.PointedFunction place pointer) = tick (value pointer)
+    designated (T.ThroughPointer place pointer) = value pointer
+
+  -- ---- statements
+
+  -- a local begins to live, and then gets its first value (C17 6.2.4 paragraph 6)
+  abbrev pub declare : LocalDef → Eval Completion
+  declare local = new_local local.c_type >>= λ p. optional_value value local.first >>= λ a. stored_first around p a
+
+  abbrev pub declare_all : List LocalDef → Eval Completion
+  declare_all [] = give Normal
+  declare_all (first ∷ others) = declare first >>= λ way. declare_all others
+
+  abbrev pub start : ForStart → Eval Completion
+  start T.StartNothing = give Normal
+  start (T.StartValue v) = value v >>= λ a. give Normal
+  start (T.StartLocals locals) = declare_all locals
+
+  abbrev mutual
+    pub stmt : Stmt → Eval Completion
+    stmt (T.BlockStmt items) = tick (scoped (block items))
+    stmt T.Empty = tick (give Normal)
+    stmt (T.Expression v) = tick (value v >>= λ a. give Normal)
+    stmt (T.If condition taken) = tick (value condition >>= λ c. if is_true c then stmt taken else give Normal)
+    stmt (T.IfElse condition taken otherwise) = tick (value condition >>= λ c. if is_true c then stmt taken else stmt otherwise)
+    stmt (T.While condition body) =
+        tick (loop (value condition >>= λ c. if is_true c then (stmt body >>= λ way. give (after_body way)) else give (Some Normal)))
+    stmt (T.DoWhile body condition) =
+        tick (loop (stmt body >>= λ way. do_condition (after_body way) (value condition)))
+    stmt (T.For begin condition step body) =
+        tick (scoped (start begin >>= λ begun. loop (optional_value value condition >>= λ c.
+        if holds c then (stmt body >>= λ way. for_step (after_body way) (optional_value value step)) else give (Some Normal))))
+    stmt (T.Switch v items) =
+        tick (value v >>= λ a. case_at (integer_of a) 0 items >>= λ found. switch_from (entry_or found (default_at items)) items >>= λ way. give (broken_out way))
+    stmt T.Break = tick (give Break)
+    stmt T.Continue = tick (give Continue)
+    stmt (T.Return v) = tick (optional_value value v >>= λ a. give (Return a))
+
+    pub block : Block → Eval Completion
+    block T.Close = give Normal
+    block (T.Declare local others) = declare local >>= λ begun. block others
+    block (T.Perform one others) = stmt one >>= λ way. block_rest way (block others)
+
+    -- from an item on
+    pub switch_from : Entry → SwitchItems → Eval Completion
+    switch_from NoEntry items = give Normal
+    switch_from entry T.SwitchEnd = give Normal
+    switch_from (At (suc number)) (T.Case label others) = switch_from (At number) others
+    switch_from (At (suc number)) (T.Default others) = switch_from (At number) others
+    switch_from (At (suc number)) (T.SwitchStmt one others) = switch_from (At number) others
+    switch_from (At zero) (T.Case label others) = switch_from (At zero) others
+    switch_from (At zero) (T.Default others) = switch_from (At zero) others
+    switch_from (At zero) (T.SwitchStmt one others) = stmt one >>= λ way. block_rest way (switch_from (At zero) others)
 
 -- ---- functions and programs
 

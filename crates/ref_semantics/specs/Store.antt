@@ -5,7 +5,7 @@ use Rattle.run_theory.specs.declared.ends.UbKind.{UbKind}
 use Rattle.run_theory.specs.Runs.{Event, Trace, Answer, Going, Over, Final, Undefined}
 use Rattle.c_typed.specs.Types.{CType, Void, Integer, Array, Struct}
 use Rattle.c_typed.specs.Layouts.{StructDef, MemberDef, layout_of, layouts, members_by_tag, known_members, offset_before}
-use Rattle.ref_semantics.specs.Values.{Name, Row, Place, Scalar, IntegerValue, NullValue, PointerValue, RawPointer, Content, Dead, Raw, Elements, Heap, same_name, whole_row, no_row, first_of_row, at_index}
+use Rattle.ref_semantics.specs.Values.{Name, Row, Place, Scalar, IntegerValue, NullValue, PointerValue, RawPointer, Content, Dead, Elements, Heap, same_name, whole_row, no_row, first_of_row}
 
 -- ---- objects
 

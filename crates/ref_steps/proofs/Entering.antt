@@ -65,7 +65,7 @@ module _ (around : TypeEnvironment) (functions : List FunctionDef) where
 
   value_library : (config : Config) (v : Value) (groups : ℕ) →
       Same (meant_library around (calls_within around functions config.depth) (ValuePart v) groups >>= λ a. resume around functions config.depth config.frames (ScalarGiven a)) (goes_on around functions (named_call around functions (ValuePart v) groups config))
-  value_library config (T.Constant z) groups = same_self
+  value_library config (T.Constant int_type z) groups = same_self
   value_library config v groups = same_self
 
   part_library : (config : Config) (part : Part) (groups : ℕ) →

@@ -1,13 +1,14 @@
 -- What an expression means: what it is tick with, and then what it does with its operands.
 use Rattle.std.proofs.Common.{ℕ, Bool, true, false, if◌then◌else◌, pos, neg_ℤ}
 use Rattle.c_num.specs.declared.BinOp.TheVariants as B
+use Rattle.c_typed.specs.Types.{literal_type}
 use Rattle.c_typed.specs.Typed as T
 use Rattle.c_typed.specs.Typed.{Value, Object, Designator}
 use Rattle.ref_semantics.specs.Values.{GlobalObject, LiteralObject, Place, Scalar, IntegerValue, NullValue, PointerValue, object_place, integer_of}
 use Rattle.ref_semantics.specs.Store.{TypeEnvironment, Eval, ◌>>=◌, give, tick, ticks, member_at, decayed}
 use Rattle.ref_semantics.specs.Pointers.{truth, accessed, added, element, repointed, tested, read, write}
 use Rattle.ref_semantics.specs.Library.{library}
-use Rattle.ref_semantics.specs.Meaning.{Calls, is_true, arithmetic, converted, value, values, find, address, designated, literal_type, named, local_place}
+use Rattle.ref_semantics.specs.Meaning.{Calls, is_true, arithmetic, converted, value, values, find, address, designated, named, local_place}
 use Rattle.ref_steps.specs.Parts.{Part, ValuePart, ObjectPart, AddressPart, FunctionPart, StmtPart, BodyPart, spends, Entry, Gives, FindsLocal, Finds, Becomes, Awaits, CallsLibrary, value_entry, object_entry, address_entry, designator_entry, entry_of, AsSecond, AsRight, AsWhole, Next, Comes, Enters, comes, next_of, both_of, step_integer, step_pointer}
 use Rattle.ref_steps.proofs.Binding.{Same, same_self, same_then, same_back, then_behind, then_same, then_give, entered_then, entered_inner}
 
@@ -158,7 +159,7 @@ module _ (around : TypeEnvironment) (calls : Calls) where
   Fits _ = Unit {0}
 
   value_fits : (v : Value) → Fits (value_entry v)
-  value_fits (T.Constant z) = tt
+  value_fits (T.Constant int_type z) = tt
   value_fits _ = tt
 
   object_fits : (object : Object) → Fits (object_entry object)

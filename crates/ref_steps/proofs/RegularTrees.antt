@@ -71,7 +71,7 @@ module _ (around : TypeEnvironment) (calls : Calls) (calls_regular : CallsRegula
 
   mutual
     pub value_strict : (v : Value) → Strict (value around calls v)
-    value_strict (T.Constant z) = entered_strict (give_regular _)
+    value_strict (T.Constant int_type z) = entered_strict (give_regular _)
     value_strict T.NullPointer = entered_strict (give_regular _)
     value_strict (T.Grouped inner) = inner_strict (value_strict inner)
     value_strict (T.Read place object) = then_strict (find_strict object) (λ p. read_regular around place p)
@@ -79,7 +79,7 @@ module _ (around : TypeEnvironment) (calls : Calls) (calls_regular : CallsRegula
     value_strict (T.FunctionValue function) = designated_strict function
     value_strict (T.Converted int_type operand) = then_strict (value_strict operand) (λ a. give_regular _)
     value_strict (T.Repointed place target operand) = then_strict (value_strict operand) (λ a. repointed_regular around place target a)
-    value_strict (T.MadeNull operand) = then_strict (value_strict operand) (λ a. give_regular _)
+    value_strict (T.MadeNull target operand) = then_strict (value_strict operand) (λ a. give_regular _)
     value_strict (T.Tested place operand) = then_strict (value_strict operand) (λ a. tested_regular place a)
     value_strict (T.Plus operand) = inner_strict (value_strict operand)
     value_strict (T.Minus place int_type operand) = one_strict (value_strict operand) (λ a. arithmetic_regular B.Sub int_type place (IntegerValue (pos 0)) a)

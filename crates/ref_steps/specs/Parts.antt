@@ -6,13 +6,14 @@ use Rattle.c_num.specs.declared.IntType.TheVariants as I
 use Rattle.c_num.specs.declared.BinOp.TheVariants as B
 use Rattle.c_num.specs.Types.{common_of}
 use Rattle.c_num.specs.Arith.{compare_of}
+use Rattle.c_typed.specs.Types.{literal_type}
 use Rattle.c_typed.specs.Typed as T
 use Rattle.c_typed.specs.Typed.{Value, Object, Designator, Stmt, FunctionDef}
 use Rattle.c_typed.specs.declared.typed.Stepping.{Stepping}
 use Rattle.ref_semantics.specs.Values.{Name, GlobalObject, LiteralObject, Place, Scalar, IntegerValue, NullValue, FunctionValue, PointerValue, object_place, place_of, integer_of}
 use Rattle.ref_semantics.specs.Store.{TypeEnvironment, Eval, ◌>>=◌, give, member_at, decayed}
 use Rattle.ref_semantics.specs.Pointers.{truth, accessed, added, element, repointed, tested, compared_pointers, difference, read, write}
-use Rattle.ref_semantics.specs.Meaning.{is_true, arithmetic, converted, step_operator, step_amount, step_result, literal_type}
+use Rattle.ref_semantics.specs.Meaning.{is_true, arithmetic, converted, step_operator, step_amount, step_result}
 
 -- an expression for its value, for its object, for the address of that or for its function, a statement, or a function's body
 pub data Part : Type 0 where
@@ -30,7 +31,7 @@ spends (ValuePart (T.Decay place object)) = false
 spends (ValuePart (T.FunctionValue function)) = false
 spends (ValuePart (T.Converted int_type operand)) = false
 spends (ValuePart (T.Repointed place target operand)) = false
-spends (ValuePart (T.MadeNull operand)) = false
+spends (ValuePart (T.MadeNull target operand)) = false
 spends (ValuePart (T.Tested place operand)) = false
 spends (FunctionPart (T.ThroughPointer place pointer)) = false
 spends _ = true
@@ -52,7 +53,7 @@ pub data Entry : Type 0 where
   CallsLibrary : (groups : ℕ) → Entry
 
 abbrev pub value_entry : Value → Entry
-value_entry (T.Constant z) = Gives (IntegerValue z)
+value_entry (T.Constant int_type z) = Gives (IntegerValue z)
 value_entry T.NullPointer = Gives NullValue
 value_entry (T.Grouped inner) = Becomes (ValuePart inner)
 value_entry (T.Read place object) = Awaits (ObjectPart object)
@@ -60,7 +61,7 @@ value_entry (T.Decay place object) = Awaits (ObjectPart object)
 value_entry (T.FunctionValue function) = Becomes (FunctionPart function)
 value_entry (T.Converted int_type operand) = Awaits (ValuePart operand)
 value_entry (T.Repointed place target operand) = Awaits (ValuePart operand)
-value_entry (T.MadeNull operand) = Awaits (ValuePart operand)
+value_entry (T.MadeNull target operand) = Awaits (ValuePart operand)
 value_entry (T.Tested place operand) = Awaits (ValuePart operand)
 value_entry (T.Plus operand) = Becomes (ValuePart operand)
 value_entry (T.Minus place int_type operand) = Awaits (ValuePart operand)
@@ -149,7 +150,7 @@ value_next around (T.Read place object) a = comes (read around place (place_of a
 value_next around (T.Decay place object) a = give (Comes (PointerValue (decayed around (place_of a))))
 value_next around (T.Converted int_type operand) a = give (Comes (converted int_type a))
 value_next around (T.Repointed place target operand) a = comes (repointed around place target a)
-value_next around (T.MadeNull operand) a = give (Comes NullValue)
+value_next around (T.MadeNull target operand) a = give (Comes NullValue)
 value_next around (T.Tested place operand) a = comes (tested place a)
 value_next around (T.Minus place int_type operand) a = comes (arithmetic B.Sub int_type place (IntegerValue (pos 0)) a)
 value_next around (T.Complement int_type operand) a = give (Comes (converted int_type (IntegerValue (neg_ℤ (integer_of a) -ℤ pos 1))))

@@ -3,20 +3,20 @@ use Rattle.std.proofs.Common.{◌≡◌, ℕ, zero, suc, ◌+◌, ◌<◌, Bool,
 use Rattle.std.proofs.lemmas.List.{take_more, drop_more, map-append}
 use Rattle.text_place.specs.declared.place.Pos.{Pos}
 use Rattle.c_typed.specs.declared.definition.GlobalDef as memory_global
-use Rattle.c_typed.specs.Types.{CType}
+use Rattle.c_typed.specs.declared.definition.LiteralDef as memory_literal
+use Rattle.c_typed.specs.Types.{CType, Void, literal_type}
 use Rattle.c_typed.specs.Typed.{GlobalDef, LiteralDef, Program}
 use Rattle.c_typed.specs.Table.{Interned, Stands, type_in}
-use Rattle.c_typed.specs.DefinitionViews.{global_in, all_first, GlobalsStand}
+use Rattle.c_typed.specs.DefinitionViews.{global_in, literal_of, all_first, GlobalsStand, LiteralStands, LiteralsStand}
 use Rattle.c_typed.specs.Places.{is_same_place}
-use Rattle.ref_semantics.specs.Values.{Name, Heap, GlobalObject, LiteralObject, LocalObject, Scalar, Content, Dead, Raw, Elements, same_name, whole_row}
-use Rattle.ref_semantics.specs.Store.{Objects, is_dead, with_content}
-use Rattle.ref_semantics.specs.First.{type_of_global, literal_at, literal_content, or_void, option_type, first_held, global_content, first_objects}
-use Rattle.ref_semantics.specs.Meaning.{literal_type}
+use Rattle.ref_semantics.specs.Values.{Name, Heap, GlobalObject, LiteralObject, LocalObject, Row, Scalar, Content, Dead, Raw, Elements, same_name, whole_row}
+use Rattle.ref_semantics.specs.Store.{Objects, is_dead, row_of, with_content}
+use Rattle.ref_semantics.specs.First.{type_of_global, static_type, literal_at, literal_content, characters, or_void, option_type, first_held, global_content, first_objects}
 use Rattle.ref_store.specs.declared.object.Content.TheVariants as C
 use Rattle.ref_store.specs.declared.object.Elements as memory_elements
 use Rattle.ref_store.specs.Holding.{AllHeld, ContentIs, elements}
 use Rattle.ref_store.specs.Beginning.{unfilled, unfilled_objects}
-use Rattle.ref_store.specs.Firsts.{unfilled_of, or_content, with_new, static_row, characters_row, IsFirst, AreFirsts, filled}
+use Rattle.ref_store.specs.Firsts.{unfilled_of, or_content, with_new, IsFirst, AreFirsts, AreCharacters, filled}
 use Rattle.ref_store.proofs.Names.{same_name-true}
 
 -- ---- what is there, and what isn't
@@ -104,19 +104,24 @@ unfilled_none (LocalObject number) = refl
 
 -- ---- the rows of objects
 
-pub literal_none : (literal : Option LiteralDef) → is_dead (literal_content literal) ≡ true → static_row (literal_content literal) ≡ whole_row (or_void (option_type literal)) 1
-literal_none None h = refl
-literal_none (Some literal) h = absurd (true≢false (sym h))
+-- one that isn't there is one without a type
+abbrev pub static_row : Content → Row
+static_row Dead = whole_row Void 1
+static_row content = row_of content
 
--- a literal that is there
-pub record IsKept (literal : Option LiteralDef) : Type 0 where
-  pub bytes : List ℕ
-  pub row : static_row (literal_content literal) ≡ characters_row bytes
-  pub c_type : or_void (option_type literal) ≡ literal_type bytes
+variable_row : (c_type : Option CType) → static_row (unfilled c_type) ≡ whole_row (or_void c_type) 1
+variable_row (Some c_type) = refl
+variable_row None = refl
 
-pub literal_kept : (literal : Option LiteralDef) → is_dead (literal_content literal) ≡ false → IsKept literal
-literal_kept None h = absurd (true≢false h)
-literal_kept (Some literal) h = record { bytes = literal.bytes; row = refl; c_type = refl }
+literal_row : (literal : Option LiteralDef) → static_row (literal_content literal) ≡ whole_row (or_void (option_type literal)) 1
+literal_row (Some literal) = refl
+literal_row None = refl
+
+pub row_of_static : (program : Program) (name : Name) → static_row (unfilled_objects program name) ≡ whole_row (static_type program name) 1
+row_of_static program (Heap number) = refl
+row_of_static program (GlobalObject name) = variable_row (type_of_global program.globals name)
+row_of_static program (LiteralObject place) = literal_row (literal_at program.literals place)
+row_of_static program (LocalObject number) = refl
 
 -- ---- first values
 
@@ -131,6 +136,12 @@ pub first_content : (program : Program) (table : Interned) (global : memory_glob
 first_content program table global made stands is =
     elements_content table made true (type_in table global.c_type) 1 (first_held program (type_in table global.c_type) (all_first global.first.items)) is.is_static (ap (type_in table) is.c_type) is.count
     (subst (Stands table) (sym is.c_type) stands) is.held
+
+pub literal_made : (table : Interned) (literal : memory_literal.LiteralDef) (made : memory_elements.Elements) → LiteralStands table literal → AreCharacters table literal made
+    → ContentIs table (Some (C.Elements made)) (literal_content (Some (literal_of literal)))
+literal_made table literal made stands are =
+    elements_content table made true (literal_type literal.bytes) 1 (characters literal.bytes) are.is_static (ap (type_in table) are.c_type ∙ stands.1) are.count
+    (subst (Stands table) (sym are.c_type) stands.0) are.held
 
 module _ (program : Program) (table : Interned) where
   pub firsts_push : (globals : List memory_global.GlobalDef) (made : List memory_elements.Elements) (global : memory_global.GlobalDef) (last : memory_elements.Elements) → length made < length globals
@@ -152,6 +163,13 @@ pub global_stands : (table : Interned) (globals : List memory_global.GlobalDef) 
 global_stands table [] n global all lt at = absurd (omega arith)
 global_stands table (g ∷ globals) zero global all lt at = subst (λ (x : memory_global.GlobalDef). Stands table x.c_type) (sym at) all.0
 global_stands table (g ∷ globals) (suc n) global all lt at = global_stands table globals n global all.1 (omega arith) at
+
+-- and each of the literals
+pub literal_stands : (table : Interned) (literals : List memory_literal.LiteralDef) (n : ℕ) (literal : memory_literal.LiteralDef) → LiteralsStand table literals → n < length literals → literal ≡ get_or literals n literal
+    → LiteralStands table literal
+literal_stands table [] n literal all lt at = absurd (omega arith)
+literal_stands table (l ∷ literals) zero literal all lt at = subst (LiteralStands table) (sym at) all.0
+literal_stands table (l ∷ literals) (suc n) literal all lt at = literal_stands table literals n literal all.1 (omega arith) at
 
 -- ---- the variables with their first values
 

@@ -1,5 +1,5 @@
 -- What a store stands for where objects are added to it.
-use Rattle.std.proofs.Common.{◌≡◌, ℕ, Bool, true, false, not, List, [], ◌∷◌, length, suc-ne-zero, Option, Some, None, is_some, Bor, refl, sym, ap, subst, ◌∙◌}
+use Rattle.std.proofs.Common.{◌≡◌, ℕ, Bool, true, false, not, Option, Some, None, is_some, Bor, refl, sym, ap, subst, ◌∙◌}
 use Rattle.std.specs.Option.{option_copied}
 use Rattle.indexmap.specs.IndexMap.{IndexMap, get, get_by}
 use Rattle.c_typed.specs.Types.{Void}
@@ -13,10 +13,10 @@ use Rattle.ref_store.specs.declared.store.Store.{Store}
 use Rattle.ref_store.specs.contracts.value.NamePartialEq.TheImpl.{eq-value}
 use Rattle.ref_store.specs.Views.{name_of, same_memory, row_in}
 use Rattle.ref_store.specs.Holding.{At, ContentIs, dead, raw, elements}
-use Rattle.ref_store.specs.Firsts.{with_new, static_row}
+use Rattle.ref_store.specs.Firsts.{with_new}
 use Rattle.ref_store.proofs.Names.{get_name}
 use Rattle.ref_store.proofs.Updating.{Changes, at_changed}
-use Rattle.ref_store.proofs.FirstObjects.{new_added, new_left}
+use Rattle.ref_store.proofs.FirstObjects.{new_added, new_left, static_row}
 
 -- objects that hold the same
 pub at_same : (around : TypeEnvironment) (store : Store) (base : ℕ) (state : State) (objects : Objects) → ((name : Name) → state.objects name ≡ objects name) → At around store base state → At around store base (record state { objects = objects })
@@ -77,7 +77,3 @@ none_row table _ dead = refl
 
 pub missing_row : (table : Interned) (content : Content) → ContentIs table None content → row_in table (record { start = 0; c_type = record { 0 = 0 }; count = 1 }) ≡ static_row content
 missing_row table content is = ap (λ t. whole_row t 1) (void_stands table (record { 0 = 0 }) refl).1 ∙ sym (none_row table content is)
-
-pub no_items : {A : Type 0} (xs : List A) → length xs ≡ 0 → xs ≡ []
-no_items [] e = refl
-no_items (x ∷ xs) e = absurd (suc-ne-zero (length xs) e)

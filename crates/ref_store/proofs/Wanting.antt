@@ -1,13 +1,10 @@
 -- Where memory runs out.
-use Rattle.std.proofs.Common.{◌≡◌, ℕ, Option, Some, None, Result, Ok, Err, IfErr, IsErrAnd, refl, sym, subst, arith}
+use Rattle.std.proofs.Common.{◌≡◌, ℕ, Result, Ok, Err, IfErr, IsErrAnd, refl, sym, subst, arith}
 use Rattle.c_typed.specs.Types.{CType, Void, Integer, Pointer, Array, Struct, Function}
-use Rattle.ref_semantics.specs.Values.{Heap, Place, Scalar, RawPointer, whole_row}
+use Rattle.ref_semantics.specs.Values.{Heap, Place, Scalar, RawPointer}
 use Rattle.ref_semantics.specs.Store.{TypeEnvironment, Objects, offset_of, inner_row, decayed}
-use Rattle.ref_semantics.specs.First.{or_void}
 use Rattle.ref_store.specs.declared.value.Stop.{Stop}
 use Rattle.ref_store.specs.declared.value.Stop.TheVariants as T
-use Rattle.ref_store.specs.Beginning.{unfilled}
-use Rattle.ref_store.specs.Firsts.{static_row}
 use Rattle.ref_store.specs.Wanting.{OutOnly, Overflows, GetsType, PointsUntyped}
 
 pub out_where : (P : Type 0) (stop : Stop) → P → OutOnly P stop
@@ -44,8 +41,3 @@ decayed_overflows around place over = omega (arith, over, inner_start (offset_of
 
 pub points_untyped : (around : TypeEnvironment) (target : CType) (objects : Objects) (value : Scalar) (number : ℕ) → value ≡ RawPointer number → GetsType around target (objects (Heap number)) → PointsUntyped around target objects value
 points_untyped around target objects value number is gets = subst (PointsUntyped around target objects) (sym is) gets
-
--- a variable without first values is one object
-pub variable_row : (c_type : Option CType) → static_row (unfilled c_type) ≡ whole_row (or_void c_type) 1
-variable_row (Some c_type) = refl
-variable_row None = refl

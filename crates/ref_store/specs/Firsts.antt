@@ -1,16 +1,16 @@
 -- What the functions that make the store before a program runs leave.
-use Rattle.std.specs.Prelude.{◌≡◌, ℕ, suc, true, if◌then◌else◌, ◌==◌, List, [], ◌∷◌, length, Option, Some, None, pos}
+use Rattle.std.specs.Prelude.{◌≡◌, ℕ, suc, true, if◌then◌else◌, ◌==◌, List, [], ◌∷◌, Option, Some, None, pos}
 use Rattle.c_num.specs.declared.IntType.{IntType}
-use Rattle.c_num.specs.declared.IntType.TheVariants as I
 use Rattle.c_num.specs.Conversion.{convert_to}
 use Rattle.c_typed.specs.declared.definition.GlobalDef as memory_global
-use Rattle.c_typed.specs.Types.{CType, Void, Integer, Array}
+use Rattle.c_typed.specs.declared.definition.LiteralDef as memory_literal
+use Rattle.c_typed.specs.Types.{CType}
 use Rattle.c_typed.specs.Values as values
 use Rattle.c_typed.specs.Typed.{GlobalDef, LiteralDef, Program}
-use Rattle.c_typed.specs.Table.{Interned, Stands, type_in}
+use Rattle.c_typed.specs.Table.{Interned, type_in}
 use Rattle.c_typed.specs.DefinitionViews.{all_first}
-use Rattle.ref_semantics.specs.Values.{Name, GlobalObject, LiteralObject, Row, Place, Scalar, IntegerValue, Content, Dead, Elements, same_name, whole_row, at_index}
-use Rattle.ref_semantics.specs.Store.{TypeEnvironment, Objects, offset_of, row_of, with_content}
+use Rattle.ref_semantics.specs.Values.{Name, GlobalObject, LiteralObject, Place, Scalar, IntegerValue, Content, Dead, Elements, same_name, at_index}
+use Rattle.ref_semantics.specs.Store.{TypeEnvironment, Objects, offset_of, with_content}
 use Rattle.ref_semantics.specs.First.{around_of, type_of_global, literal_at, literal_content, characters, first_held, first_state}
 use Rattle.ref_store.specs.declared.object.Elements as memory_elements
 use Rattle.ref_store.specs.declared.store.Store.{Store}
@@ -36,19 +36,6 @@ with_new name content objects other = or_content (objects other) (if same_name n
 -- before a program runs, a store holds these objects
 abbrev pub Has : Program → Store → Objects → Type 0
 Has program store objects = At (around_of program) store 0 (record (first_state program [] 0) { objects = objects })
-
--- the row that an object is; one that isn't there is one without a type
-abbrev pub static_row : Content → Row
-static_row Dead = whole_row Void 1
-static_row content = row_of content
-
--- a literal, as it is kept
-abbrev pub characters_row : List ℕ → Row
-characters_row bytes = whole_row (Integer I.Char) (suc (length bytes))
-
--- the array whose elements are a row
-abbrev pub array_row : Row → Row
-array_row row = whole_row (Array row.c_type row.count) 1
 
 -- ---- first values
 
@@ -92,10 +79,9 @@ abbrev pub filled : Program → List GlobalDef → Objects → Objects
 filled program [] objects = objects
 filled program (first ∷ others) objects = with_content (GlobalObject first.name) (Elements true first.c_type 1 (first_held program first.c_type first.first)) (filled program others objects)
 
--- the bytes of a literal as a row of characters
-pub record AreCharacters (table : Interned) (bytes : List ℕ) (elements : memory_elements.Elements) : Type 0 where
+-- the bytes of a literal, as the characters of its array
+pub record AreCharacters (table : Interned) (literal : memory_literal.LiteralDef) (elements : memory_elements.Elements) : Type 0 where
   pub is_static : elements.is_static ≡ true
-  pub stands : Stands table elements.c_type
-  pub c_type : type_in table elements.c_type ≡ Integer I.Char
-  pub count : elements.count ≡ suc (length bytes)
-  pub held : AllHeld table elements.held (characters bytes)
+  pub c_type : elements.c_type ≡ literal.c_type
+  pub count : elements.count ≡ 1
+  pub held : AllHeld table elements.held (characters literal.bytes)

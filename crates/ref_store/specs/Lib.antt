@@ -3,3 +3,4 @@ pub mod Holding
 pub mod Wanting
 pub mod Beginning
 pub mod Firsts
+pub mod Promises

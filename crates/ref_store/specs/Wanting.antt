@@ -38,21 +38,12 @@ WalkOverflows around place (step ∷ steps) = Overflows around (stepped around p
 
 -- ---- first values
 
--- a literal as a whole: its array type need not be in the table of types
-abbrev pub IsWholeLiteral : first.Place → Type 0
-IsWholeLiteral place = by place.name place.steps
-  where
-    by : first.Name → List Part → Type 0
-    by (first.Text literal) [] = Unit {0}
-    by _ _ = ⊥
-
 -- a first place that need not be found
-abbrev pub IsUnfound : Program → first.Place → Type 0
-IsUnfound program place =
-    IsWholeLiteral place ⊎ WalkOverflows (around_of program) (object_place (name_of place.name) (static_type program (name_of place.name))) place.steps
+abbrev pub IsUnfound : Program → first.FirstPlace → Type 0
+IsUnfound program place = WalkOverflows (around_of program) (object_place (name_of place.root) (static_type program (name_of place.root))) place.steps
 
 -- a first value that points to one
-abbrev pub PointsUnfound : Program → first.Scalar → Type 0
+abbrev pub PointsUnfound : Program → first.FirstScalar → Type 0
 PointsUnfound program (first.PointerValue place) = IsUnfound program place
 PointsUnfound program _ = ⊥
 

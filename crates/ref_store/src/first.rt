@@ -2,22 +2,20 @@
 
 ghost use Rattle.std.specs.Prelude.{◌≡◌, ℕ, List, [], Option, Some, length, IfOk, IfErr, OnOk};
 ghost use Rattle.c_typed.specs.Types as types;
-ghost use Rattle.c_typed.specs.Values as typed_values;
-ghost use Rattle.c_typed.specs.Table.{Interned, Stands, type_in, structs_in};
-ghost use Rattle.c_typed.specs.DefinitionViews.{program_of, first_of, literal_of, scalar_of, ProgramStands, GlobalsStand};
-ghost use Rattle.c_typed.specs.DefinitionViews as views;
+ghost use Rattle.c_typed.specs.Table.{Stands, type_in, structs_in};
+ghost use Rattle.c_typed.specs.DefinitionViews.{program_of, first_of, literal_of, scalar_of, static_of, ProgramStands, GlobalsStand, LiteralStands, LiteralsStand};
 ghost use Rattle.ref_semantics.specs.Values as meaning;
-ghost use Rattle.ref_semantics.specs.Values.{object_place, first_of_row};
+ghost use Rattle.ref_semantics.specs.Values.{object_place};
 ghost use Rattle.ref_semantics.specs.Store.{TypeEnvironment, State, with_content};
-ghost use Rattle.ref_semantics.specs.Meaning.{literal_type};
 ghost use Rattle.ref_semantics.specs.First as rules;
 ghost use Rattle.ref_semantics.specs.First.{around_of, first_state};
+ghost use Rattle.ref_store.specs.Promises.{ForTypes, place_seen, type_seen, value_seen};
 ghost use Rattle.ref_store.specs.declared.object.Content.TheVariants as C;
-ghost use Rattle.ref_store.specs.Views.{name_of, row_in, place_in, scalar_in, PlaceStands, ScalarStands};
+ghost use Rattle.ref_store.specs.Views.{name_of, place_in, scalar_in, PlaceStands, ScalarStands};
 ghost use Rattle.ref_store.specs.Holding.{At, AllHeld, ContentIs, IsUndisturbed};
 ghost use Rattle.ref_store.specs.Wanting.{Overflows, WalkOverflows, IsUnfound, PointsUnfound, OutOnly};
 ghost use Rattle.ref_store.specs.Beginning.{IsUnfilled, unfilled, unfilled_objects};
-ghost use Rattle.ref_store.specs.Firsts.{Has, unfilled_of, with_new, static_row, array_row, characters_row, with_first, with_text, with_given, IsFirst, AreFirsts, AreCharacters};
+ghost use Rattle.ref_store.specs.Firsts.{Has, unfilled_of, with_new, with_first, with_text, with_given, IsFirst, AreFirsts, AreCharacters};
 
 use crate::object::{Content, Elements};
 use crate::store::Store;
@@ -27,35 +25,24 @@ use c_typed as typed;
 use c_typed::{CType, First, Part, Program, Static};
 use indexmap::{IndexMap, IndexSet};
 use std::alloc::{AllocError, Global};
-use text_place::Pos;
 
-/// What the size of a type is at most.
-const GREATEST_SIZE: u64 = 1 << 62;
-
-/// The row to which a step leads from a literal that is kept as a row of characters.
-fn within_literal(row: Row, part: Part) -> Result<Row, Stop>
-    ensures means { (table : Interned) (around : TypeEnvironment) (name : meaning.Name) (bytes : List ℕ) → row_in table row ≡ characters_row bytes → IfOk result (λ found. first_of_row name (row_in table found) ≡ rules.stepped around (object_place name (literal_type bytes)) part) }
-    ensures stands { (table : Interned) → Stands table row.c_type → IfOk result (λ found. Stands table found.c_type) }
-    ensures want { (table : Interned) (around : TypeEnvironment) (name : meaning.Name) (bytes : List ℕ) → row_in table row ≡ characters_row bytes → IfErr result (OutOnly (Overflows around (rules.stepped around (object_place name (literal_type bytes)) part))) }
+/// The name of an object that lives as long as the program.
+fn static_name(root: &Static) -> Name<'_>
+    ensures { name_of result ≡ rules.name_of (static_of root.now) }
 {
-    match part {
-        Part::Elements { index } => {
-            let Some(start) = index.checked_mul(row.count.min(GREATEST_SIZE)) else {
-                return Err(Stop::OutOfMemory);
-            };
-            Ok(Row { start, ..row })
-        }
-        Part::Member { .. } => Ok(Row::NOTHING),
+    match root {
+        Static::Variable(name) => Name::Outer(name.as_slice()),
+        Static::Literal(place) => Name::Text(*place),
     }
 }
 
 impl<'a> Store<'a> {
     /// The store before a program runs: its variables outside functions, and its literals. Memory also runs out where an
-    /// offset in a first value does not fit in 64 bits, and where one points to a literal as a whole, an array whose type is
-    /// not in the table.
+    /// offset in a first value does not fit in 64 bits.
     pub fn new(alloc: Global, program: &'a Program) -> Result<Store<'a>, AllocError>
         requires { ProgramStands program.now }
-        ensures stands { (input : List ℕ) (units : ℕ) → IfOk result (λ store. At (around_of (program_of program.now)) store 0 (first_state (program_of program.now) input units)) }
+        ensures stands { (input : List ℕ) (units : ℕ) → IfOk result (λ store.
+            At (around_of (program_of program.now)) store 0 (first_state (program_of program.now) input units)) }
         ensures types { IfOk result (λ store. store.types.now ≡ program.now.types) }
     {
         let mut store = Store::empty(alloc, program)?;
@@ -105,7 +92,12 @@ impl<'a> Store<'a> {
     /// A variable without first values, where there is none of its name.
     fn add_global(&mut self, global: &'a typed::GlobalDef) -> Result<(), AllocError>
         requires { Stands self.old.types.now global.now.c_type }
-        ensures added { (around : TypeEnvironment) (base : ℕ) (state : State) → At around self.old base state → OnOk result (At around self.new base (record state { objects = with_new (meaning.GlobalObject global.now.name) (unfilled (Some (type_in self.old.types.now global.now.c_type))) state.objects })) }
+        ensures added { (around : TypeEnvironment) (base : ℕ) (state : State) → At around self.old base state
+            → OnOk result (At around self.new base
+            (record state {
+              objects = with_new (meaning.GlobalObject global.now.name)
+                  (unfilled (Some (type_seen self.old global.now.c_type))) state.objects;
+            })) }
         ensures types { self.new.types ≡ self.old.types }
     {
         let name = Name::Outer(global.name.as_slice());
@@ -119,7 +111,9 @@ impl<'a> Store<'a> {
 
     /// The literals. Of several at one place the first counts.
     fn add_literals(&mut self, program: &'a Program) -> Result<(), AllocError>
-        requires { Has (program_of program.now) self.old (unfilled_of (program_of program.now).globals []) }
+        requires stand { LiteralsStand program.now.types program.now.literals.items }
+        requires types { self.old.types.now ≡ program.now.types }
+        requires had { Has (program_of program.now) self.old (unfilled_of (program_of program.now).globals []) }
         ensures added { OnOk result (IsUnfilled (program_of program.now) self.new) }
         ensures types { self.new.types ≡ self.old.types }
     {
@@ -131,26 +125,31 @@ impl<'a> Store<'a> {
 
     /// A literal, where there is none at its place.
     fn add_literal(&mut self, literal: &'a typed::LiteralDef) -> Result<(), AllocError>
-        ensures added { (around : TypeEnvironment) (base : ℕ) (state : State) → At around self.old base state → OnOk result (At around self.new base (record state { objects = with_new (meaning.LiteralObject literal.now.place) (rules.literal_content (Some (literal_of literal.now))) state.objects })) }
+        requires { LiteralStands self.old.types.now literal.now }
+        ensures added { (around : TypeEnvironment) (base : ℕ) (state : State) → At around self.old base state
+            → OnOk result (At around self.new base
+            (record state {
+              objects = with_new (meaning.LiteralObject literal.now.place)
+                  (rules.literal_content (Some (literal_of literal.now))) state.objects;
+            })) }
         ensures types { self.new.types ≡ self.old.types }
     {
         let name = Name::Text(literal.place);
         if self.objects.get(&name).is_some() {
             return Ok(());
         }
-        let elements = self.characters(literal.bytes.as_slice())?;
+        let elements = self.characters(literal)?;
         self.objects.insert(name, Content::Elements(elements))?;
         Ok(())
     }
 
-    /// The bytes of a literal, as a row of characters.
-    fn characters(&self, bytes: &[u8]) -> Result<Elements<'a>, AllocError>
-        ensures { IfOk result (AreCharacters self.now.types.now bytes.now) }
+    /// The bytes of a literal, as the characters of its array.
+    fn characters(&self, literal: &'a typed::LiteralDef) -> Result<Elements<'a>, AllocError>
+        ensures { IfOk result (AreCharacters self.now.types.now literal.now) }
     {
-        let c_type = CType::integer(IntType::Char);
-        let mut elements = Elements::new(self.alloc, true, c_type, bytes.len() as u64 + 1);
+        let mut elements = Elements::new(self.alloc, true, literal.c_type, 1);
         let mut offset = 0;
-        for byte in bytes {
+        for byte in literal.bytes.as_slice() {
             let value = convert(i128::from(*byte), IntType::Char);
             elements.hold(offset, Scalar::Integer(value))?;
             offset += 1;
@@ -203,7 +202,9 @@ impl<'a> Store<'a> {
         global: &'a typed::GlobalDef,
         elements: Elements<'a>,
     ) -> Result<(), AllocError>
-        ensures held { (around : TypeEnvironment) (base : ℕ) (state : State) (content : meaning.Content) → ContentIs self.old.types.now (Some (C.Elements elements.entry)) content → At around self.old base state → OnOk result (At around self.new base (record state { objects = with_content (meaning.GlobalObject global.now.name) content state.objects })) }
+        ensures held { (around : TypeEnvironment) (base : ℕ) (state : State) (content : meaning.Content)
+            → ContentIs self.old.types.now (Some (C.Elements elements.entry)) content → At around self.old base state
+            → OnOk result (At around self.new base (record state { objects = with_content (meaning.GlobalObject global.now.name) content state.objects })) }
         ensures types { self.new.types ≡ self.old.types }
     {
         let name = Name::Outer(global.name.as_slice());
@@ -241,7 +242,9 @@ impl<'a> Store<'a> {
         requires unfilled { IsUnfilled (program_of program.now) self.now }
         requires root { PlaceStands self.now.types.now root }
         ensures same { IsUndisturbed elements.old elements.new }
-        ensures held { (c_type : types.CType) (held : ℕ → Option meaning.Scalar) → place_in self.now.types.now root.entry ≡ object_place (meaning.Heap 0) c_type → AllHeld self.now.types.now elements.old.held held → OnOk result (AllHeld self.now.types.now elements.new.held (with_given (program_of program.now) c_type (first_of first.now) held)) }
+        ensures held { (c_type : types.CType) (held : ℕ → Option meaning.Scalar) → place_seen self.now root.entry ≡ object_place (meaning.Heap 0) c_type
+            → AllHeld self.now.types.now elements.old.held held
+            → OnOk result (AllHeld self.now.types.now elements.new.held (with_given (program_of program.now) c_type (first_of first.now) held)) }
     {
         match first {
             First::Scalar(held) => {
@@ -270,7 +273,9 @@ impl<'a> Store<'a> {
     ) -> Result<(), Stop>
         requires { PlaceStands self.now.types.now place }
         ensures same { IsUndisturbed elements.old elements.new }
-        ensures held { (around : TypeEnvironment) (held : ℕ → Option meaning.Scalar) → around.structs ≡ structs_in self.now.types.now → AllHeld self.now.types.now elements.old.held held → OnOk result (AllHeld self.now.types.now elements.new.held (with_text around (place_in self.now.types.now place.entry) int_type 0 bytes.now held)) }
+        ensures held { (around : TypeEnvironment) (held : ℕ → Option meaning.Scalar) → around.structs ≡ structs_in self.now.types.now
+            → AllHeld self.now.types.now elements.old.held held
+            → OnOk result (AllHeld self.now.types.now elements.new.held (with_text around (place_seen self.now place.entry) int_type 0 bytes.now held)) }
     {
         let mut index = 0;
         for byte in bytes {
@@ -292,7 +297,10 @@ impl<'a> Store<'a> {
         requires place { PlaceStands self.now.types.now place }
         requires value { ScalarStands self.now.types.now value }
         ensures same { IsUndisturbed elements.old elements.new }
-        ensures held { (around : TypeEnvironment) (held : ℕ → Option meaning.Scalar) → around.structs ≡ structs_in self.now.types.now → AllHeld self.now.types.now elements.old.held held → OnOk result (AllHeld self.now.types.now elements.new.held (with_first around (place_in self.now.types.now place.entry) (scalar_in self.now.types.now value.entry) held)) }
+        ensures held { (around : TypeEnvironment) (held : ℕ → Option meaning.Scalar) → around.structs ≡ structs_in self.now.types.now
+            → AllHeld self.now.types.now elements.old.held held
+            → OnOk result (AllHeld self.now.types.now elements.new.held
+            (with_first around (place_seen self.now place.entry) (value_seen self.now value.entry) held)) }
     {
         let offset = self.offset(place)?;
         if elements.held(offset).is_none() {
@@ -308,7 +316,7 @@ impl<'a> Store<'a> {
         value: &'a typed::Scalar,
     ) -> Result<Scalar<'a>, Stop>
         requires { IsUnfilled (program_of program.now) self.now }
-        ensures means { IfOk result (λ scalar. scalar_in self.now.types.now scalar ≡ rules.first_scalar (program_of program.now) (scalar_of value.now)) }
+        ensures means { IfOk result (λ scalar. value_seen self.now scalar ≡ rules.first_scalar (program_of program.now) (scalar_of value.now)) }
         ensures stands { IfOk result (ScalarStands self.now.types.now) }
         ensures want { IfErr result (OutOnly (PointsUnfound (program_of program.now) (scalar_of value.now))) }
     {
@@ -332,23 +340,19 @@ impl<'a> Store<'a> {
         index: u64,
     ) -> Result<Place<'a>, Stop>
         requires { IsUnfilled (program_of program.now) self.now }
-        ensures means { IfOk result (λ place. place_in self.now.types.now place ≡ rules.first_place (program_of program.now) (record { name = views.name_of root.now; steps = parts.now; index = index })) }
+        ensures means { IfOk result (λ place. place_seen self.now place
+            ≡ rules.first_place (program_of program.now) (record { root = static_of root.now; steps = parts.now; index = index })) }
         ensures stands { IfOk result (PlaceStands self.now.types.now) }
-        ensures want { IfErr result (OutOnly (IsUnfound (program_of program.now) (record { name = views.name_of root.now; steps = parts.now; index = index }))) }
+        ensures want { IfErr result (OutOnly (IsUnfound (program_of program.now) (record { root = static_of root.now; steps = parts.now; index = index }))) }
     {
-        match root {
-            Static::Variable(name) => {
-                let place = self.root(program, Name::Outer(name.as_slice()));
-                self.walked(place, parts, index)
-            }
-            Static::Literal(place) => self.in_literal(program, *place, parts, index),
-        }
+        let place = self.root(program, static_name(root));
+        self.walked(place, parts, index)
     }
 
     /// An object that lives as long as the program.
     fn root(&self, program: &'a Program, name: Name<'a>) -> Place<'a>
         requires { IsUnfilled (program_of program.now) self.now }
-        ensures means { place_in self.now.types.now result ≡ first_of_row (name_of name.entry) (static_row (unfilled_objects (program_of program.now) (name_of name.entry))) }
+        ensures means { place_seen self.now result ≡ object_place (name_of name.entry) (rules.static_type (program_of program.now) (name_of name.entry)) }
         ensures stands { PlaceStands self.now.types.now result }
     {
         match self.objects.get(&name) {
@@ -364,57 +368,13 @@ impl<'a> Store<'a> {
         }
     }
 
-    /// An element of the row to which steps lead from a literal, which is an array, though it is kept as a row of characters.
-    fn in_literal(
-        &self,
-        program: &'a Program,
-        place: Pos,
-        parts: &[Part],
-        index: u64,
-    ) -> Result<Place<'a>, Stop>
-        requires { IsUnfilled (program_of program.now) self.now }
-        ensures means { IfOk result (λ found. place_in self.now.types.now found ≡ rules.walked (around_of (program_of program.now)) (object_place (meaning.LiteralObject place) (rules.static_type (program_of program.now) (meaning.LiteralObject place))) parts.now index) }
-        ensures stands { IfOk result (PlaceStands self.now.types.now) }
-        ensures want { IfErr result (OutOnly (IsUnfound (program_of program.now) (record { name = typed_values.Text place; steps = parts.now; index = index }))) }
-    {
-        let name = Name::Text(place);
-        let root = self.root(program, name);
-        if self.is_dead(name) {
-            return self.walked(root, parts, index);
-        }
-        let Some((part, others)) = parts.split_first() else {
-            return self.whole_literal(root, index);
-        };
-        let row = within_literal(root.row, *part)?;
-        self.walked(Place::first(name, row), others, index)
-    }
-
-    /// The array that a literal is, where it is kept as a row of characters.
-    fn whole_literal(&self, root: Place<'a>, index: u64) -> Result<Place<'a>, Stop>
-        requires { PlaceStands self.now.types.now root }
-        ensures means { IfOk result (λ found. place_in self.now.types.now found ≡ record { name = name_of root.entry.name; row = array_row (row_in self.now.types.now root.entry.row); index = index }) }
-        ensures stands { IfOk result (PlaceStands self.now.types.now) }
-    {
-        let Some(c_type) = self.types.find_array(root.row.c_type, root.row.count) else {
-            return Err(Stop::OutOfMemory);
-        };
-        Ok(Place {
-            name: root.name,
-            row: Row {
-                start: 0,
-                c_type,
-                count: 1,
-            },
-            index,
-        })
-    }
-
     /// The element with an index of the row to which steps lead.
     fn walked(&self, place: Place<'a>, parts: &[Part], index: u64) -> Result<Place<'a>, Stop>
         requires { PlaceStands self.now.types.now place }
-        ensures found { (around : TypeEnvironment) → around.structs ≡ structs_in self.now.types.now → IfOk result (λ found. place_in self.now.types.now found ≡ rules.walked around (place_in self.now.types.now place.entry) parts.now index) }
+        ensures found { ForTypes self.now.types.now (λ around.
+            IfOk result (λ found. place_seen self.now found ≡ rules.walked around (place_seen self.now place.entry) parts.now index)) }
         ensures stands { IfOk result (PlaceStands self.now.types.now) }
-        ensures want { (around : TypeEnvironment) → around.structs ≡ structs_in self.now.types.now → IfErr result (OutOnly (WalkOverflows around (place_in self.now.types.now place.entry) parts.now)) }
+        ensures want { ForTypes self.now.types.now (λ around. IfErr result (OutOnly (WalkOverflows around (place_seen self.now place.entry) parts.now))) }
     {
         let mut reached = place;
         for part in parts {
@@ -426,9 +386,11 @@ impl<'a> Store<'a> {
     /// The first element of the row to which a step leads.
     fn stepped(&self, place: Place<'a>, part: Part) -> Result<Place<'a>, Stop>
         requires { PlaceStands self.now.types.now place }
-        ensures found { (around : TypeEnvironment) → around.structs ≡ structs_in self.now.types.now → IfOk result (λ found. place_in self.now.types.now found ≡ rules.stepped around (place_in self.now.types.now place.entry) part) }
+        ensures found { ForTypes self.now.types.now (λ around.
+            IfOk result (λ found. place_seen self.now found ≡ rules.stepped around (place_seen self.now place.entry) part)) }
         ensures stands { IfOk result (PlaceStands self.now.types.now) }
-        ensures want { (around : TypeEnvironment) → around.structs ≡ structs_in self.now.types.now → IfErr result (OutOnly (Overflows around (rules.stepped around (place_in self.now.types.now place.entry) part))) }
+        ensures want { ForTypes self.now.types.now (λ around.
+            IfErr result (OutOnly (Overflows around (rules.stepped around (place_seen self.now place.entry) part)))) }
     {
         match part {
             Part::Member { index, number } => self.member_at(Place { index, ..place }, number),

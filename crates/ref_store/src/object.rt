@@ -74,7 +74,8 @@ impl<'a> Elements<'a> {
         value: Scalar<'a>,
     ) -> Result<(), AllocFailed<(u64, Scalar<'a>)>>
         ensures same { IsUndisturbed self.old self.new }
-        ensures held { OnOk result ((other : ℕ) → get nat_eq self.new.held other ≡ (if offset == other then Some value.entry else get nat_eq self.old.held other)) }
+        ensures held { OnOk result ((other : ℕ) → get nat_eq self.new.held other
+            ≡ (if offset == other then Some value.entry else get nat_eq self.old.held other)) }
         ensures err { OnErr result ((other : ℕ) → get nat_eq self.new.held other ≡ get nat_eq self.old.held other) }
     {
         self.held.insert(offset, value)?;
@@ -85,7 +86,8 @@ impl<'a> Elements<'a> {
 impl<'a> Content<'a> {
     /// The row that an object alone is, or an allocation with a type.
     pub fn row(&self) -> Row
-        ensures means { (table : Interned) (content : meaning.Content) → ContentIs table (Some self.now) content → row_in table result ≡ meaning_store.row_of content }
+        ensures means { (table : Interned) (content : meaning.Content) → ContentIs table (Some self.now) content
+            → row_in table result ≡ meaning_store.row_of content }
         ensures stands { (table : Interned) (content : meaning.Content) → ContentIs table (Some self.now) content → Stands table result.c_type }
     {
         match self {
@@ -96,7 +98,8 @@ impl<'a> Content<'a> {
 
     /// A pointer to an allocation with this content, to its first element once it has a type.
     pub(crate) fn to_first(&self, number: u64) -> Scalar<'a>
-        ensures means { (table : Interned) (content : meaning.Content) → ContentIs table (Some self.now) content → scalar_in table result ≡ pointers.to_first number content }
+        ensures means { (table : Interned) (content : meaning.Content) → ContentIs table (Some self.now) content
+            → scalar_in table result ≡ pointers.to_first number content }
         ensures stands { (table : Interned) (content : meaning.Content) → ContentIs table (Some self.now) content → ScalarStands table result }
     {
         match self {
@@ -113,8 +116,10 @@ impl<'a> Content<'a> {
         offset: u64,
         value: Scalar<'a>,
     ) -> Result<(), AllocFailed<(u64, Scalar<'a>)>>
-        ensures held { OnOk result ((table : Interned) (content : meaning.Content) → ScalarStands table value.entry → ContentIs table (Some self.old) content → ContentIs table (Some self.new) (meaning_store.holding offset (scalar_in table value.entry) content)) }
-        ensures err { OnErr result ((table : Interned) (content : meaning.Content) → ContentIs table (Some self.old) content → ContentIs table (Some self.new) content) }
+        ensures held { OnOk result ((table : Interned) (content : meaning.Content) → ScalarStands table value.entry → ContentIs table (Some self.old) content
+            → ContentIs table (Some self.new) (meaning_store.holding offset (scalar_in table value.entry) content)) }
+        ensures err { OnErr result ((table : Interned) (content : meaning.Content) → ContentIs table (Some self.old) content
+            → ContentIs table (Some self.new) content) }
     {
         if let Content::Elements(elements) = self {
             elements.hold(offset, value)?;

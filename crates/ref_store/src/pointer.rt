@@ -9,6 +9,7 @@ ghost use Rattle.ref_semantics.specs.Values as values;
 ghost use Rattle.ref_semantics.specs.Values.{Heap};
 ghost use Rattle.ref_semantics.specs.Pointers as meaning;
 ghost use Rattle.ref_semantics.specs.Store.{TypeEnvironment, State, is_dead_pointer, with_objects};
+ghost use Rattle.ref_store.specs.Promises.{ForTypes, GivesPlace, GivesScalar, InEach, type_seen, value_seen};
 ghost use Rattle.ref_store.specs.Views.{row_in, place_in, scalar_in, PlaceStands, ScalarStands};
 ghost use Rattle.ref_store.specs.Holding.{At, IsStore, CallGives, IsMoved};
 ghost use Rattle.ref_store.specs.Wanting.{EitherOverflows, GetsType, PointsUntyped, OutOnly};
@@ -103,7 +104,7 @@ fn parts(bytes: u64, own: u64) -> Option<u64>
 impl<'a> Store<'a> {
     /// Whether a pointer points to a dead object.
     fn is_dead_pointer(&self, value: Scalar<'a>) -> bool
-        ensures { (around : TypeEnvironment) (base : ℕ) (state : State) → At around self.now base state → result ≡ is_dead_pointer state.objects (scalar_in self.now.types.now value.entry) }
+        ensures { InEach self.now (λ around state. result ≡ is_dead_pointer state.objects (value_seen self.now value.entry)) }
     {
         match value {
             Scalar::Pointer(place) => self.is_dead(place.name),
@@ -114,7 +115,7 @@ impl<'a> Store<'a> {
 
     /// The element that a pointer points to, for an access (C17 6.5.3.2 paragraph 4).
     pub fn accessed(&self, here: Pos, pointer: Scalar<'a>) -> Result<Place<'a>, Stop>
-        ensures gives { (around : TypeEnvironment) (base : ℕ) → CallGives around self.now self.now base (place_in self.now.types.now) (meaning.accessed here (scalar_in self.now.types.now pointer.entry)) result }
+        ensures gives { GivesPlace self.now self.now (λ around. meaning.accessed here (value_seen self.now pointer.entry)) result }
         ensures stands { ScalarStands self.now.types.now pointer.entry → IfOk result (PlaceStands self.now.types.now) }
         ensures want { IfErr result (OutOnly ⊥) }
     {
@@ -139,7 +140,8 @@ impl<'a> Store<'a> {
         number: i128,
         is_minus: bool,
     ) -> Result<Scalar<'a>, Stop>
-        ensures gives { (around : TypeEnvironment) (base : ℕ) → CallGives around self.now self.now base (scalar_in self.now.types.now) (meaning.added here (scalar_in self.now.types.now pointer.entry) (if is_minus then neg_ℤ number else number)) result }
+        ensures gives { GivesScalar self.now self.now (λ around.
+            meaning.added here (value_seen self.now pointer.entry) (if is_minus then neg_ℤ number else number)) result }
         ensures stands { ScalarStands self.now.types.now pointer.entry → IfOk result (ScalarStands self.now.types.now) }
         ensures want { IfErr result (OutOnly ⊥) }
     {
@@ -162,7 +164,7 @@ impl<'a> Store<'a> {
 
     /// An element as an object (C17 6.5.2.1).
     pub fn element(&self, here: Pos, pointer: Scalar<'a>, number: i128) -> Result<Place<'a>, Stop>
-        ensures gives { (around : TypeEnvironment) (base : ℕ) → CallGives around self.now self.now base (place_in self.now.types.now) (meaning.element here (scalar_in self.now.types.now pointer.entry) number) result }
+        ensures gives { GivesPlace self.now self.now (λ around. meaning.element here (value_seen self.now pointer.entry) number) result }
         ensures stands { ScalarStands self.now.types.now pointer.entry → IfOk result (PlaceStands self.now.types.now) }
         ensures want { IfErr result (OutOnly ⊥) }
     {
@@ -189,7 +191,7 @@ impl<'a> Store<'a> {
     /// Whether pointers to a type point to objects without a type.
     fn is_like_void(&self, c_type: CType) -> bool
         requires { Stands self.now.types.now c_type }
-        ensures { (around : TypeEnvironment) (base : ℕ) (state : State) → At around self.now base state → result ≡ is_like_void around.completed (type_in self.now.types.now c_type) }
+        ensures { InEach self.now (λ around state. result ≡ is_like_void around.completed (type_seen self.now c_type)) }
     {
         match self.types.shape(c_type) {
             Shape::Void => true,
@@ -202,11 +204,12 @@ impl<'a> Store<'a> {
     fn of_allocation(&mut self, here: Pos, target: CType, number: u64) -> Result<Scalar<'a>, Stop>
         requires store { IsStore self.old }
         requires target { Stands self.old.types.now target }
-        ensures gives { (around : TypeEnvironment) (base : ℕ) → CallGives around self.old self.new base (scalar_in self.old.types.now) (with_objects (λ objects. meaning.of_allocation around here (type_in self.old.types.now target) number (objects (Heap number)))) result }
+        ensures gives { GivesScalar self.old self.new (λ around.
+            with_objects (λ objects. meaning.of_allocation around here (type_seen self.old target) number (objects (Heap number)))) result }
         ensures stands { IfOk result (ScalarStands self.old.types.now) }
         ensures types { self.new.types ≡ self.old.types }
         ensures locals { self.new.locals ≡ self.old.locals }
-        ensures want { (around : TypeEnvironment) (base : ℕ) (state : State) → At around self.old base state → IfErr result (OutOnly (GetsType around (type_in self.old.types.now target) (state.objects (Heap number)))) }
+        ensures want { InEach self.old (λ around state. IfErr result (OutOnly (GetsType around (type_seen self.old target) (state.objects (Heap number))))) }
     {
         let name = Name::Heap(number);
         let row = match self.objects.get(&name) {
@@ -248,11 +251,13 @@ impl<'a> Store<'a> {
         requires store { IsStore self.old }
         requires target { Stands self.old.types.now target }
         requires value { ScalarStands self.old.types.now value }
-        ensures gives { (around : TypeEnvironment) (base : ℕ) → CallGives around self.old self.new base (scalar_in self.old.types.now) (meaning.repointed around here (type_in self.old.types.now target) (scalar_in self.old.types.now value.entry)) result }
+        ensures gives { GivesScalar self.old self.new (λ around.
+            meaning.repointed around here (type_seen self.old target) (value_seen self.old value.entry)) result }
         ensures stands { IfOk result (ScalarStands self.old.types.now) }
         ensures types { self.new.types ≡ self.old.types }
         ensures locals { self.new.locals ≡ self.old.locals }
-        ensures want { (around : TypeEnvironment) (base : ℕ) (state : State) → At around self.old base state → IfErr result (OutOnly ((is_like_void around.completed (type_in self.old.types.now target) ≡ false) × PointsUntyped around (type_in self.old.types.now target) state.objects (scalar_in self.old.types.now value.entry))) }
+        ensures want { InEach self.old (λ around state. IfErr result (OutOnly ((is_like_void around.completed (type_seen self.old target) ≡ false)
+            × PointsUntyped around (type_seen self.old target) state.objects (value_seen self.old value.entry)))) }
     {
         if self.is_dead_pointer(value) {
             return Err(Stop::Undefined(UbKind::U06, here));
@@ -274,7 +279,7 @@ impl<'a> Store<'a> {
 
     /// Whether a pointer isn't null.
     pub fn tested(&self, here: Pos, value: Scalar<'a>) -> Result<Scalar<'a>, Stop>
-        ensures gives { (around : TypeEnvironment) (base : ℕ) → CallGives around self.now self.now base (scalar_in self.now.types.now) (meaning.tested here (scalar_in self.now.types.now value.entry)) result }
+        ensures gives { GivesScalar self.now self.now (λ around. meaning.tested here (value_seen self.now value.entry)) result }
         ensures stands { IfOk result (ScalarStands self.now.types.now) }
         ensures want { IfErr result (OutOnly ⊥) }
     {
@@ -288,9 +293,11 @@ impl<'a> Store<'a> {
     fn are_equal(&self, a: Scalar<'a>, b: Scalar<'a>) -> Result<bool, Stop>
         requires a { ScalarStands self.now.types.now a }
         requires b { ScalarStands self.now.types.now b }
-        ensures found { (around : TypeEnvironment) → around.structs ≡ structs_in self.now.types.now → IfOk result (λ same. same ≡ meaning.are_equal around (scalar_in self.now.types.now a.entry) (scalar_in self.now.types.now b.entry)) }
+        ensures found { ForTypes self.now.types.now (λ around.
+            IfOk result (λ same. same ≡ meaning.are_equal around (value_seen self.now a.entry) (value_seen self.now b.entry))) }
         ensures only { IfErr result (λ e. e ≡ Stop.OutOfMemory) }
-        ensures want { (around : TypeEnvironment) → around.structs ≡ structs_in self.now.types.now → IfErr result (λ e. EitherOverflows around (scalar_in self.now.types.now a.entry) (scalar_in self.now.types.now b.entry)) }
+        ensures want { ForTypes self.now.types.now (λ around.
+            IfErr result (λ e. EitherOverflows around (value_seen self.now a.entry) (value_seen self.now b.entry))) }
     {
         if !(a.is_into_object() && b.is_into_object()) {
             return Ok(same_function(a, b));
@@ -311,9 +318,12 @@ impl<'a> Store<'a> {
     ) -> Result<Scalar<'a>, Stop>
         requires a { ScalarStands self.now.types.now a }
         requires b { ScalarStands self.now.types.now b }
-        ensures gives { (around : TypeEnvironment) (base : ℕ) → CallGives around self.now self.now base (scalar_in self.now.types.now) (meaning.compared_pointers around relation here (scalar_in self.now.types.now a.entry) (scalar_in self.now.types.now b.entry)) result }
+        ensures gives { GivesScalar self.now self.now (λ around.
+            meaning.compared_pointers around relation here (value_seen self.now a.entry) (value_seen self.now b.entry)) result }
         ensures stands { IfOk result (ScalarStands self.now.types.now) }
-        ensures want { (around : TypeEnvironment) (base : ℕ) (state : State) → At around self.now base state → IfErr result (OutOnly ((is_dead_pointer state.objects (scalar_in self.now.types.now a.entry) ≡ false) × (is_dead_pointer state.objects (scalar_in self.now.types.now b.entry) ≡ false) × (meaning.is_equality relation ≡ true) × EitherOverflows around (scalar_in self.now.types.now a.entry) (scalar_in self.now.types.now b.entry))) }
+        ensures want { InEach self.now (λ around state. IfErr result (OutOnly ((is_dead_pointer state.objects (value_seen self.now a.entry) ≡ false)
+            × (is_dead_pointer state.objects (value_seen self.now b.entry) ≡ false) × (meaning.is_equality relation ≡ true)
+            × EitherOverflows around (value_seen self.now a.entry) (value_seen self.now b.entry)))) }
     {
         if self.is_dead_pointer(a) || self.is_dead_pointer(b) {
             return Err(Stop::Undefined(UbKind::U06, here));
@@ -338,15 +348,16 @@ impl<'a> Store<'a> {
 
     /// Whether two rows of an object are the same.
     fn same_row(&self, a: Row, b: Row) -> bool
-        ensures { Stands self.now.types.now a.c_type → Stands self.now.types.now b.c_type → result ≡ values.same_row (row_in self.now.types.now a) (row_in self.now.types.now b) }
+        ensures { Stands self.now.types.now a.c_type → Stands self.now.types.now b.c_type
+            → result ≡ values.same_row (row_in self.now.types.now a) (row_in self.now.types.now b) }
     {
         a.start == b.start && self.types.are_same(a.c_type, b.c_type) && a.count == b.count
     }
 
     /// A pointer to an allocation as a whole points to its first element, once that has a type.
     fn as_typed(&self, value: Scalar<'a>) -> Scalar<'a>
-        ensures means { (around : TypeEnvironment) (base : ℕ) (state : State) → At around self.now base state → scalar_in self.now.types.now result ≡ meaning.as_typed state.objects (scalar_in self.now.types.now value.entry) }
-        ensures stands { (around : TypeEnvironment) (base : ℕ) (state : State) → At around self.now base state → ScalarStands self.now.types.now value.entry → ScalarStands self.now.types.now result }
+        ensures means { InEach self.now (λ around state. value_seen self.now result ≡ meaning.as_typed state.objects (value_seen self.now value.entry)) }
+        ensures stands { InEach self.now (λ around state. ScalarStands self.now.types.now value.entry → ScalarStands self.now.types.now result) }
     {
         match value {
             Scalar::Raw(number) => self.to_first(number),
@@ -356,8 +367,8 @@ impl<'a> Store<'a> {
 
     /// A pointer to an allocation, to its first element once it has a type.
     fn to_first(&self, number: u64) -> Scalar<'a>
-        ensures means { (around : TypeEnvironment) (base : ℕ) (state : State) → At around self.now base state → scalar_in self.now.types.now result ≡ meaning.to_first number (state.objects (Heap number)) }
-        ensures stands { (around : TypeEnvironment) (base : ℕ) (state : State) → At around self.now base state → ScalarStands self.now.types.now result }
+        ensures means { InEach self.now (λ around state. value_seen self.now result ≡ meaning.to_first number (state.objects (Heap number))) }
+        ensures stands { InEach self.now (λ around state. ScalarStands self.now.types.now result) }
     {
         match self.objects.get(&Name::Heap(number)) {
             Some(content) => content.to_first(number),
@@ -369,14 +380,15 @@ impl<'a> Store<'a> {
     fn are_in_one_row(&self, a: Scalar<'a>, b: Scalar<'a>) -> bool
         requires a { ScalarStands self.now.types.now a }
         requires b { ScalarStands self.now.types.now b }
-        ensures { (around : TypeEnvironment) (base : ℕ) (state : State) → At around self.now base state → result ≡ meaning.are_in_one_row state.objects (scalar_in self.now.types.now a.entry) (scalar_in self.now.types.now b.entry) }
+        ensures { InEach self.now (λ around state. result ≡ meaning.are_in_one_row state.objects (value_seen self.now a.entry) (value_seen self.now b.entry)) }
     {
         self.is_one_row(self.as_typed(a), self.as_typed(b))
     }
 
     /// Whether two pointers point to elements of one row, or to its end.
     fn is_one_row(&self, a: Scalar<'a>, b: Scalar<'a>) -> bool
-        ensures { ScalarStands self.now.types.now a.entry → ScalarStands self.now.types.now b.entry → result ≡ meaning.is_one_row (scalar_in self.now.types.now a.entry) (scalar_in self.now.types.now b.entry) }
+        ensures { ScalarStands self.now.types.now a.entry → ScalarStands self.now.types.now b.entry
+            → result ≡ meaning.is_one_row (value_seen self.now a.entry) (value_seen self.now b.entry) }
     {
         match (a, b) {
             (Scalar::Pointer(a), Scalar::Pointer(b)) => {
@@ -391,7 +403,7 @@ impl<'a> Store<'a> {
     pub fn difference(&self, here: Pos, a: Scalar<'a>, b: Scalar<'a>) -> Result<Scalar<'a>, Stop>
         requires a { ScalarStands self.now.types.now a }
         requires b { ScalarStands self.now.types.now b }
-        ensures gives { (around : TypeEnvironment) (base : ℕ) → CallGives around self.now self.now base (scalar_in self.now.types.now) (meaning.difference here (scalar_in self.now.types.now a.entry) (scalar_in self.now.types.now b.entry)) result }
+        ensures gives { GivesScalar self.now self.now (λ around. meaning.difference here (value_seen self.now a.entry) (value_seen self.now b.entry)) result }
         ensures stands { IfOk result (ScalarStands self.now.types.now) }
         ensures want { IfErr result (OutOnly ⊥) }
     {

@@ -8,6 +8,7 @@ ghost use Rattle.ref_semantics.specs.Store.{TypeEnvironment, State, is_dead};
 ghost use Rattle.ref_semantics.specs.Pointers as pointers;
 ghost use Rattle.ref_semantics.specs.Library as library;
 ghost use Rattle.ref_semantics.specs.Meaning as rules;
+ghost use Rattle.ref_store.specs.Promises.{ForTypes, GivesPlace, GivesScalar, InEach, place_seen, type_seen, value_seen};
 ghost use Rattle.ref_store.specs.declared.value.Stop.TheVariants as Stops;
 ghost use Rattle.ref_store.specs.Views.{name_of, place_in, scalar_in, PlaceStands, ScalarStands};
 ghost use Rattle.ref_store.specs.Holding.{ContentIs, HeldIs, At, CallGives, Comes, new_local_of};
@@ -45,15 +46,15 @@ impl<'a> Store<'a> {
 
     /// Whether an object is dead.
     pub fn is_dead(&self, name: Name<'a>) -> bool
-        ensures { (around : TypeEnvironment) (base : ℕ) (state : State) → At around self.now base state → result ≡ is_dead (state.objects (name_of name.entry)) }
+        ensures { InEach self.now (λ around state. result ≡ is_dead (state.objects (name_of name.entry))) }
     {
         self.objects.get(&name).is_none()
     }
 
     /// An object alone.
     pub fn named(&self, name: Name<'a>) -> Place<'a>
-        ensures gives { (around : TypeEnvironment) (base : ℕ) → CallGives around self.now self.now base (place_in self.now.types.now) (rules.named (name_of name.entry)) (Ok result) }
-        ensures stands { (around : TypeEnvironment) (base : ℕ) (state : State) → At around self.now base state → PlaceStands self.now.types.now result }
+        ensures gives { GivesPlace self.now self.now (λ around. rules.named (name_of name.entry)) (Ok result) }
+        ensures stands { InEach self.now (λ around state. PlaceStands self.now.types.now result) }
     {
         match self.objects.get(&name) {
             Some(content) => Place::first(name, content.row()),
@@ -63,7 +64,8 @@ impl<'a> Store<'a> {
 
     /// A local of a call, of which so many others of all calls stand before the first, by how many stand before it.
     pub fn local(&self, base: usize, number: usize) -> Place<'a>
-        ensures gives { (around : TypeEnvironment) → CallGives around self.now self.now base (place_in self.now.types.now) (rules.local_place number) (Ok result) }
+        ensures gives { (around : TypeEnvironment)
+            → CallGives around self.now self.now base (place_in self.now.types.now) (rules.local_place number) (Ok result) }
         ensures stands { (around : TypeEnvironment) (state : State) → At around self.now base state → PlaceStands self.now.types.now result }
     {
         let index = base.saturating_add(number);
@@ -77,9 +79,9 @@ impl<'a> Store<'a> {
     /// How many bytes an element lies behind the beginning of its object.
     pub fn offset(&self, place: Place<'a>) -> Result<u64, Stop>
         requires { PlaceStands self.now.types.now place }
-        ensures found { (around : TypeEnvironment) → around.structs ≡ structs_in self.now.types.now → IfOk result (λ offset. offset ≡ meaning.offset_of around (place_in self.now.types.now place.entry)) }
+        ensures found { ForTypes self.now.types.now (λ around. IfOk result (λ offset. offset ≡ meaning.offset_of around (place_seen self.now place.entry))) }
         ensures only { IfErr result (λ e. e ≡ Stop.OutOfMemory) }
-        ensures want { (around : TypeEnvironment) → around.structs ≡ structs_in self.now.types.now → IfErr result (λ e. Overflows around (place_in self.now.types.now place.entry)) }
+        ensures want { ForTypes self.now.types.now (λ around. IfErr result (λ e. Overflows around (place_seen self.now place.entry))) }
     {
         let size = self.types.size_of(place.row.c_type);
         let Some(within) = place.index.checked_mul(size) else {
@@ -94,10 +96,12 @@ impl<'a> Store<'a> {
     /// A member of an element, by how many stand before it (C17 6.5.2.3).
     pub fn member_at(&self, place: Place<'a>, number: u32) -> Result<Place<'a>, Stop>
         requires { PlaceStands self.now.types.now place }
-        ensures found { (around : TypeEnvironment) → around.structs ≡ structs_in self.now.types.now → IfOk result (λ member. place_in self.now.types.now member ≡ meaning.member_at around (place_in self.now.types.now place.entry) number) }
+        ensures found { ForTypes self.now.types.now (λ around.
+            IfOk result (λ member. place_seen self.now member ≡ meaning.member_at around (place_seen self.now place.entry) number)) }
         ensures stands { IfOk result (PlaceStands self.now.types.now) }
         ensures only { IfErr result (λ e. e ≡ Stop.OutOfMemory) }
-        ensures want { (around : TypeEnvironment) → around.structs ≡ structs_in self.now.types.now → IfErr result (λ e. Overflows around (meaning.member_at around (place_in self.now.types.now place.entry) number)) }
+        ensures want { ForTypes self.now.types.now (λ around.
+            IfErr result (λ e. Overflows around (meaning.member_at around (place_seen self.now place.entry) number))) }
     {
         let Some(member) = self.types.member_place(place.row.c_type, number as usize) else {
             return Ok(Place::first(place.name, Row::NOTHING));
@@ -120,10 +124,11 @@ impl<'a> Store<'a> {
     /// The first element of an array (C17 6.3.2.1 paragraph 3).
     pub fn decayed(&self, place: Place<'a>) -> Result<Place<'a>, Stop>
         requires { PlaceStands self.now.types.now place }
-        ensures found { (around : TypeEnvironment) → around.structs ≡ structs_in self.now.types.now → IfOk result (λ first. place_in self.now.types.now first ≡ meaning.decayed around (place_in self.now.types.now place.entry)) }
+        ensures found { ForTypes self.now.types.now (λ around.
+            IfOk result (λ first. place_seen self.now first ≡ meaning.decayed around (place_seen self.now place.entry))) }
         ensures stands { IfOk result (PlaceStands self.now.types.now) }
         ensures only { IfErr result (λ e. e ≡ Stop.OutOfMemory) }
-        ensures want { (around : TypeEnvironment) → around.structs ≡ structs_in self.now.types.now → IfErr result (λ e. Overflows around (place_in self.now.types.now place.entry)) }
+        ensures want { ForTypes self.now.types.now (λ around. IfErr result (λ e. Overflows around (place_seen self.now place.entry))) }
     {
         let start = self.offset(place)?;
         let row = match self.types.shape(place.row.c_type) {
@@ -156,9 +161,12 @@ impl<'a> Store<'a> {
     /// The scalar at a place, unless it is indeterminate.
     fn scalar_in(&self, content: &Content<'a>, place: Place<'a>) -> Result<Option<Scalar<'a>>, Stop>
         requires { PlaceStands self.now.types.now place }
-        ensures found { (around : TypeEnvironment) (held : values.Content) → around.structs ≡ structs_in self.now.types.now → ContentIs self.now.types.now (Some content.now) held → IfOk result (λ value. HeldIs self.now.types.now value (meaning.scalar_at around held (place_in self.now.types.now place.entry))) }
+        ensures found { (around : TypeEnvironment) (held : values.Content) → around.structs ≡ structs_in self.now.types.now
+            → ContentIs self.now.types.now (Some content.now) held
+            → IfOk result (λ value. HeldIs self.now.types.now value (meaning.scalar_at around held (place_seen self.now place.entry))) }
         ensures only { IfErr result (λ e. e ≡ Stop.OutOfMemory) }
-        ensures want { (around : TypeEnvironment) (held : values.Content) → around.structs ≡ structs_in self.now.types.now → ContentIs self.now.types.now (Some content.now) held → IfErr result (λ e. HasOffsets held × Overflows around (place_in self.now.types.now place.entry)) }
+        ensures want { (around : TypeEnvironment) (held : values.Content) → around.structs ≡ structs_in self.now.types.now
+            → ContentIs self.now.types.now (Some content.now) held → IfErr result (λ e. HasOffsets held × Overflows around (place_seen self.now place.entry)) }
     {
         let Content::Elements(elements) = content else {
             return Ok(None);
@@ -178,9 +186,10 @@ impl<'a> Store<'a> {
     /// Reads the scalar at a place (C17 6.3.2.1 paragraph 2).
     pub fn read(&self, here: Pos, place: Place<'a>) -> Result<Scalar<'a>, Stop>
         requires { PlaceStands self.now.types.now place }
-        ensures gives { (around : TypeEnvironment) (base : ℕ) → CallGives around self.now self.now base (scalar_in self.now.types.now) (pointers.read around here (place_in self.now.types.now place.entry)) result }
-        ensures stands { (around : TypeEnvironment) (base : ℕ) (state : State) → At around self.now base state → IfOk result (ScalarStands self.now.types.now) }
-        ensures want { (around : TypeEnvironment) (base : ℕ) (state : State) → At around self.now base state → IfErr result (OutOnly (HasOffsets (state.objects (name_of place.entry.name)) × Overflows around (place_in self.now.types.now place.entry))) }
+        ensures gives { GivesScalar self.now self.now (λ around. pointers.read around here (place_seen self.now place.entry)) result }
+        ensures stands { InEach self.now (λ around state. IfOk result (ScalarStands self.now.types.now)) }
+        ensures want { InEach self.now (λ around state. IfErr result (OutOnly (HasOffsets (state.objects (name_of place.entry.name))
+            × Overflows around (place_seen self.now place.entry)))) }
     {
         let Some(content) = self.objects.get(&place.name) else {
             return Err(Stop::Undefined(UbKind::U06, here));
@@ -195,10 +204,12 @@ impl<'a> Store<'a> {
     pub fn write(&mut self, here: Pos, place: Place<'a>, value: Scalar<'a>) -> Result<(), Stop>
         requires place { PlaceStands self.old.types.now place }
         requires value { ScalarStands self.old.types.now value }
-        ensures gives { (around : TypeEnvironment) (base : ℕ) → CallGives around self.old self.new base (λ done. scalar_in self.old.types.now value.entry) (pointers.write around here (place_in self.old.types.now place.entry) (scalar_in self.old.types.now value.entry)) result }
+        ensures gives { (around : TypeEnvironment) (base : ℕ)
+            → CallGives around self.old self.new base (λ done.
+            value_seen self.old value.entry) (pointers.write around here (place_seen self.old place.entry) (value_seen self.old value.entry)) result }
         ensures types { self.new.types ≡ self.old.types }
         ensures locals { self.new.locals ≡ self.old.locals }
-        ensures want { (around : TypeEnvironment) (base : ℕ) (state : State) → At around self.old base state → IfErr result (OutOnly (is_dead (state.objects (name_of place.entry.name)) ≡ false)) }
+        ensures want { InEach self.old (λ around state. IfErr result (OutOnly (is_dead (state.objects (name_of place.entry.name)) ≡ false))) }
     {
         if self.is_dead(place.name) {
             return Err(Stop::Undefined(UbKind::U06, here));
@@ -213,7 +224,8 @@ impl<'a> Store<'a> {
     /// A local begins to live (C17 6.2.4 paragraph 6).
     pub fn new_local(&mut self, c_type: CType) -> Result<Place<'a>, AllocError>
         requires { Stands self.old.types.now c_type }
-        ensures made { (around : TypeEnvironment) (base : ℕ) (state : State) → base ≤ length self.old.locals.items → At around self.old base state → IfOk result (λ place. Comes around self.new base (rules.new_local (type_in self.old.types.now c_type)) state (place_in self.old.types.now place)) }
+        ensures made { (around : TypeEnvironment) (base : ℕ) (state : State) → base ≤ length self.old.locals.items → At around self.old base state
+            → IfOk result (λ place. Comes around self.new base (rules.new_local (type_seen self.old c_type)) state (place_seen self.old place)) }
         ensures stands { IfOk result (PlaceStands self.old.types.now) }
         ensures err { OnErr result ((around : TypeEnvironment) (base : ℕ) (state : State) → At around self.old base state → At around self.new base state) }
         ensures types { self.new.types ≡ self.old.types }
@@ -238,7 +250,9 @@ impl<'a> Store<'a> {
     pub fn new_holding(&mut self, c_type: CType, value: Scalar<'a>) -> Result<(), AllocError>
         requires c_type { Stands self.old.types.now c_type }
         requires value { ScalarStands self.old.types.now value }
-        ensures made { (around : TypeEnvironment) (base : ℕ) (state : State) → base ≤ length self.old.locals.items → At around self.old base state → IfOk result (λ done. Comes around self.new base (new_local_of around (type_in self.old.types.now c_type) (scalar_in self.old.types.now value.entry)) state rules.Normal) }
+        ensures made { (around : TypeEnvironment) (base : ℕ) (state : State) → base ≤ length self.old.locals.items → At around self.old base state
+            → IfOk result (λ done.
+            Comes around self.new base (new_local_of around (type_seen self.old c_type) (value_seen self.old value.entry)) state rules.Normal) }
         ensures err { OnErr result ((around : TypeEnvironment) (base : ℕ) (state : State) → At around self.old base state → At around self.new base state) }
         ensures types { self.new.types ≡ self.old.types }
         ensures locals { OnOk result (self.new.locals.items ≡ self.old.locals.items ++ (self.old.next_local ∷ [])) }
@@ -260,7 +274,11 @@ impl<'a> Store<'a> {
 
     /// The newest locals die, until so many are left (C17 6.2.4 paragraph 6).
     pub fn leave(&mut self, height: usize)
-        ensures left { (around : TypeEnvironment) (base : ℕ) (state : State) → base ≤ height → At around self.old base state → At around self.new base (record state { objects = rules.killed (height - base) state.locals state.objects; locals = rules.kept (height - base) state.locals }) }
+        ensures left { (around : TypeEnvironment) (base : ℕ) (state : State) → base ≤ height → At around self.old base state
+            → At around self.new base (record state {
+              objects = rules.killed (height - base) state.locals state.objects;
+              locals = rules.kept (height - base) state.locals;
+            }) }
         ensures types { self.new.types ≡ self.old.types }
         ensures locals { take height self.new.locals.items ≡ take height self.old.locals.items }
     {
@@ -273,7 +291,7 @@ impl<'a> Store<'a> {
 
     /// Makes an object of so many bytes that has no type yet; of none for no byte (C17 7.22.3.4).
     pub fn allocate(&mut self, size: i128) -> Result<Scalar<'a>, Stop>
-        ensures gives { (around : TypeEnvironment) (base : ℕ) → CallGives around self.old self.new base (scalar_in self.old.types.now) (library.allocated (library.natural_of size)) result }
+        ensures gives { GivesScalar self.old self.new (λ around. library.allocated (library.natural_of size)) result }
         ensures stands { IfOk result (ScalarStands self.old.types.now) }
         ensures types { self.new.types ≡ self.old.types }
         ensures locals { self.new.locals ≡ self.old.locals }
@@ -298,9 +316,11 @@ impl<'a> Store<'a> {
     /// Whether a pointer does not point to the first byte of a living allocation.
     fn is_unfreeable(&self, value: Scalar<'a>) -> Result<bool, Stop>
         requires { ScalarStands self.now.types.now value }
-        ensures found { (around : TypeEnvironment) (base : ℕ) (state : State) → At around self.now base state → IfOk result (λ is. is ≡ library.is_unfreeable around state.objects (scalar_in self.now.types.now value.entry)) }
+        ensures found { InEach self.now (λ around state. IfOk result (λ is.
+            is ≡ library.is_unfreeable around state.objects (value_seen self.now value.entry))) }
         ensures only { IfErr result (λ e. e ≡ Stop.OutOfMemory) }
-        ensures want { (around : TypeEnvironment) (base : ℕ) (state : State) → At around self.now base state → IfErr result (λ e. (meaning.is_dead_pointer state.objects (scalar_in self.now.types.now value.entry) ≡ false) × Overflows around (values.place_of (scalar_in self.now.types.now value.entry))) }
+        ensures want { InEach self.now (λ around state. IfErr result (λ e. (meaning.is_dead_pointer state.objects (value_seen self.now value.entry) ≡ false)
+            × Overflows around (values.place_of (value_seen self.now value.entry)))) }
     {
         match value {
             Scalar::Raw(number) => Ok(self.is_dead(Name::Heap(number))),
@@ -320,10 +340,12 @@ impl<'a> Store<'a> {
     /// Frees an allocation (C17 7.22.3.3).
     pub fn free(&mut self, here: Pos, value: Scalar<'a>) -> Result<(), Stop>
         requires { ScalarStands self.old.types.now value }
-        ensures gives { (around : TypeEnvironment) (base : ℕ) → CallGives around self.old self.new base (λ done. values.NullValue) (library.freed around here (scalar_in self.old.types.now value.entry)) result }
+        ensures gives { (around : TypeEnvironment) (base : ℕ)
+            → CallGives around self.old self.new base (λ done. values.NullValue) (library.freed around here (value_seen self.old value.entry)) result }
         ensures types { self.new.types ≡ self.old.types }
         ensures locals { self.new.locals ≡ self.old.locals }
-        ensures want { (around : TypeEnvironment) (base : ℕ) (state : State) → At around self.old base state → IfErr result (OutOnly ((meaning.is_dead_pointer state.objects (scalar_in self.old.types.now value.entry) ≡ false) × Overflows around (values.place_of (scalar_in self.old.types.now value.entry)))) }
+        ensures want { InEach self.old (λ around state. IfErr result (OutOnly ((meaning.is_dead_pointer state.objects (value_seen self.old value.entry)
+            ≡ false) × Overflows around (values.place_of (value_seen self.old value.entry))))) }
     {
         if value.is_null() {
             return Ok(());

@@ -57,7 +57,7 @@ object_units (T.GroupedObject place inner) = 1 + object_units inner
 object_units _ = 1
 
 abbrev pub expr_units : Value → ℕ
-expr_units (T.Constant z) = 1
+expr_units (T.Constant int_type z) = 1
 expr_units (T.Grouped inner) = 1 + expr_units inner
 expr_units (T.Read place object) = object_units object
 expr_units (T.Converted t operand) = expr_units operand
@@ -319,10 +319,10 @@ module _ (points : List Op) (worth : ℕ) (around : TypeEnvironment) (calls : Ca
   constant types names at to exit fit before registers scalar z s same fitting code p ready kept outside more less =
       put types names to exit fit before scalar z s (stand at registers s) same fitting p (rw code refl) ready kept outside (named at _ code).0 more less
 
-  constants : (z : ℤ) → Evaluates (T.Constant z)
-  constants z types names entry to exit inside code outside registers s ready =
+  constants : (int_type : IntType) (z : ℤ) → Evaluates (T.Constant int_type z)
+  constants int_type z types names entry to exit inside code outside registers s ready =
       enter (give (IntegerValue z)) entry registers s (start (stand entry registers s) s.units) (omega arith) (λ left p.
-      constant types names entry to exit (fits types (T.Constant z)) registers registers (IntegerValue z) z (record s { units = left }) refl (λ t e. e) code p ready (keeps (length types) to registers) outside (omega arith) (omega arith))
+      constant types names entry to exit (fits types (T.Constant int_type z)) registers registers (IntegerValue z) z (record s { units = left }) refl (λ t e. e) code p ready (keeps (length types) to registers) outside (omega arith) (omega arith))
 
   groups : (inner : Value) → Evaluates inner → Evaluates (T.Grouped inner)
   groups inner does types names entry to exit inside code outside registers s ready =
@@ -770,7 +770,7 @@ module _ (points : List Op) (worth : ℕ) (around : TypeEnvironment) (calls : Ca
   -- ---- all expressions
 
   pub expr_does : (tree : Value) → Evaluates tree
-  expr_does (T.Constant z) = constants z
+  expr_does (T.Constant int_type z) = constants int_type z
   expr_does (T.Grouped inner) = groups inner (expr_does inner)
   expr_does (T.Read place object) = reads_object place object
   expr_does (T.Converted t operand) = conversions t operand (expr_does operand)

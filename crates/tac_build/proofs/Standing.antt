@@ -36,7 +36,7 @@ module _ (old new : List Op) (stands : FilledStand old new) where
       (code.0, code.1, step_stands stepping int_type object entry (to + 1) code.0 code.2, stands code.0 _ (λ e. cc) code.3, stands code.1 _ (λ e. cc) code.4)
 
   pub expr_stands : (types : List IntType) (tree : Value) (entry to exit : ℕ) → ExprCode old types tree entry to exit → ExprCode new types tree entry to exit
-  expr_stands types (T.Constant value) entry to exit code = stands entry _ (λ e. cc) code
+  expr_stands types (T.Constant int_type value) entry to exit code = stands entry _ (λ e. cc) code
   expr_stands types (T.Grouped inner) entry to exit code = expr_stands types inner entry to exit code
   expr_stands types (T.Read place object) entry to exit code = stands entry _ (λ e. cc) code
   expr_stands types (T.Converted int_type value) entry to exit code = (code.0, expr_stands types value entry to code.0 code.1, stands code.0 _ (λ e. cc) code.2)
@@ -110,7 +110,7 @@ module _ (old new : List Op) (stands : FilledStand old new) where
   expr_stands types (T.Decay place object) entry to exit code = absurd code
   expr_stands types (T.FunctionValue function) entry to exit code = absurd code
   expr_stands types (T.Repointed place target value) entry to exit code = absurd code
-  expr_stands types (T.MadeNull value) entry to exit code = absurd code
+  expr_stands types (T.MadeNull target value) entry to exit code = absurd code
   expr_stands types (T.Tested place value) entry to exit code = absurd code
   expr_stands types (T.ComparePointers relation place left right) entry to exit code = absurd code
   expr_stands types (T.PointerPlus place pointer number) entry to exit code = absurd code

@@ -87,7 +87,7 @@ SteppingCode points true stepping int_type object entry to exit =
 -- From a point to a point the expression leaves its value in a register, and changes no other but those of locals and
 -- those behind it.
 abbrev pub ExprCode : List Op → List IntType → Value → ℕ → ℕ → ℕ → Type 0
-ExprCode points types (T.Constant value) entry to exit = ConstantCode points value entry to exit
+ExprCode points types (T.Constant int_type value) entry to exit = ConstantCode points value entry to exit
 ExprCode points types (T.Grouped inner) entry to exit = ExprCode points types inner entry to exit
 ExprCode points types (T.Read place object) entry to exit = HasOp points entry (O.Copy (local_register object) (register to) (point exit))
 ExprCode points types (T.Converted int_type value) entry to exit =

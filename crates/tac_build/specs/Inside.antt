@@ -41,7 +41,7 @@ is_of_type types object int_type = is_same (type_of_object types object)
 
 -- The value of the expression, where it is defined, is one of the type.
 abbrev pub fits : List IntType → Value → IntType → Bool
-fits types (T.Constant z) int_type = is_value int_type z
+fits types (T.Constant own z) int_type = is_value int_type z
 fits types (T.Grouped inner) int_type = fits types inner int_type
 fits types (T.Read place object) int_type = holds_only int_type (type_of_object types object)
 fits types (T.Converted own value) int_type = contains int_type own
@@ -79,7 +79,7 @@ is_converted _ = false
 
 -- The expression is compiled. A conversion of an integer spends no unit, so none stands directly around another.
 abbrev pub is_inside : List IntType → Value → Bool
-is_inside types (T.Constant z) = is_value I.Long z || is_value I.ULong z
+is_inside types (T.Constant own z) = is_value I.Long z || is_value I.ULong z
 is_inside types (T.Grouped inner) = is_inside types inner
 is_inside types (T.Read place object) = is_some (type_of_object types object)
 is_inside types (T.Converted int_type value) = is_inside types value && not (is_converted value)
@@ -109,9 +109,19 @@ is_inside types (T.LibraryCall L.PutChar groups place (T.MoreValues value T.NoVa
 is_inside types (T.LibraryCall L.Exit groups place (T.MoreValues value T.NoValues)) = is_inside types value
 is_inside types _ = false
 
+abbrev pub are_inside : List IntType → Value → Value → Bool
+are_inside types left right = is_inside types left && is_inside types right
+
+-- an operand whose value is one of the type
+abbrev pub is_operand : List IntType → Value → IntType → Bool
+is_operand types value int_type = is_inside types value && fits types value int_type
+
 -- a condition is tested as a word
 abbrev pub is_condition : List IntType → Value → Bool
 is_condition types value = is_inside types value && is_some (word_type types value)
+
+abbrev pub are_conditions : List IntType → Value → Value → Bool
+are_conditions types left right = is_inside types left && is_inside types right && is_some (word_type types left) && is_some (word_type types right)
 
 abbrev pub is_optional_condition : List IntType → Option Value → Bool
 is_optional_condition types None = true
@@ -193,6 +203,10 @@ abbrev mutual
   is_switch types tested (T.Case label others) = is_label tested label && is_switch types tested others
   is_switch types tested (T.Default others) = is_switch types tested others
   is_switch types tested (T.SwitchStmt stmt others) = is_stmt types stmt && is_switch types tested others
+
+-- a condition, and the statement that is done where it holds
+abbrev pub is_guarded : List IntType → Value → Stmt → Bool
+is_guarded types condition body = is_condition types condition && is_stmt types body
 
 -- the program has one function, `main`, without parameters, and nothing else beside it
 abbrev pub is_main : FunctionDef → Bool

@@ -3,4 +3,5 @@ pub mod Deciding
 pub mod Code
 pub mod Laws
 pub mod Growing
+pub mod Lowered
 pub mod Switches

@@ -1,12 +1,10 @@
 // Conditions, and expressions whose value comes to the first register behind those of the locals in scope.
 
-ghost use Rattle.std.specs.Prelude.{◌≡◌, ◌<◌, ◌≤◌, Some, length, slice_set, option_copied, IfOk, OnOk};
+ghost use Rattle.std.specs.Prelude.{◌≡◌, ◌<◌, ◌≤◌, length, slice_set, option_copied, IfOk, OnOk};
 ghost use Rattle.c_typed.specs.Table.{Interned};
-ghost use Rattle.c_typed.specs.Typed as typed;
-ghost use Rattle.c_typed.specs.Views.{value_in};
 ghost use Rattle.c_typed.specs.StatementViews.{optional_value_in};
-ghost use Rattle.tac_build.specs.Code.{ExprCode, Ways, ConditionCode, OptionalCode, StmtCode};
-ghost use Rattle.tac_build.specs.Growing.{IsNamed, IsReady, Grows, HeadCode, loop_test};
+ghost use Rattle.tac_build.specs.Growing.{IsNamed, IsReady, Grows, loop_test};
+ghost use Rattle.tac_build.specs.Lowered.{LowersValue, LowersOptional, LowersCondition, LowersHead, LowersReturn};
 
 use crate::builder::Builder;
 use crate::operations::{branch, type_of_test};
@@ -31,7 +29,7 @@ impl Builder {
         next: PointId,
     ) -> Result<PointId, AllocError>
         requires { IsReady self.old next.0 }
-        ensures code { (table : Interned) → IfOk result (λ entry. ExprCode self.new.points.items types.now (value_in table value.now) entry.0 (length types.now) next.0) }
+        ensures code { LowersValue result self.new types.now value.now (length types.now) next.0 }
         ensures grows { OnOk result (Grows self.old self.new) }
         ensures ready { IfOk result (λ entry. IsReady self.new entry.0) }
     {
@@ -46,7 +44,7 @@ impl Builder {
         next: PointId,
     ) -> Result<PointId, AllocError>
         requires { IsReady self.old next.0 }
-        ensures code { (table : Interned) → IfOk result (λ entry. OptionalCode self.new.points.items types.now (optional_value_in table (option_copied value.entry)) entry.0 next.0) }
+        ensures code { LowersOptional result self.new types.now (option_copied value.entry) next.0 }
         ensures grows { OnOk result (Grows self.old self.new) }
         ensures ready { IfOk result (λ entry. IsReady self.new entry.0) }
     {
@@ -63,7 +61,7 @@ impl Builder {
         types: &[IntType],
     ) -> Result<PointId, AllocError>
         requires { IsNamed self.old }
-        ensures code { (table : Interned) (ways : Ways) → IfOk result (λ entry. StmtCode self.new.points.items types.now (typed.Return (optional_value_in table value.now)) entry.0 ways) }
+        ensures code { LowersReturn result self.new types.now value.now }
         ensures grows { OnOk result (Grows self.old self.new) }
         ensures ready { IfOk result (λ entry. IsReady self.new entry.0) }
     {
@@ -86,7 +84,7 @@ impl Builder {
     ) -> Result<PointId, AllocError>
         requires holds { IsReady self.old holds.0 }
         requires fails { fails.0 < length self.old.points.items }
-        ensures code { (table : Interned) → IfOk result (λ entry. ConditionCode self.new.points.items types.now (Some (value_in table value.now)) entry.0 holds.0 fails.0) }
+        ensures code { LowersCondition result self.new types.now value.now holds.0 fails.0 }
         ensures grows { OnOk result (Grows self.old self.new) }
         ensures ready { IfOk result (λ entry. IsReady self.new entry.0) }
     {
@@ -98,7 +96,7 @@ impl Builder {
     /// The condition of a loop, whose test is to be filled in.
     pub fn head(&mut self, condition: Option<&Value>, types: &[IntType]) -> Result<Head, AllocError>
         requires { IsNamed self.old }
-        ensures code { (table : Interned) → IfOk result (λ head. HeadCode self.new.points.items types.now (optional_value_in table (option_copied condition.entry)) head) }
+        ensures code { LowersHead result self.new types.now (option_copied condition.entry) }
         ensures is_new { IfOk result (λ head. length self.old.points.items ≤ head.test.0) }
         ensures test { IfOk result (λ head. head.test.0 < length self.new.points.items) }
         ensures grows { OnOk result (Grows self.old self.new) }

@@ -1,13 +1,14 @@
 // Locals that begin to live, with their first values (C17 6.2.4 paragraph 6, 6.7.9). A local lies in the register of its number,
 // which is how many others are in scope.
 
-ghost use Rattle.std.specs.Prelude.{◌≡◌, ◌-◌, List, map, length, IfOk, OnOk};
+ghost use Rattle.std.specs.Prelude.{◌≡◌, List, map, IfOk, OnOk};
 ghost use Rattle.c_num.specs.declared.IntType as int_types;
 ghost use Rattle.c_typed.specs.Table.{Interned};
 ghost use Rattle.c_typed.specs.StatementViews.{local_in, LocalStands, LocalsStand, start_in, StartStands, BlockStands};
 ghost use Rattle.tac_build.specs.Inside.{with_local, with_locals, with_start};
-ghost use Rattle.tac_build.specs.Code.{FirstCode, LocalsCode, StartCode};
+ghost use Rattle.tac_build.specs.Code.{LocalsCode, StartCode};
 ghost use Rattle.tac_build.specs.Growing.{IsReady, Grows, with_items};
+ghost use Rattle.tac_build.specs.Lowered.{LowersFirst};
 
 use crate::builder::Builder;
 use crate::inside_statements::integer_type;
@@ -84,7 +85,7 @@ impl Builder {
         next: PointId,
     ) -> Result<PointId, AllocError>
         requires { IsReady self.old next.0 }
-        ensures code { (table : Interned) → IfOk result (λ entry. FirstCode self.new.points.items types.now (local_in table local.now).first (length types.now - 1) entry.0 next.0) }
+        ensures code { LowersFirst result self.new types.now local.now next.0 }
         ensures grows { OnOk result (Grows self.old self.new) }
         ensures ready { IfOk result (λ entry. IsReady self.new entry.0) }
     {

@@ -9,6 +9,7 @@ ghost use Rattle.c_typed.specs.Typed as typed;
 ghost use Rattle.c_typed.specs.Views.{value_in, object_in, values_in};
 ghost use Rattle.tac_ir.specs.Fits.{NamesBelow};
 ghost use Rattle.tac_build.specs.Code.{HasOp, ConstantCode, OperatorCode, ExprCode, SteppingCode, gives_old};
+ghost use Rattle.tac_build.specs.Lowered.{LowersValue};
 ghost use Rattle.tac_build.specs.Growing.{IsNamed, IsReady, Grows, TruthCode, UpdateCode, StepFrom};
 
 use crate::builder::Builder;
@@ -41,12 +42,12 @@ impl Builder {
         next: PointId,
     ) -> Result<PointId, AllocError>
         requires { IsReady self.old next.0 }
-        ensures code { (table : Interned) → IfOk result (λ entry. ExprCode self.new.points.items types.now (value_in table value.now) entry.0 to.0 next.0) }
+        ensures code { LowersValue result self.new types.now value.now to.0 next.0 }
         ensures grows { OnOk result (Grows self.old self.new) }
         ensures ready { IfOk result (λ entry. IsReady self.new entry.0) }
     {
         match value {
-            Value::Constant(value) => self.constant(*value, to, next),
+            Value::Constant { value, .. } => self.constant(*value, to, next),
             Value::Grouped(inner) => self.expression(inner, types, to, next),
             Value::Plus(inner) => self.expression(inner, types, to, next),
             Value::Cast(inner) => self.expression(inner, types, to, next),
@@ -84,7 +85,7 @@ impl Builder {
         next: PointId,
     ) -> Result<PointId, AllocError>
         requires { IsReady self.old next.0 }
-        ensures code { (table : Interned) → IfOk result (λ entry. ExprCode self.new.points.items types.now (value_in table value.now) entry.0 to.0 next.0) }
+        ensures code { LowersValue result self.new types.now value.now to.0 next.0 }
         ensures grows { OnOk result (Grows self.old self.new) }
         ensures ready { IfOk result (λ entry. IsReady self.new entry.0) }
     {
@@ -126,7 +127,7 @@ impl Builder {
         next: PointId,
     ) -> Result<PointId, AllocError>
         requires { IsReady self.old next.0 }
-        ensures code { (table : Interned) → IfOk result (λ entry. ExprCode self.new.points.items types.now (value_in table value.now) entry.0 to.0 next.0) }
+        ensures code { LowersValue result self.new types.now value.now to.0 next.0 }
         ensures grows { OnOk result (Grows self.old self.new) }
         ensures ready { IfOk result (λ entry. IsReady self.new entry.0) }
     {
@@ -173,7 +174,7 @@ impl Builder {
         next: PointId,
     ) -> Result<PointId, AllocError>
         requires { IsReady self.old next.0 }
-        ensures code { (table : Interned) → IfOk result (λ entry. ExprCode self.new.points.items types.now (value_in table value.now) entry.0 to.0 next.0) }
+        ensures code { LowersValue result self.new types.now value.now to.0 next.0 }
         ensures grows { OnOk result (Grows self.old self.new) }
         ensures ready { IfOk result (λ entry. IsReady self.new entry.0) }
     {

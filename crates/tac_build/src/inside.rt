@@ -1,15 +1,13 @@
 // Whether an expression is in the part of the language that is compiled.
 
-ghost use Rattle.std.specs.Prelude.{◌≡◌, ◌&&◌, ◌||◌, ℕ, List, is_some};
-ghost use Rattle.text_place.specs.declared.place.Pos.{Pos};
-ghost use Rattle.c_num.specs.declared.IntType.{IntType};
+ghost use Rattle.std.specs.Prelude.{◌≡◌, ◌||◌};
 ghost use Rattle.c_num.specs.declared.IntType.TheVariants as int_types;
 ghost use Rattle.c_num.specs.Types.{is_value};
 ghost use Rattle.c_num.specs.Arith as operators;
-ghost use Rattle.c_typed.specs.Typed as typed;
 ghost use Rattle.c_typed.specs.Table.{Interned};
-ghost use Rattle.c_typed.specs.Views.{value_in, object_in, values_in};
+ghost use Rattle.c_typed.specs.Views.{value_in, object_in};
 ghost use Rattle.tac_build.specs.Inside as inside;
+ghost use Rattle.tac_build.specs.Deciding.{SaysCallFits, SaysCallInside};
 
 use c_num::{BinOp, IntType};
 use c_typed::{LibraryFunction, Object, Value};
@@ -101,7 +99,7 @@ pub(crate) fn fits(value: &Value, types: &[IntType], int_type: IntType) -> bool
     ensures { (table : Interned) → result ≡ inside.fits types.now (value_in table value.now) int_type }
 {
     match value {
-        Value::Constant(value) => is_value(int_type, *value),
+        Value::Constant { value, .. } => is_value(int_type, *value),
         Value::Grouped(inner) => fits(inner, types, int_type),
         Value::Read { object, .. } => holds_only(int_type, type_of_object(types, object)),
         Value::Converted { int_type: own, .. } => contains(int_type, *own),
@@ -133,7 +131,7 @@ pub(crate) fn fits(value: &Value, types: &[IntType], int_type: IntType) -> bool
 
 /// Whether what a library function gives is a value of the type.
 fn library_fits(function: LibraryFunction, int_type: IntType) -> bool
-    ensures { (groups : ℕ) (place : Pos) (types : List IntType) (arguments : typed.Values) → result ≡ inside.fits types (typed.LibraryCall function groups place arguments) int_type }
+    ensures { SaysCallFits result function int_type }
 {
     match function {
         LibraryFunction::GetChar | LibraryFunction::PutChar => contains(int_type, IntType::Int),
@@ -184,7 +182,7 @@ pub(crate) fn is_inside(value: &Value, types: &[IntType]) -> bool
     ensures { (table : Interned) → result ≡ inside.is_inside types.now (value_in table value.now) }
 {
     match value {
-        Value::Constant(value) => is_word(*value),
+        Value::Constant { value, .. } => is_word(*value),
         Value::Grouped(inner) => is_inside(inner, types),
         Value::Read { object, .. } => type_of_object(types, object).is_some(),
         Value::Converted { value, .. } => is_inside(value, types) && !is_converted(value),
@@ -252,7 +250,7 @@ pub(crate) fn is_inside(value: &Value, types: &[IntType]) -> bool
 /// Whether both expressions are compiled.
 #[cycle(inside)]
 fn are_inside(left: &Value, right: &Value, types: &[IntType]) -> bool
-    ensures { (table : Interned) → result ≡ (inside.is_inside types.now (value_in table left.now) && inside.is_inside types.now (value_in table right.now)) }
+    ensures { (table : Interned) → result ≡ inside.are_inside types.now (value_in table left.now) (value_in table right.now) }
 {
     is_inside(left, types) && is_inside(right, types)
 }
@@ -260,7 +258,7 @@ fn are_inside(left: &Value, right: &Value, types: &[IntType]) -> bool
 /// Whether the expression is compiled, and its value is one of the type.
 #[cycle(inside)]
 pub(crate) fn is_operand(value: &Value, types: &[IntType], int_type: IntType) -> bool
-    ensures { (table : Interned) → result ≡ (inside.is_inside types.now (value_in table value.now) && inside.fits types.now (value_in table value.now) int_type) }
+    ensures { (table : Interned) → result ≡ inside.is_operand types.now (value_in table value.now) int_type }
 {
     is_inside(value, types) && fits(value, types, int_type)
 }
@@ -276,7 +274,7 @@ pub(crate) fn is_condition(value: &Value, types: &[IntType]) -> bool
 /// Whether both expressions are compiled, and are tested as words.
 #[cycle(inside)]
 fn are_conditions(left: &Value, right: &Value, types: &[IntType]) -> bool
-    ensures { (table : Interned) → result ≡ (inside.is_inside types.now (value_in table left.now) && inside.is_inside types.now (value_in table right.now) && is_some (inside.word_type types.now (value_in table left.now)) && is_some (inside.word_type types.now (value_in table right.now))) }
+    ensures { (table : Interned) → result ≡ inside.are_conditions types.now (value_in table left.now) (value_in table right.now) }
 {
     are_inside(left, right, types)
         && word_type(left, types).is_some()
@@ -286,7 +284,7 @@ fn are_conditions(left: &Value, right: &Value, types: &[IntType]) -> bool
 /// Whether the call of a library function is compiled.
 #[cycle(inside)]
 fn is_library_call(function: LibraryFunction, arguments: &[Value], types: &[IntType]) -> bool
-    ensures { (table : Interned) (groups : ℕ) (place : Pos) → result ≡ inside.is_inside types.now (typed.LibraryCall function groups place (values_in table arguments.now)) }
+    ensures { SaysCallInside result types.now function arguments.now }
 {
     match arguments {
         [] => match function {

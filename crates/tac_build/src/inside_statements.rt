@@ -1,15 +1,16 @@
 // Whether a program is in the part of the language that is compiled.
 
-ghost use Rattle.std.specs.Prelude.{◌≡◌, ◌&&◌, true, map, IfOk, OnOk};
+ghost use Rattle.std.specs.Prelude.{◌≡◌, true, map, IfOk, OnOk};
 ghost use Rattle.c_num.specs.declared.IntType.TheVariants as int_types;
 ghost use Rattle.c_typed.specs.Types.{Integer, Function, NoTypes, integer_type, same_type};
 ghost use Rattle.c_typed.specs.Typed as typed;
 ghost use Rattle.c_typed.specs.Table.{Interned, Stands, type_in};
 ghost use Rattle.c_typed.specs.Views.{value_in};
-ghost use Rattle.c_typed.specs.StatementViews.{optional_value_in, local_in, LocalStands, LocalsStand, start_in, StartStands, stmt_in, StmtStands, block_in, BlockStands, switch_in, SwitchStands};
+ghost use Rattle.c_typed.specs.StatementViews.{optional_value_in, local_in, start_in, stmt_in, block_in, switch_in};
+ghost use Rattle.c_typed.specs.StatementViews.{LocalStands, LocalsStand, StartStands, StmtStands, BlockStands, SwitchStands};
 ghost use Rattle.c_typed.specs.DefinitionViews.{function_in, FunctionStands, program_of, ProgramStands};
 ghost use Rattle.tac_build.specs.Inside as inside;
-ghost use Rattle.tac_build.specs.Deciding.{Extends};
+ghost use Rattle.tac_build.specs.Deciding.{Extends, for_in};
 
 use crate::inside::{is_condition, is_inside, is_label, is_operand, word_type};
 use c_num::IntType;
@@ -171,7 +172,7 @@ fn is_guarded(
     body: &Stmt,
 ) -> Result<bool, AllocError>
     requires { StmtStands types.now body.now }
-    ensures is { IfOk result (λ is. is ≡ (inside.is_condition locals.old.items (value_in types.now condition.now) && inside.is_stmt locals.old.items (stmt_in types.now body.now))) }
+    ensures is { IfOk result (λ is. is ≡ inside.is_guarded locals.old.items (value_in types.now condition.now) (stmt_in types.now body.now)) }
     ensures kept { OnOk result (locals.new.items ≡ locals.old.items) }
 {
     Ok(is_condition(condition, locals) && is_stmt(types, locals, body)?)
@@ -189,7 +190,7 @@ fn is_for(
 ) -> Result<bool, AllocError>
     requires start { StartStands types.now start.now }
     requires body { StmtStands types.now body.now }
-    ensures is { IfOk result (λ is. is ≡ inside.is_stmt locals.old.items (typed.For (start_in types.now start.now) (optional_value_in types.now condition.now) (optional_value_in types.now step.now) (stmt_in types.now body.now))) }
+    ensures is { IfOk result (λ is. is ≡ inside.is_stmt locals.old.items (for_in types.now start.now condition.now step.now body.now)) }
     ensures kept { OnOk result (locals.new.items ≡ locals.old.items) }
 {
     let outer = locals.len();
@@ -210,7 +211,7 @@ fn are_parts(
 ) -> Result<bool, AllocError>
     requires start { StartStands types.now start.now }
     requires body { StmtStands types.now body.now }
-    ensures is { IfOk result (λ is. is ≡ inside.is_stmt locals.old.items (typed.For (start_in types.now start.now) (optional_value_in types.now condition.now) (optional_value_in types.now step.now) (stmt_in types.now body.now))) }
+    ensures is { IfOk result (λ is. is ≡ inside.is_stmt locals.old.items (for_in types.now start.now condition.now step.now body.now)) }
     ensures extends { OnOk result (Extends locals.old.items locals.new.items) }
 {
     Ok(

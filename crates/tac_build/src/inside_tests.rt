@@ -14,9 +14,14 @@ fn converted(alloc: Global, int_type: IntType, value: Value) -> Result<Value, Al
     Ok(Value::Converted { int_type, value })
 }
 
+fn number(value: i128) -> Value {
+    let int_type = IntType::Int;
+    Value::Constant { int_type, value }
+}
+
 /// A constant of a type.
 fn constant(alloc: Global, int_type: IntType, value: i128) -> Result<Value, AllocError> {
-    converted(alloc, int_type, Value::Constant(value))
+    converted(alloc, int_type, number(value))
 }
 
 /// The value of a local, in parentheses.
@@ -34,7 +39,7 @@ fn less(alloc: Global, left: Value, right: i128) -> Result<Value, AllocError> {
     Ok(Value::Compare {
         relation: Relation::Lt,
         left: Box::new(alloc, left)?,
-        right: Box::new(alloc, Value::Constant(right))?,
+        right: Box::new(alloc, number(right))?,
     })
 }
 
@@ -57,9 +62,9 @@ fn expressions(rt: HostRuntime) -> Result<(), Fail> {
     let types = [IntType::Int, IntType::Char];
     let one = constant(alloc, IntType::UChar, 1)?;
     let rows = vec![in alloc;
-        (Value::Constant(127), true, true),
-        (Value::Constant(128), true, false),
-        (Value::Constant(18_446_744_073_709_551_616), false, false),
+        (number(127), true, true),
+        (number(128), true, false),
+        (number(18_446_744_073_709_551_616), false, false),
         (Value::NullPointer, false, false),
         (constant(alloc, IntType::Char, 300)?, true, true),
         (constant(alloc, IntType::UChar, 1)?, true, false),

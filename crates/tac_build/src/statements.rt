@@ -5,8 +5,9 @@ ghost use Rattle.std.specs.Prelude.{◌≡◌, ◌<◌, ℕ, length, option_copi
 ghost use Rattle.c_typed.specs.StatementViews.{optional_value_in, stmt_in, StmtStands, block_in, BlockStands, switch_in, SwitchStands};
 ghost use Rattle.c_typed.specs.Typed as typed;
 ghost use Rattle.c_typed.specs.Views.{value_in};
-ghost use Rattle.tac_build.specs.Code.{StmtCode, BlockCode};
+ghost use Rattle.tac_build.specs.Code.{BlockCode};
 ghost use Rattle.tac_build.specs.Growing.{IsReady, Grows, AreReady, ways_of, TurnsCode};
+ghost use Rattle.tac_build.specs.Lowered.{LowersStmt};
 ghost use Rattle.tac_build.specs.Switches.{CasesCode, PlacesWithin, DefaultWithin};
 
 use crate::builder::{Builder, Ways};
@@ -30,7 +31,7 @@ impl Builder {
     ) -> Result<PointId, AllocError>
         requires stands { StmtStands table.now stmt.now }
         requires ready { AreReady self.old ways }
-        ensures code { IfOk result (λ entry. StmtCode self.new.points.items types.old.items (stmt_in table.now stmt.now) entry.0 (ways_of ways)) }
+        ensures code { LowersStmt result self.new types.old.items (stmt_in table.now stmt.now) ways }
         ensures scope { OnOk result (types.new.items ≡ types.old.items) }
         ensures grows { OnOk result (Grows self.old self.new) }
         ensures ready { IfOk result (λ entry. IsReady self.new entry.0) }
@@ -70,7 +71,7 @@ impl Builder {
     ) -> Result<PointId, AllocError>
         requires stands { StmtStands table.now stmt.now }
         requires ready { AreReady self.old ways }
-        ensures code { IfOk result (λ entry. StmtCode self.new.points.items types.old.items (stmt_in table.now stmt.now) entry.0 (ways_of ways)) }
+        ensures code { LowersStmt result self.new types.old.items (stmt_in table.now stmt.now) ways }
         ensures scope { OnOk result (types.new.items ≡ types.old.items) }
         ensures grows { OnOk result (Grows self.old self.new) }
         ensures ready { IfOk result (λ entry. IsReady self.new entry.0) }
@@ -149,7 +150,7 @@ impl Builder {
     ) -> Result<PointId, AllocError>
         requires stands { StmtStands table.now body.now }
         requires ready { AreReady self.old ways }
-        ensures code { IfOk result (λ entry. StmtCode self.new.points.items types.old.items (typed.DoWhile (stmt_in table.now body.now) (value_in table.now condition.now)) entry.0 (ways_of ways)) }
+        ensures code { LowersStmt result self.new types.old.items (typed.DoWhile (stmt_in table.now body.now) (value_in table.now condition.now)) ways }
         ensures scope { OnOk result (types.new.items ≡ types.old.items) }
         ensures grows { OnOk result (Grows self.old self.new) }
         ensures ready { IfOk result (λ entry. IsReady self.new entry.0) }

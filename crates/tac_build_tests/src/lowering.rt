@@ -153,6 +153,13 @@ fn put(alloc: Global, value: Value) -> Result<Stmt, AllocError>
     }))
 }
 
+fn number(value: i128) -> Value
+    ensures { ValueStands empty result }
+{
+    let int_type = IntType::Int;
+    Value::Constant { int_type, value }
+}
+
 /// A local of type `int`.
 fn int_local(first: Option<Value>) -> LocalDef
     requires { OptionalStands empty first }
@@ -211,7 +218,7 @@ fn calls_and_an_empty_statement(rt: HostRuntime) -> Result<(), Fail> {
     let negative = Value::Minus {
         place: HERE,
         int_type: IntType::Int,
-        operand: Box::new(alloc, Value::Constant(1))?,
+        operand: Box::new(alloc, number(1))?,
     };
     let body = vec![in alloc;
         BlockItem::Statement(put(alloc, get(alloc))?),
@@ -238,9 +245,9 @@ fn variables_and_operands(rt: HostRuntime) -> Result<(), Fail> {
     let alloc = rt.alloc();
     let character = Value::Converted {
         int_type: IntType::Char,
-        value: Box::new(alloc, Value::Constant(200))?,
+        value: Box::new(alloc, number(200))?,
     };
-    let product = result_of(alloc, BinOp::Mul, Value::Constant(3), read(alloc, 0)?)?;
+    let product = result_of(alloc, BinOp::Mul, number(3), read(alloc, 0)?)?;
     let difference = result_of(alloc, BinOp::Sub, read(alloc, 0)?, product)?;
     let sum = assigned(alloc, 1, difference)?;
     let y = Value::Grouped(Box::new(alloc, read(alloc, 1)?)?);
@@ -276,7 +283,7 @@ fn counting(alloc: Global) -> Result<Stmt, AllocError>
     let condition = Value::Compare {
         relation: Relation::Lt,
         left: Box::new(alloc, read(alloc, 0)?)?,
-        right: Box::new(alloc, Value::Constant(3))?,
+        right: Box::new(alloc, number(3))?,
     };
     let step = Value::StepInteger {
         stepping: Stepping::PostIncrement,
@@ -293,7 +300,7 @@ fn counting(alloc: Global) -> Result<Stmt, AllocError>
         BlockItem::Statement(Stmt::Break),
     ]?;
     Ok(Stmt::For {
-        start: ForStart::Locals(vec![in alloc; int_local(Some(Value::Constant(0)))]?),
+        start: ForStart::Locals(vec![in alloc; int_local(Some(number(0)))]?),
         condition: Some(condition),
         step: Some(step),
         body: Box::new(alloc, Stmt::Block(items))?,
@@ -332,12 +339,12 @@ fn cases(alloc: Global) -> Result<Stmt, AllocError>
 {
     let items = vec![in alloc;
         SwitchItem::Case(65),
-        SwitchItem::Statement(put(alloc, Value::Constant(66))?),
+        SwitchItem::Statement(put(alloc, number(66))?),
         SwitchItem::Case(67),
-        SwitchItem::Statement(put(alloc, Value::Constant(68))?),
+        SwitchItem::Statement(put(alloc, number(68))?),
         SwitchItem::Statement(Stmt::Break),
         SwitchItem::Default,
-        SwitchItem::Statement(Stmt::Return(Some(Value::Constant(2)))),
+        SwitchItem::Statement(Stmt::Return(Some(number(2)))),
     ]?;
     Ok(Stmt::Switch {
         value: get(alloc),

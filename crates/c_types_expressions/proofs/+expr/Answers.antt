@@ -9,14 +9,11 @@ use Rattle.c_syntax.specs.declared.expr.TypeName.{TypeName, out-TypeName}
 use Rattle.c_syntax.specs.Trees
 use Rattle.c_syntax.specs.Views.{expr_tree, arguments_of, type_tree, name_tree, optional_of, words_tree, length_of, parameters_of, direct_tree, suffixes_of}
 use Rattle.c_syntax.proofs.SyntaxRows.{expr_tree-call}
-use Rattle.c_typed.specs.Types.{Integer}
 use Rattle.c_typed.specs.Table.{Interned, Stands, type_in, Grows, ListStands, types_in}
-use Rattle.c_typed.specs.Typed as typed
 use Rattle.c_typed.specs.declared.typed.Stepping.TheVariants as S
-use Rattle.c_rules.specs.declared.constness.Constness.TheVariants as C
-use Rattle.c_rules.specs.Known.{given, integer_value, value_rule, known_already, given_two, given_three, as_value, give}
+use Rattle.c_rules.specs.Known.{given, value_rule, known_already, given_two, given_three, as_value, give}
 use Rattle.c_rules.specs.Operators.{object_member, pointer_member, stepped, size_of, indexed, call, cast_to, combined, operand, operand_kind, as_condition, choice, assignment, assigned_object, assigned_value}
-use Rattle.c_rules.specs.Expressions.{expr, place_of, type_named, optional_type, argument_values, library_called, Required, words_type, as_constant, positive, length_value, length_stated, with_name}
+use Rattle.c_rules.specs.Expressions.{expr, integer_constant, place_of, type_named, optional_type, argument_values, library_called, Required, words_type, as_constant, positive, length_value, length_stated, with_name}
 use Rattle.c_types_state.specs.Finding.{IsExpr, IsType, ExprStands, expr_in, each_in, condition_in, Finds, IsTypes}
 use Rattle.c_types_state.specs.NameTables.{scope_of}
 use Rattle.c_types_unary.specs.Unary.{prefixed_rule}
@@ -85,17 +82,18 @@ expressions::expr-returns-in-Named t c =
 pub expressions::expr-returns-in_ok-constant-in-Integer : goal.expressions::expr-returns-in_ok-constant-in-Integer
 expressions::expr-returns-in_ok-constant-in-Integer t c =
     let table = c.args.pass.now.checker.table in
-    let same = same_int w128 c.from.result (record { sfits = c.from.type_inv }) ∙ c.from.ensures in
+    let number = same_int w128 c.from.result (record { sfits = c.from.type_inv }) ∙ c.from.ensures in
+    let same = same_int w128 c.convert-value.result (record { sfits = c.convert-value.type_inv }) ∙ c.convert-value.ensures.value ∙ ap (convert_to c.in-Integer.int_type) number in
     passes-tree (ap expr_tree c.in-Integer.is)
-    (passes-give (subst (λ (z : ℤ). IsExpr table c.in_ok-constant-in-Integer.field-0 (integer_value (Integer c.in-Integer.int_type) (C.Constant z) (typed.Constant z))) same (c.in_ok-constant-in-Integer.ensures table)))
+    (passes-give (subst (λ (z : ℤ). IsExpr table c.in_ok-constant-in-Integer.field-0 (integer_constant c.in-Integer.int_type z)) same (c.in_ok-constant-in-Integer.ensures table)))
 
 pub expressions::expr-returns-in_ok-constant-in-Character : goal.expressions::expr-returns-in_ok-constant-in-Character
 expressions::expr-returns-in_ok-constant-in-Character t c =
     let table = c.args.pass.now.checker.table in
     let byte = same_int w128 c.from-in-Character.result (record { sfits = c.from-in-Character.type_inv }) ∙ c.from-in-Character.ensures in
-    let same = same_int w128 c.convert-value.result (record { sfits = c.convert-value.type_inv }) ∙ c.convert-value.ensures.value ∙ ap (convert_to I.Char) byte in
+    let same = same_int w128 c.convert-value-in-Character.result (record { sfits = c.convert-value-in-Character.type_inv }) ∙ c.convert-value-in-Character.ensures.value ∙ ap (convert_to I.Char) byte in
     passes-tree (ap expr_tree c.in-Character.is)
-    (passes-give (subst (λ (z : ℤ). IsExpr table c.in_ok-constant-in-Character.field-0 (integer_value (Integer I.Int) (C.Constant z) (typed.Constant z))) same (c.in_ok-constant-in-Character.ensures table)))
+    (passes-give (subst (λ (z : ℤ). IsExpr table c.in_ok-constant-in-Character.field-0 (integer_constant I.Int z)) same (c.in_ok-constant-in-Character.ensures table)))
 
 pub expressions::expr-returns-in_ok-literal-in-Literal : goal.expressions::expr-returns-in_ok-literal-in-Literal
 expressions::expr-returns-in_ok-literal-in-Literal t c =

@@ -2,8 +2,11 @@ use Rattle.std.proofs.Common.{◌+◌, List, map, drop, refl, sym, ap, subst, �
 use Rattle.c_syntax.specs.declared.declaration.Item.{Item}
 use Rattle.c_syntax.specs.Views.{program_tree, item_tree}
 use Rattle.c_typed.specs.declared.definition.Program as memory_program
+use Rattle.c_typed.specs.Table.{Interned, Grows}
 use Rattle.c_types_state.specs.NameTables.{State}
 use Rattle.c_rules.specs.Programs.{violations}
+use Rattle.c_well_typed.specs.Programs.{IsWellTyped}
+use Rattle.c_rules_typing.proofs.ProgramsFit.{elaboration_keeps_types}
 use Rattle.c_types_expressions.specs.declared.pass.Pass.{Pass}
 use Rattle.c_types_state.specs.Lists.{with_outline}
 use Rattle.c_types.proofs.DeclaredMembers.{trees-next, trees-end}
@@ -70,8 +73,9 @@ returns-clause-typed c =
     let defined = c.loop-tree.defined in
     let read = reading-end program (map item_tree (drop index slice)) pass defined (trees-end item_tree slice slice refl index c.loop-tree-test.false) c.loop-tree.invariant in
     let types = c.into_types.ensures ∙ ap (λ (state : State). state.table) c.require.ensures.noted in
-    let p : memory_program.Program = record { types = c.into_types.result; completed = c.in_ok-completed.completed; globals = c.into_vec.result; literals = c.in_ok-literals.literals; functions = defined.functions } in
-    typed-whole program pass defined p read types c.in_ok-completed.ensures c.into_vec.ensures c.in_ok-literals.ensures refl
+    let grows = subst (λ (table : Interned). Grows table c.literals_of.new.types) types c.in_ok-literals.ensures.grows in
+    let p : memory_program.Program = record { types = c.literals_of.new.types; completed = c.in_ok-completed.completed; globals = c.into_vec.result; literals = c.in_ok-literals.literals; functions = defined.functions } in
+    typed-whole program pass defined p read grows c.in_ok-completed.ensures c.into_vec.ensures c.in_ok-literals.ensures.literals refl
 
 pub returns-clause-named : goal.returns-clause-named
 returns-clause-named c =
@@ -82,7 +86,8 @@ returns-clause-named c =
     let defined = c.loop-tree.defined in
     let read = reading-end program (map item_tree (drop index slice)) pass defined (trees-end item_tree slice slice refl index c.loop-tree-test.false) c.loop-tree.invariant in
     let types = c.into_types.ensures ∙ ap (λ (state : State). state.table) c.require.ensures.noted in
-    (named-whole program pass defined c.into_types.result read types).1
+    let grows = subst (λ (table : Interned). Grows table c.literals_of.new.types) types c.in_ok-literals.ensures.grows in
+    (named-whole program pass defined c.literals_of.new.types read grows).1
 
 pub returns-clause-stands : goal.returns-clause-stands
 returns-clause-stands c =
@@ -93,5 +98,9 @@ returns-clause-stands c =
     let defined = c.loop-tree.defined in
     let read = reading-end program (map item_tree (drop index slice)) pass defined (trees-end item_tree slice slice refl index c.loop-tree-test.false) c.loop-tree.invariant in
     let types = c.into_types.ensures ∙ ap (λ (state : State). state.table) c.require.ensures.noted in
-    let p : memory_program.Program = record { types = c.into_types.result; completed = c.in_ok-completed.completed; globals = c.into_vec.result; literals = c.in_ok-literals.literals; functions = defined.functions } in
-    (whole-stands program pass defined p read types c.into_vec.ensures refl, (named-whole program pass defined c.into_types.result read types).0)
+    let grows = subst (λ (table : Interned). Grows table c.literals_of.new.types) types c.in_ok-literals.ensures.grows in
+    let p : memory_program.Program = record { types = c.literals_of.new.types; completed = c.in_ok-completed.completed; globals = c.into_vec.result; literals = c.in_ok-literals.literals; functions = defined.functions } in
+    (whole-stands program pass defined p read grows c.into_vec.ensures c.in_ok-literals.ensures.stand refl, (named-whole program pass defined c.literals_of.new.types read grows).0)
+
+pub returns-clause-well_typed : goal.returns-clause-well_typed
+returns-clause-well_typed c = λ listed. subst IsWellTyped (sym (returns-clause-typed c)) (elaboration_keeps_types (program_tree c.args.program.now) listed (returns-clause-accepted c))

@@ -1,11 +1,23 @@
-use Rattle.std.proofs.Common.{◌≡◌, ◌<◌, ◌∷◌, ◌++◌, [], length, get_or, take, map, Some, ap, subst, ◌∙◌}
-use Rattle.c_typed.specs.DefinitionViews.{program_of, literal_of}
+use Rattle.std.proofs.Common.{◌≡◌, ◌<◌, ◌∷◌, ◌++◌, [], length, get_or, take, map, Some, sym, ap, subst, ◌∙◌}
+use Rattle.c_typed.specs.Table.{Interned}
+use Rattle.c_typed.specs.DefinitionViews.{program_of, literal_of, LiteralStands}
 use Rattle.ref_semantics.specs.Values.{LiteralObject}
 use Rattle.ref_semantics.specs.First.{around_of, first_state, literal_content}
 use Rattle.ref_store.specs.Firsts.{Has, with_new, unfilled_of}
-use Rattle.ref_store.proofs.FirstObjects.{mapped_more, unfilled_literal}
+use Rattle.ref_store.proofs.FirstObjects.{literal_stands, mapped_more, unfilled_literal}
 use Rattle.ref_store.proofs.FirstStore.{at_same}
 use Rattle.ref_store.proofs.store.Store.add_literals.Goals as goal
+
+pub add_literal-requires : goal.add_literal-requires
+add_literal-requires c =
+    let literals = c.args.program.now.literals.items in
+    let n = c.loop-literal.literal-index in
+    let literal = c.literal-item.result in
+    let items = c.deref-literal-items.ensures.value in
+    let within : n < length literals = subst (λ l. n < length l) items c.loop-literal-test.true in
+    let at : literal ≡ get_or literals n literal = c.literal-item.is ∙ ap (λ l. get_or l n literal) items in
+    let types = ap (λ t. t.now) c.loop-literal.invariant.types ∙ c.requires.types in
+    subst (λ (t : Interned). LiteralStands t literal) (sym types) (literal_stands c.args.program.now.types literals n literal c.requires.stand within at)
 
 pub loop-literal-preserved : goal.loop-literal-preserved
 loop-literal-preserved c =

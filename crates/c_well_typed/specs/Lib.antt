@@ -1,0 +1,5 @@
+pub mod Context
+pub mod Expressions
+pub mod Statements
+pub mod Programs
+pub mod Sizes
