@@ -1,6 +1,7 @@
 pub mod Answering
 pub mod Build
 pub mod Command
+pub mod Premises
 pub mod Compiled
 pub mod Complete
 pub mod Exec

@@ -2,6 +2,7 @@
 
 ghost use Rattle.std.specs.Prelude.{◌≡◌, ◌≢◌, ℕ, ◌<◌, ◌≤◌, ◌⊎◌, List, Some, length};
 ghost use Rattle.pcc_outside.specs.Outside.{Rose, Missing, Holds};
+ghost use Rattle.poolcc.specs.Premises.{NoFileFailed, AnswersNoSource};
 ghost use Rattle.poolcc.specs.Build.{BuildGives};
 ghost use Rattle.poolcc.specs.Exec.{IsUsage, source_limit};
 ghost use Rattle.poolcc.specs.Seen.{AreInRange};
@@ -22,11 +23,12 @@ pub fn build_file<F: Files, O: Sink>(
     out: &mut O,
 ) -> Status
     requires { AreInRange limits }
-    ensures gives { (text base : List ℕ) → F.contents files.old file.now ≡ Holds text → O.written out.old ≡ Some base → BuildGives text limits base result (O.written out.new) }
-    ensures missing { F.contents files.old file.now ≡ Missing → ((result ≡ Status.ReadFault) ⊎ (result ≡ Status.OutOfMemory)) × (O.written out.new ≡ O.written out.old) }
+    ensures gives { (text base : List ℕ) → F.contents files.old file.now ≡ Holds text → O.written out.old ≡ Some base
+        → BuildGives text limits base result (O.written out.new) }
+    ensures missing { AnswersNoSource (F.contents files.old file.now) result (O.written out.old) (O.written out.new) }
     ensures read_cause { result ≡ Status.ReadFault → Rose (F.faults files.old file.now) (F.faults files.new file.now) }
     ensures write_cause { result ≡ Status.WriteFault → Rose (O.faults out.old) (O.faults out.new) }
-    ensures memory_cause { result ≡ Status.OutOfMemory → ((other : List ℕ) → F.faults files.new other ≡ F.faults files.old other) × (O.faults out.new ≡ O.faults out.old) }
+    ensures memory_cause { result ≡ Status.OutOfMemory → NoFileFailed (F.faults files.old) (F.faults files.new) (O.faults out.old) (O.faults out.new) }
     ensures long_cause { result ≡ Status.SourceTooLong → source_limit < F.reach files.new file.now }
     ensures no_image { result ≢ Status.ImageTooLong }
     ensures well_formed { IsUsage result → ⊥ }

@@ -3,6 +3,7 @@
 ghost use Rattle.std.specs.Prelude.{◌≡◌, ◌≢◌, ℕ, ◌<◌, ◌≤◌, ◌⊎◌, List, Some, length};
 ghost use Rattle.pcc_outside.specs.Outside.{Rose, Missing, Holds};
 ghost use Rattle.image_form.specs.Form.{form_of, IsImage};
+ghost use Rattle.poolcc.specs.Premises.{AReadFailed, NoneFailed, AnswersMissing};
 ghost use Rattle.poolcc.specs.Compiled.{RunsImageTo};
 ghost use Rattle.poolcc.specs.Exec.{ExecGives, IsUsage, source_limit};
 ghost use Rattle.poolcc.specs.Seen.{AreInRange, status_seen};
@@ -30,10 +31,12 @@ pub fn exec<F: Files, I: Source, O: Sink>(
     requires { AreInRange limits }
     ensures gives { (text left base : List ℕ) → F.contents files.old file.now ≡ Holds text → I.left input.old ≡ Some left → O.written out.old ≡ Some base
         → ExecGives text limits steps left base result (I.left input.new) (O.written out.new) }
-    ensures missing { F.contents files.old file.now ≡ Missing → ((result ≡ Status.ReadFault) ⊎ (result ≡ Status.OutOfMemory)) × (I.left input.new ≡ I.left input.old) × (O.written out.new ≡ O.written out.old) }
-    ensures read_cause { result ≡ Status.ReadFault → Rose (F.faults files.old file.now) (F.faults files.new file.now) ⊎ Rose (I.faults input.old) (I.faults input.new) }
+    ensures missing { AnswersMissing (F.contents files.old file.now) result (I.left input.old) (I.left input.new) (O.written out.old) (O.written out.new) }
+    ensures read_cause { result ≡ Status.ReadFault
+        → AReadFailed (F.faults files.old file.now) (F.faults files.new file.now) (I.faults input.old) (I.faults input.new) }
     ensures write_cause { result ≡ Status.WriteFault → Rose (O.faults out.old) (O.faults out.new) }
-    ensures memory_cause { result ≡ Status.OutOfMemory → ((other : List ℕ) → F.faults files.new other ≡ F.faults files.old other) × (I.faults input.new ≡ I.faults input.old) × (O.faults out.new ≡ O.faults out.old) }
+    ensures memory_cause { result ≡ Status.OutOfMemory
+        → NoneFailed (F.faults files.old) (F.faults files.new) (I.faults input.old) (I.faults input.new) (O.faults out.old) (O.faults out.new) }
     ensures long_cause { result ≡ Status.SourceTooLong → source_limit < F.reach files.new file.now }
     ensures no_image { result ≢ Status.ImageTooLong }
     ensures well_formed { IsUsage result → ⊥ }

@@ -2,6 +2,7 @@
 
 ghost use Rattle.std.specs.Prelude.{◌≡◌, ◌≢◌, ℕ, ◌<◌, ◌≤◌, ◌⊎◌, List, Some, length};
 ghost use Rattle.pcc_outside.specs.Outside.{Rose, Missing, Holds};
+ghost use Rattle.poolcc.specs.Premises.{AReadFailed, NoneFailed, AnswersMissing};
 ghost use Rattle.poolcc.specs.Exec.{IsUsage};
 ghost use Rattle.poolcc.specs.ImageRun.{ImageGives, image_limit};
 
@@ -25,10 +26,12 @@ pub fn run_file<F: Files, I: Source, O: Sink>(
 ) -> Status
     ensures gives { (bytes left base : List ℕ) → F.contents files.old file.now ≡ Holds bytes → I.left input.old ≡ Some left → O.written out.old ≡ Some base
         → ImageGives bytes steps left base result (I.left input.new) (O.written out.new) }
-    ensures missing { F.contents files.old file.now ≡ Missing → ((result ≡ Status.ReadFault) ⊎ (result ≡ Status.OutOfMemory)) × (I.left input.new ≡ I.left input.old) × (O.written out.new ≡ O.written out.old) }
-    ensures read_cause { result ≡ Status.ReadFault → Rose (F.faults files.old file.now) (F.faults files.new file.now) ⊎ Rose (I.faults input.old) (I.faults input.new) }
+    ensures missing { AnswersMissing (F.contents files.old file.now) result (I.left input.old) (I.left input.new) (O.written out.old) (O.written out.new) }
+    ensures read_cause { result ≡ Status.ReadFault
+        → AReadFailed (F.faults files.old file.now) (F.faults files.new file.now) (I.faults input.old) (I.faults input.new) }
     ensures write_cause { result ≡ Status.WriteFault → Rose (O.faults out.old) (O.faults out.new) }
-    ensures memory_cause { result ≡ Status.OutOfMemory → ((other : List ℕ) → F.faults files.new other ≡ F.faults files.old other) × (I.faults input.new ≡ I.faults input.old) × (O.faults out.new ≡ O.faults out.old) }
+    ensures memory_cause { result ≡ Status.OutOfMemory
+        → NoneFailed (F.faults files.old) (F.faults files.new) (I.faults input.old) (I.faults input.new) (O.faults out.old) (O.faults out.new) }
     ensures long_cause { result ≡ Status.ImageTooLong → image_limit < F.reach files.new file.now }
     ensures no_source { result ≢ Status.SourceTooLong }
     ensures well_formed { IsUsage result → ⊥ }

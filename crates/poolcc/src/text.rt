@@ -110,7 +110,8 @@ fn elaborate(alloc: Global, program: &Program) -> Result<c_typed::Program, Stop>
 /// The typed tree that an accepted text within the source limit has.
 pub fn typed_program(alloc: Global, text: &[u8]) -> Result<c_typed::Program, Stop>
     requires { length text.now ≤ source_limit }
-    ensures found { IfOk result (λ typed. (program : whole.ProgramTree) × IsAccepted text.now program × (typed_program_of typed ≡ elaborated.typed_of program)) }
+    ensures found { IfOk result (λ typed.
+        (program : whole.ProgramTree) × IsAccepted text.now program × (typed_program_of typed ≡ elaborated.typed_of program)) }
     ensures stands { IfOk result ProgramStands }
     ensures stop { IfErr result (IsStop text.now) }
     ensures at_once { IfErr result IsAtOnce }

@@ -5,6 +5,7 @@ ghost use Rattle.pcc_outside.specs.Outside.{Rose};
 ghost use Rattle.pcc_status.specs.Said.{Said};
 ghost use Rattle.pcc_words.specs.Line.{Limits as SaidLimits, line_of, NoCommand, NoLine, Build, Exec, Run, Ref};
 ghost use Rattle.pcc_words.specs.Seen.{AreLimits, limits_seen};
+ghost use Rattle.poolcc.specs.Premises.{line_said, FromText, FromSource, Undisturbed, AReadFailed, NoneFailed, ReachesBeyond};
 ghost use Rattle.poolcc.specs.Command.{Names, machine_limits};
 ghost use Rattle.poolcc.specs.Seen.{AreInRange};
 ghost use Rattle.run_theory.specs.Runs.{IsUndefined};
@@ -49,71 +50,93 @@ pub fn poolcc<F: Files, I: Source, O: Sink, E: Sink>(
     err: &mut E,
 ) -> Status
     // What the command answers, and the line that is written of it.
-    ensures answers { (answer : Status) × IsAnswer (line_of (map string_bytes words.now)) (F.contents files.old) (I.left input.old) (O.written out.old) (I.left input.new) (O.written out.new) answer
+    ensures answers { (answer : Status)
+        × IsAnswer (line_said words.now) (F.contents files.old) (I.left input.old) (O.written out.old) (I.left input.new) (O.written out.new) answer
         × Said answer result (E.written err.old) (E.written err.new) (E.faults err.old) (E.faults err.new) }
 
     // The cause of each answer that the text and the input don't give.
-    ensures command_cause { result ≡ Status.Usage UsageKind.Command → line_of (map string_bytes words.now) ≡ NoCommand }
-    ensures words_cause { result ≡ Status.Usage UsageKind.Words → line_of (map string_bytes words.now) ≡ NoLine }
-    ensures read_cause { result ≡ Status.ReadFault → (file : List ℕ) × Names (line_of (map string_bytes words.now)) file × (Rose (F.faults files.old file) (F.faults files.new file) ⊎ Rose (I.faults input.old) (I.faults input.new)) }
+    ensures command_cause { result ≡ Status.Usage UsageKind.Command → line_said words.now ≡ NoCommand }
+    ensures words_cause { result ≡ Status.Usage UsageKind.Words → line_said words.now ≡ NoLine }
+    ensures read_cause { result ≡ Status.ReadFault → (file : List ℕ) × Names (line_said words.now) file
+        × AReadFailed (F.faults files.old file) (F.faults files.new file) (I.faults input.old) (I.faults input.new) }
     ensures write_cause { result ≡ Status.WriteFault → Rose (O.faults out.old) (O.faults out.new) ⊎ Rose (E.faults err.old) (E.faults err.new) }
-    ensures memory_cause { result ≡ Status.OutOfMemory → ((other : List ℕ) → F.faults files.new other ≡ F.faults files.old other) × (I.faults input.new ≡ I.faults input.old) × (O.faults out.new ≡ O.faults out.old) × (E.faults err.new ≡ E.faults err.old) }
-    ensures long_cause { result ≡ Status.SourceTooLong → (file : List ℕ) × Names (line_of (map string_bytes words.now)) file × (source_limit < F.reach files.new file) }
-    ensures image_long_cause { result ≡ Status.ImageTooLong → (file : List ℕ) × Names (line_of (map string_bytes words.now)) file × (image_limit < F.reach files.new file) }
-    ensures trapped_cause { (kind : TrapKind) (file : List ℕ) (limits : SaidLimits) (steps : ℕ) (text left base : List ℕ) → result ≡ Status.Trapped kind → line_of (map string_bytes words.now) ≡ Exec file limits steps
+    ensures memory_cause { result ≡ Status.OutOfMemory → (E.faults err.new ≡ E.faults err.old)
+        × NoneFailed (F.faults files.old) (F.faults files.new) (I.faults input.old) (I.faults input.new) (O.faults out.old) (O.faults out.new) }
+    ensures long_cause { result ≡ Status.SourceTooLong → ReachesBeyond (line_said words.now) source_limit (F.reach files.new) }
+    ensures image_long_cause { result ≡ Status.ImageTooLong → ReachesBeyond (line_said words.now) image_limit (F.reach files.new) }
+    ensures trapped_cause { (kind : TrapKind) (file : List ℕ) (limits : SaidLimits) (steps : ℕ) (text left base : List ℕ)
+        → result ≡ Status.Trapped kind → line_said words.now ≡ Exec file limits steps
         → F.contents files.old file ≡ Holds text → I.left input.old ≡ Some left → O.written out.old ≡ Some base
         → (program : ProgramTree) × IsInteger text program × (n : ℕ) × IsUndefined (reference (typed_of program) left n) }
 
     // Where the text is accepted and nothing outside fails, the answer is what the machine gives, or memory ran out.
-    ensures complete { (file : List ℕ) (limits : SaidLimits) (steps : ℕ) (text left base : List ℕ) (program : ProgramTree) → line_of (map string_bytes words.now) ≡ Exec file limits steps
-        → F.contents files.old file ≡ Holds text → length text ≤ source_limit → I.left input.old ≡ Some left → O.written out.old ≡ Some base
-        → (Rose (F.faults files.old file) (F.faults files.new file) → ⊥) → (Rose (I.faults input.old) (I.faults input.new) → ⊥) → (Rose (O.faults out.old) (O.faults out.new) → ⊥) → (Rose (E.faults err.old) (E.faults err.new) → ⊥)
-        → IsInteger text program → RunsUnlessMemory text (machine_limits limits) steps left base result (O.written out.new) }
+    ensures complete { (file : List ℕ) (limits : SaidLimits) (steps : ℕ) (text left base : List ℕ) (program : ProgramTree)
+        → line_said words.now ≡ Exec file limits steps
+        → FromText source_limit (F.contents files.old file) text (I.left input.old) left (O.written out.old) base
+        (Undisturbed (F.faults files.old file) (F.faults files.new file) (I.faults input.old) (I.faults input.new)
+        (O.faults out.old) (O.faults out.new) (E.faults err.old) (E.faults err.new)
+        (IsInteger text program → RunsUnlessMemory text (machine_limits limits) steps left base result (O.written out.new))) }
 
     // Where the text has a fault and nothing outside fails, the answer is the fault's kind and place, or memory ran out.
-    ensures lexical { (file : List ℕ) (limits : SaidLimits) (steps : ℕ) (text left base : List ℕ) (kind : LexKind) (place : Pos) → line_of (map string_bytes words.now) ≡ Exec file limits steps
-        → F.contents files.old file ≡ Holds text → length text ≤ source_limit → I.left input.old ≡ Some left → O.written out.old ≡ Some base
-        → (Rose (F.faults files.old file) (F.faults files.new file) → ⊥) → (Rose (I.faults input.old) (I.faults input.new) → ⊥) → (Rose (O.faults out.old) (O.faults out.new) → ⊥) → (Rose (E.faults err.old) (E.faults err.new) → ⊥)
-        → Faults first_place text (fault_of kind place) → (result ≡ Status.OutOfMemory) ⊎ (result ≡ Status.Refused (Refusal.Lex kind place)) }
+    ensures lexical { (file : List ℕ) (limits : SaidLimits) (steps : ℕ) (text left base : List ℕ) (kind : LexKind) (place : Pos)
+        → line_said words.now ≡ Exec file limits steps
+        → FromText source_limit (F.contents files.old file) text (I.left input.old) left (O.written out.old) base
+        (Undisturbed (F.faults files.old file) (F.faults files.new file) (I.faults input.old) (I.faults input.new)
+        (O.faults out.old) (O.faults out.new) (E.faults err.old) (E.faults err.new)
+        (Faults first_place text (fault_of kind place) → (result ≡ Status.OutOfMemory) ⊎ (result ≡ Status.Refused (Refusal.Lex kind place)))) }
 
     // Where the text is refused and nothing outside fails, the answer is that refusal, or memory ran out.
-    ensures refused { (file : List ℕ) (limits : SaidLimits) (steps : ℕ) (text left base : List ℕ) (refusal : Refusal) → line_of (map string_bytes words.now) ≡ Exec file limits steps
-        → F.contents files.old file ≡ Holds text → length text ≤ source_limit → I.left input.old ≡ Some left → O.written out.old ≡ Some base
-        → (Rose (F.faults files.old file) (F.faults files.new file) → ⊥) → (Rose (I.faults input.old) (I.faults input.new) → ⊥) → (Rose (O.faults out.old) (O.faults out.new) → ⊥) → (Rose (E.faults err.old) (E.faults err.new) → ⊥)
-        → IsRefused text refusal → (result ≡ Status.OutOfMemory) ⊎ (result ≡ Status.Refused refusal) }
+    ensures refused { (file : List ℕ) (limits : SaidLimits) (steps : ℕ) (text left base : List ℕ) (refusal : Refusal)
+        → line_said words.now ≡ Exec file limits steps
+        → FromText source_limit (F.contents files.old file) text (I.left input.old) left (O.written out.old) base
+        (Undisturbed (F.faults files.old file) (F.faults files.new file) (I.faults input.old) (I.faults input.new)
+        (O.faults out.old) (O.faults out.new) (E.faults err.old) (E.faults err.new)
+        (IsRefused text refusal → (result ≡ Status.OutOfMemory) ⊎ (result ≡ Status.Refused refusal))) }
 
     // Where the text of `ref` is accepted and nothing outside fails, the answer, the output and what is left of the input are those
     // of its program with so many units, or memory ran out; where it is refused at once, the answer is that refusal.
-    ensures ref_complete { (file : List ℕ) (steps : ℕ) (text left base : List ℕ) (program : ProgramTree) → line_of (map string_bytes words.now) ≡ Ref file steps
-        → F.contents files.old file ≡ Holds text → length text ≤ source_limit → I.left input.old ≡ Some left → O.written out.old ≡ Some base
-        → (Rose (F.faults files.old file) (F.faults files.new file) → ⊥) → (Rose (I.faults input.old) (I.faults input.new) → ⊥) → (Rose (O.faults out.old) (O.faults out.new) → ⊥) → (Rose (E.faults err.old) (E.faults err.new) → ⊥)
-        → IsAccepted text program → IsReachedUnlessMemory (behaviour_of (typed_of program) left steps) base result (I.left input.new) (O.written out.new) }
-    ensures ref_refused { (file : List ℕ) (steps : ℕ) (text left base : List ℕ) (refusal : Refusal) → line_of (map string_bytes words.now) ≡ Ref file steps
-        → F.contents files.old file ≡ Holds text → length text ≤ source_limit → I.left input.old ≡ Some left → O.written out.old ≡ Some base
-        → (Rose (F.faults files.old file) (F.faults files.new file) → ⊥) → (Rose (I.faults input.old) (I.faults input.new) → ⊥) → (Rose (O.faults out.old) (O.faults out.new) → ⊥) → (Rose (E.faults err.old) (E.faults err.new) → ⊥)
-        → IsRefused text refusal → (IsLate refusal → ⊥) → (result ≡ Status.OutOfMemory) ⊎ (result ≡ Status.Refused refusal) }
+    ensures ref_complete { (file : List ℕ) (steps : ℕ) (text left base : List ℕ) (program : ProgramTree)
+        → line_said words.now ≡ Ref file steps
+        → FromText source_limit (F.contents files.old file) text (I.left input.old) left (O.written out.old) base
+        (Undisturbed (F.faults files.old file) (F.faults files.new file) (I.faults input.old) (I.faults input.new)
+        (O.faults out.old) (O.faults out.new) (E.faults err.old) (E.faults err.new)
+        (IsAccepted text program → IsReachedUnlessMemory (behaviour_of (typed_of program) left steps) base result (I.left input.new) (O.written out.new))) }
+    ensures ref_refused { (file : List ℕ) (steps : ℕ) (text left base : List ℕ) (refusal : Refusal)
+        → line_said words.now ≡ Ref file steps
+        → FromText source_limit (F.contents files.old file) text (I.left input.old) left (O.written out.old) base
+        (Undisturbed (F.faults files.old file) (F.faults files.new file) (I.faults input.old) (I.faults input.new)
+        (O.faults out.old) (O.faults out.new) (E.faults err.old) (E.faults err.new)
+        (IsRefused text refusal → (IsLate refusal → ⊥) → (result ≡ Status.OutOfMemory) ⊎ (result ≡ Status.Refused refusal))) }
 
     // Where the text of `build` is accepted and nothing outside fails, the bytes of its image are written, or memory ran out;
     // where it is refused, the answer is that refusal.
-    ensures build_complete { (file : List ℕ) (limits : SaidLimits) (text base : List ℕ) (program : ProgramTree) → line_of (map string_bytes words.now) ≡ Build file limits
-        → F.contents files.old file ≡ Holds text → length text ≤ source_limit → O.written out.old ≡ Some base
-        → (Rose (F.faults files.old file) (F.faults files.new file) → ⊥) → (Rose (I.faults input.old) (I.faults input.new) → ⊥) → (Rose (O.faults out.old) (O.faults out.new) → ⊥) → (Rose (E.faults err.old) (E.faults err.new) → ⊥)
-        → IsInteger text program → IsBuiltUnlessMemory text (machine_limits limits) base result (O.written out.new) }
-    ensures build_refused { (file : List ℕ) (limits : SaidLimits) (text base : List ℕ) (refusal : Refusal) → line_of (map string_bytes words.now) ≡ Build file limits
-        → F.contents files.old file ≡ Holds text → length text ≤ source_limit → O.written out.old ≡ Some base
-        → (Rose (F.faults files.old file) (F.faults files.new file) → ⊥) → (Rose (I.faults input.old) (I.faults input.new) → ⊥) → (Rose (O.faults out.old) (O.faults out.new) → ⊥) → (Rose (E.faults err.old) (E.faults err.new) → ⊥)
-        → IsRefused text refusal → (result ≡ Status.OutOfMemory) ⊎ (result ≡ Status.Refused refusal) }
+    ensures build_complete { (file : List ℕ) (limits : SaidLimits) (text base : List ℕ) (program : ProgramTree)
+        → line_said words.now ≡ Build file limits
+        → FromSource source_limit (F.contents files.old file) text (O.written out.old) base
+        (Undisturbed (F.faults files.old file) (F.faults files.new file) (I.faults input.old) (I.faults input.new)
+        (O.faults out.old) (O.faults out.new) (E.faults err.old) (E.faults err.new)
+        (IsInteger text program → IsBuiltUnlessMemory text (machine_limits limits) base result (O.written out.new))) }
+    ensures build_refused { (file : List ℕ) (limits : SaidLimits) (text base : List ℕ) (refusal : Refusal)
+        → line_said words.now ≡ Build file limits
+        → FromSource source_limit (F.contents files.old file) text (O.written out.old) base
+        (Undisturbed (F.faults files.old file) (F.faults files.new file) (I.faults input.old) (I.faults input.new)
+        (O.faults out.old) (O.faults out.new) (E.faults err.old) (E.faults err.new)
+        (IsRefused text refusal → (result ≡ Status.OutOfMemory) ⊎ (result ≡ Status.Refused refusal))) }
 
     // Where the bytes of `run` are an image and nothing outside fails, the answer and the output are those of the machine within
     // the steps, or memory ran out; where they are none, the answer is the place of the first byte with which no image goes on.
-    ensures run_complete { (file : List ℕ) (steps : ℕ) (bytes left base : List ℕ) (form : Form) → line_of (map string_bytes words.now) ≡ Run file steps
-        → F.contents files.old file ≡ Holds bytes → length bytes ≤ image_limit → I.left input.old ≡ Some left → O.written out.old ≡ Some base
-        → (Rose (F.faults files.old file) (F.faults files.new file) → ⊥) → (Rose (I.faults input.old) (I.faults input.new) → ⊥) → (Rose (O.faults out.old) (O.faults out.new) → ⊥) → (Rose (E.faults err.old) (E.faults err.new) → ⊥)
-        → ImageOf bytes form → IsToldUnlessMemory (image_run form left steps) base result (O.written out.new) }
-    ensures run_bad { (file : List ℕ) (steps : ℕ) (bytes left base : List ℕ) → line_of (map string_bytes words.now) ≡ Run file steps
-        → F.contents files.old file ≡ Holds bytes → length bytes ≤ image_limit → I.left input.old ≡ Some left → O.written out.old ≡ Some base
-        → (Rose (F.faults files.old file) (F.faults files.new file) → ⊥) → (Rose (I.faults input.old) (I.faults input.new) → ⊥) → (Rose (O.faults out.old) (O.faults out.new) → ⊥) → (Rose (E.faults err.old) (E.faults err.new) → ⊥)
-        → (IsImageBytes bytes → ⊥) → IsBadUnlessMemory bytes result }
+    ensures run_complete { (file : List ℕ) (steps : ℕ) (bytes left base : List ℕ) (form : Form)
+        → line_said words.now ≡ Run file steps
+        → FromText image_limit (F.contents files.old file) bytes (I.left input.old) left (O.written out.old) base
+        (Undisturbed (F.faults files.old file) (F.faults files.new file) (I.faults input.old) (I.faults input.new)
+        (O.faults out.old) (O.faults out.new) (E.faults err.old) (E.faults err.new)
+        (ImageOf bytes form → IsToldUnlessMemory (image_run form left steps) base result (O.written out.new))) }
+    ensures run_bad { (file : List ℕ) (steps : ℕ) (bytes left base : List ℕ)
+        → line_said words.now ≡ Run file steps
+        → FromText image_limit (F.contents files.old file) bytes (I.left input.old) left (O.written out.old) base
+        (Undisturbed (F.faults files.old file) (F.faults files.new file) (I.faults input.old) (I.faults input.new)
+        (O.faults out.old) (O.faults out.new) (E.faults err.old) (E.faults err.new)
+        ((IsImageBytes bytes → ⊥) → IsBadUnlessMemory bytes result)) }
 
     // Counts of faults never fall.
     ensures files_counted { (name : List ℕ) → F.faults files.old name ≤ F.faults files.new name }
@@ -133,14 +156,17 @@ fn command<F: Files, I: Source, O: Sink>(
     input: &mut I,
     out: &mut O,
 ) -> Status
-    ensures answers { IsAnswer (line_of (map string_bytes words.now)) (F.contents files.old) (I.left input.old) (O.written out.old) (I.left input.new) (O.written out.new) result }
-    ensures command_cause { result ≡ Status.Usage UsageKind.Command → line_of (map string_bytes words.now) ≡ NoCommand }
-    ensures words_cause { result ≡ Status.Usage UsageKind.Words → line_of (map string_bytes words.now) ≡ NoLine }
-    ensures read_cause { result ≡ Status.ReadFault → (file : List ℕ) × Names (line_of (map string_bytes words.now)) file × (Rose (F.faults files.old file) (F.faults files.new file) ⊎ Rose (I.faults input.old) (I.faults input.new)) }
+    ensures answers { IsAnswer (line_said words.now) (F.contents files.old) (I.left input.old) (O.written out.old)
+        (I.left input.new) (O.written out.new) result }
+    ensures command_cause { result ≡ Status.Usage UsageKind.Command → line_said words.now ≡ NoCommand }
+    ensures words_cause { result ≡ Status.Usage UsageKind.Words → line_said words.now ≡ NoLine }
+    ensures read_cause { result ≡ Status.ReadFault → (file : List ℕ) × Names (line_said words.now) file
+        × AReadFailed (F.faults files.old file) (F.faults files.new file) (I.faults input.old) (I.faults input.new) }
     ensures write_cause { result ≡ Status.WriteFault → Rose (O.faults out.old) (O.faults out.new) }
-    ensures memory_cause { result ≡ Status.OutOfMemory → ((other : List ℕ) → F.faults files.new other ≡ F.faults files.old other) × (I.faults input.new ≡ I.faults input.old) × (O.faults out.new ≡ O.faults out.old) }
-    ensures long_cause { result ≡ Status.SourceTooLong → (file : List ℕ) × Names (line_of (map string_bytes words.now)) file × (source_limit < F.reach files.new file) }
-    ensures image_long_cause { result ≡ Status.ImageTooLong → (file : List ℕ) × Names (line_of (map string_bytes words.now)) file × (image_limit < F.reach files.new file) }
+    ensures memory_cause { result ≡ Status.OutOfMemory
+        → NoneFailed (F.faults files.old) (F.faults files.new) (I.faults input.old) (I.faults input.new) (O.faults out.old) (O.faults out.new) }
+    ensures long_cause { result ≡ Status.SourceTooLong → ReachesBeyond (line_said words.now) source_limit (F.reach files.new) }
+    ensures image_long_cause { result ≡ Status.ImageTooLong → ReachesBeyond (line_said words.now) image_limit (F.reach files.new) }
     ensures files_counted { (name : List ℕ) → F.faults files.old name ≤ F.faults files.new name }
     ensures reads_counted { I.faults input.old ≤ I.faults input.new }
     ensures writes_counted { O.faults out.old ≤ O.faults out.new }

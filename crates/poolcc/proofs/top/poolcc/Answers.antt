@@ -116,5 +116,4 @@ returns-clause-run_bad g c = λ file steps bytes left base line holds short told
 pub returns-clause-memory_cause : goal.returns-clause-memory_cause
 returns-clause-memory_cause g c = λ e.
     let said = said_memory c.command-answer.result c.say.result _ _ _ _ c.say.ensures.said e in
-    let none = c.command-answer.ensures.memory_cause said.0 in
-    (none.0, none.1, none.2, said.1)
+    (said.1, c.command-answer.ensures.memory_cause said.0)
