@@ -72,7 +72,7 @@ returns-clause-typed c =
     let pass = c.loop-tree.pass in
     let defined = c.loop-tree.defined in
     let read = reading-end program (map item_tree (drop index slice)) pass defined (trees-end item_tree slice slice refl index c.loop-tree-test.false) c.loop-tree.invariant in
-    let types = c.into_types.ensures ∙ ap (λ (state : State). state.table) c.require.ensures.noted in
+    let types = c.into_types-types.ensures ∙ ap (λ (state : State). state.table) c.require.ensures.noted in
     let grows = subst (λ (table : Interned). Grows table c.literals_of.new.types) types c.in_ok-literals.ensures.grows in
     let p : memory_program.Program = record { types = c.literals_of.new.types; completed = c.in_ok-completed.completed; globals = c.into_vec.result; literals = c.in_ok-literals.literals; functions = defined.functions } in
     typed-whole program pass defined p read grows c.in_ok-completed.ensures c.into_vec.ensures c.in_ok-literals.ensures.literals refl
@@ -85,7 +85,7 @@ returns-clause-named c =
     let pass = c.loop-tree.pass in
     let defined = c.loop-tree.defined in
     let read = reading-end program (map item_tree (drop index slice)) pass defined (trees-end item_tree slice slice refl index c.loop-tree-test.false) c.loop-tree.invariant in
-    let types = c.into_types.ensures ∙ ap (λ (state : State). state.table) c.require.ensures.noted in
+    let types = c.into_types-types.ensures ∙ ap (λ (state : State). state.table) c.require.ensures.noted in
     let grows = subst (λ (table : Interned). Grows table c.literals_of.new.types) types c.in_ok-literals.ensures.grows in
     (named-whole program pass defined c.literals_of.new.types read grows).1
 
@@ -97,7 +97,7 @@ returns-clause-stands c =
     let pass = c.loop-tree.pass in
     let defined = c.loop-tree.defined in
     let read = reading-end program (map item_tree (drop index slice)) pass defined (trees-end item_tree slice slice refl index c.loop-tree-test.false) c.loop-tree.invariant in
-    let types = c.into_types.ensures ∙ ap (λ (state : State). state.table) c.require.ensures.noted in
+    let types = c.into_types-types.ensures ∙ ap (λ (state : State). state.table) c.require.ensures.noted in
     let grows = subst (λ (table : Interned). Grows table c.literals_of.new.types) types c.in_ok-literals.ensures.grows in
     let p : memory_program.Program = record { types = c.literals_of.new.types; completed = c.in_ok-completed.completed; globals = c.into_vec.result; literals = c.in_ok-literals.literals; functions = defined.functions } in
     (whole-stands program pass defined p read grows c.into_vec.ensures c.in_ok-literals.ensures.stand refl, (named-whole program pass defined c.literals_of.new.types read grows).0)
