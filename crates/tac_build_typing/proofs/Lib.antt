@@ -1,0 +1,10 @@
+pub mod Holding
+pub mod Integers
+pub mod ValuesInside
+pub mod StatementsInside
+pub mod Knowing
+pub mod OperatorsOnly
+pub mod ExpressionsOnly
+pub mod StatementsOnly
+pub mod NoLiterals
+pub mod ProgramsInside
