@@ -1,0 +1,6 @@
+pub mod Rising
+pub mod Listed
+pub mod Carried
+pub mod Expressions
+pub mod Statements
+pub mod Programs

@@ -1,0 +1,17 @@
+-- The literals that stand in a tree of the grammar's rows.
+use Rattle.std.specs.Prelude.{◌≡◌, List, [], ◌∷◌, ◌++◌}
+use Rattle.grammar_table.specs.Table.{Alone, Then, Node}
+use Rattle.c_grammar.specs.Forms.{Production}
+use Rattle.c_token.specs.Leaves.{Leaf}
+use Rattle.c_reader_tokens.specs.Grammar.{Parse}
+use Rattle.c_typed.specs.Typed.{LiteralDef}
+
+-- Each of these literals stands at the place of a leaf of the tree, in the order of the leaves.
+pub data Holds : List LiteralDef → Parse → Type 0 where
+  no_literal : {parse : Parse} → Holds [] parse
+  literal : {leaf : Leaf} (one : LiteralDef) → one.place ≡ leaf.place → Holds (one ∷ []) (Alone leaf)
+  in_row : {literals : List LiteralDef} {form : Production} {parts : Parse} → Holds literals parts → Holds literals (Node form parts)
+  in_first : {literals : List LiteralDef} {first others : Parse} → Holds literals first → Holds literals (Then first others)
+  in_others : {literals : List LiteralDef} {first others : Parse} → Holds literals others → Holds literals (Then first others)
+  in_both : {literals more : List LiteralDef} {first others : Parse} → Holds literals first → Holds more others → Holds (literals ++ more) (Then first others)
+  regrouped : (literals more last : List LiteralDef) {parse : Parse} → Holds (literals ++ (more ++ last)) parse → Holds (literals ++ more ++ last) parse
