@@ -1,5 +1,5 @@
 -- What the contracts of commands say of the outside: what they presume of it, and what they leave.
-use Rattle.std.specs.Prelude.{◌≡◌, ℕ, ◌≤◌, ◌⊎◌, List, length, map, String, string_bytes, Option, Some}
+use Rattle.std.specs.Prelude.{◌≡◌, ℕ, ◌≤◌, ◌<◌, ◌⊎◌, List, length, map, String, string_bytes, Option, Some}
 use Rattle.pcc_outside.specs.Outside.{Told, Missing, Holds, Rose}
 use Rattle.pcc_status.specs.declared.status.Status.{Status}
 use Rattle.pcc_status.specs.declared.status.Status.TheVariants as S
@@ -7,7 +7,7 @@ use Rattle.pcc_words.specs.Line.{Line, line_of}
 use Rattle.poolcc.specs.Command.{Names}
 
 -- the command line that these words are
-abbrev pub line_said : List String → Line
+abbrev pub line_said : {Z : Type 0} → List (String Z) → Line
 line_said words = line_of (map string_bytes words)
 
 -- Where a file holds these bytes, of which there are no more than the limit, this is left of the input and that has been written,
