@@ -3,10 +3,10 @@ use Rattle.std.proofs.Common.{◌≡◌, ℕ, ◌⊎◌, List, Option, Some, ref
 use Rattle.pcc_outside.specs.Outside.{Told, Missing, Holds}
 use Rattle.pcc_status.specs.declared.status.Status.{Status}
 use Rattle.pcc_status.specs.declared.status.Status.TheVariants as S
-use Rattle.pcc_words.specs.Line.{Line, Limits, NoCommand, NoLine, Build, Exec, Run, Ref}
+use Rattle.pcc_words.specs.Line.{Line, Limits, Build, Exec}
 use Rattle.poolcc.specs.Answering.{IsAnswer}
 use Rattle.poolcc.specs.Build.{BuildGives}
-use Rattle.poolcc.specs.Command.{Names, machine_limits}
+use Rattle.poolcc.specs.Command.{machine_limits}
 use Rattle.poolcc.specs.Exec.{ExecGives}
 
 module _ (file : List ℕ) (limits : Limits) (contents : List ℕ → Told) (left written written' : Option (List ℕ)) (answer : Status)

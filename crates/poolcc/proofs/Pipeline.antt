@@ -13,7 +13,7 @@ use Rattle.tac_ir.proofs.Limits.{no_limit}
 use Rattle.tac_build.specs.Laws.{IsCompiled}
 use Rattle.tac_build.proofs.Simulation as lowering
 use Rattle.pool_isa.specs.Machine.{Function, mach}
-use Rattle.pool_isa.specs.Ranges.{IsWithin, IsFunction}
+use Rattle.pool_isa.specs.Ranges.{IsFunction}
 use Rattle.pool_isa.proofs.MachineRuns.{mach_is_run}
 use Rattle.stack_code.specs.Emission.{code_of, functions_of}
 use Rattle.stack_code.proofs.Simulation.{emission_follows}

@@ -1,5 +1,5 @@
 -- What the code refuses is refused, and what is refused gets that answer.
-use Rattle.std.proofs.Common.{◌≡◌, ℕ, ◌≤◌, ◌⊎◌, inl, inr, true, List, [], ◌∷◌, Option, Some, length, ap, refl, arith}
+use Rattle.std.proofs.Common.{◌≡◌, ℕ, ◌≤◌, ◌⊎◌, inl, inr, true, List, Option, length, ap, refl, arith}
 use Rattle.text_place.specs.declared.place.Pos.{Pos}
 use Rattle.text_place.specs.Places.{first_place}
 use Rattle.c_lexer.specs.declared.lex_err.LexErr.{LexErr}

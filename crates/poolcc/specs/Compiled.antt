@@ -14,7 +14,7 @@ use Rattle.c_types.specs.NamedItems.{named_types}
 use Rattle.c_types_limits.specs.Limits.{exceeded}
 use Rattle.c_integer.specs.Outside.{outside}
 use Rattle.tac_build.specs.Inside.{is_integer_program}
-use Rattle.pool_isa.specs.Machine.{Function, State, initial, mach}
+use Rattle.pool_isa.specs.Machine.{State, initial, mach}
 use Rattle.image_form.specs.declared.image.MachineLimits.{MachineLimits}
 use Rattle.image_form.specs.Form.{Form, code_of, IsImage, ImageOf}
 use Rattle.machine.specs.declared.ends.RunEnd.{RunEnd}
