@@ -3,7 +3,6 @@ use Rattle.std.proofs.Common.{◌≡◌, List, [], ◌∷◌, map, refl}
 use Rattle.c_typed.specs.declared.c_type.CType as number
 use Rattle.c_typed.specs.declared.definition.GlobalDef as memory_global
 use Rattle.c_typed.specs.declared.definition.FunctionDef as memory_function
-use Rattle.c_typed.specs.Typed.{GlobalDef, FunctionDef}
 use Rattle.c_typed.specs.Table.{Interned, type_in}
 use Rattle.c_typed.specs.DefinitionViews.{global_in, function_in, all_first, TypesStand, GlobalsStand, FunctionStands, FunctionsStand}
 use Rattle.c_typed.proofs.TypedStays.{TypesStay}
