@@ -1,0 +1,2 @@
+pub mod SyntaxNodes
+pub mod TypedNodes
