@@ -1,0 +1,12 @@
+pub mod Holding
+pub mod Types
+pub mod Operands
+pub mod Operators
+pub mod Calls
+pub mod Expressions
+pub mod Statements
+pub mod Structures
+pub mod Entering
+pub mod Functions
+pub mod Bounds
+pub mod Program
