@@ -1,5 +1,5 @@
 -- The items of a `switch` with their labels, and the tests of these, put together.
-use Rattle.std.proofs.Common.{◌≡◌, ℕ, ◌+◌, ◌-◌, ◌<◌, ◌≤◌, ℤ, List, [], ◌∷◌, ◌++◌, Option, Some, None, Result, Ok, Err, IfOk, OnOk, true, false, length, take, drop, get_or, unwrap_or, refl, sym, ◌∙◌, ap, subst, arith}
+use Rattle.std.proofs.Common.{◌≡◌, ℕ, ◌+◌, ◌-◌, ◌<◌, ◌≤◌, ℤ, List, [], ◌∷◌, ◌++◌, Option, Some, None, Result, Ok, Err, IfOk, OnOk, true, false, true≢false, length, take, drop, get_or, unwrap_or, refl, sym, ◌∙◌, ap, subst, arith}
 use Rattle.std.proofs.lemmas.List.{take_more, drop_more}
 use Rattle.std.specs.declared.alloc.AllocError.{AllocError}
 use Rattle.c_num.specs.declared.IntType.{IntType}
@@ -14,7 +14,8 @@ use Rattle.tac_ir.specs.declared.Op.{Op}
 use Rattle.tac_ir.specs.declared.PointId.{PointId}
 use Rattle.tac_build.specs.declared.builder.Builder.{Builder}
 use Rattle.tac_build.specs.declared.switches.Label.{Label}
-use Rattle.tac_build.specs.Code.{point, tested_type, ExprCode, Ways, LabelCode, StmtCode, SwitchCode, has_default, GoesPast}
+use Rattle.tac_build.specs.Code.{point, tested_type, ExprCode, Ways, LabelCode, StmtCode, SwitchCode, GoesPast}
+use Rattle.tac_build.specs.Inside.{has_default}
 use Rattle.tac_build.specs.Growing.{Grows}
 use Rattle.tac_build.specs.Switches.{CasesCode, TestsCode, default_or, PlacesWithin, DefaultWithin}
 use Rattle.tac_build.proofs.Points.{grows_on}
@@ -92,6 +93,11 @@ module _ (points : List Op) (types : List IntType) (ways : Ways) where
   some_is (T.Default others) entry labels place code = refl
   some_is (T.SwitchStmt stmt others) entry labels place code = some_is others code.0 labels place code.2
 
+  -- without a `default` there is no point of it
+  pub no_place : (items : SwitchItems) (entry : ℕ) (labels : List Label) (default : Option PointId) → CasesCode points types items entry labels default ways → has_default items ≡ false → default ≡ None
+  no_place items entry labels None code none = refl
+  no_place items entry labels (Some place) code none = absurd (true≢false (sym (some_is items entry labels place code) ∙ none))
+
   pub goes_past : (items : SwitchItems) (entry : ℕ) (labels : List Label) (default : Option PointId) → CasesCode points types items entry labels default ways → GoesPast (has_default items) (default_or default ways.onward) ways.onward
   goes_past items entry labels None code = rw (none_is items entry labels code) refl
   goes_past items entry labels (Some place) code = rw (some_is items entry labels place code) tt
@@ -138,6 +144,15 @@ module _ (points : List Op) (types : List IntType) (table : Interned) (all : Lis
         subst (λ types. StmtCode points types (stmt_in table stmt) entry (record { onward = mid; broken = ways.onward; continued = ways.continued })) same first,
         cases_stand old points stands types (switch_in table (drop index all)) mid labels default ways code,
       )
+
+module _ (points : List Op) (types : List IntType) (table : Interned) (all : List SwitchItem) (index : ℕ) (item : SwitchItem) (low : 0 < index) (within : index ≤ length all) (read : item ≡ get_or all (index - 1) item) (entry : PointId) (default : Option PointId) (ways : Ways) where
+  pub place_more : item ≡ W.Default → (labels : List Label) → has_default (switch_in table (drop index all)) ≡ false →
+      CasesCode points types (switch_in table (drop index all)) entry.0 labels default ways → CasesCode points types (switch_in table (drop (index - 1) all)) entry.0 labels (Some entry) ways
+  place_more is labels none code =
+      let e : switch_in table (drop (index - 1) all) ≡ T.Default (switch_in table (drop index all)) = ap (switch_in table) (in_front all index item low within read ∙ ap (λ item. item ∷ drop index all) is) in
+      let missing = no_place points types ways (switch_in table (drop index all)) entry.0 labels default code none in
+      subst (λ items. CasesCode points types items entry.0 labels (Some entry) ways) (sym e)
+      (refl, subst (λ (default : Option PointId). CasesCode points types (switch_in table (drop index all)) entry.0 labels default ways) missing code)
 
 pub default_or_is : (default : Option PointId) (onward : PointId) → (unwrap_or default onward).0 ≡ default_or default onward.0
 default_or_is None onward = refl

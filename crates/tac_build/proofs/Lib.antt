@@ -7,7 +7,8 @@ pub mod Performing
 pub mod Switching
 pub mod Simulation
 pub mod Outside
-pub mod Declaring
+pub mod Rooms
+pub mod StatementRooms
 pub mod Points
 pub mod Standing
 pub mod Forms

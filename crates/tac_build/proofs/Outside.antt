@@ -1,5 +1,6 @@
 -- Values of the forms that are never compiled, and calls of library functions with more than one argument.
-use Rattle.std.proofs.Common.{◌≡◌, ℕ, ◌≤◌, List, [], ◌∷◌, length, false, refl, sym, ap, ◌∙◌, arith}
+use Rattle.std.proofs.Common.{◌≡◌, ℕ, ◌<◌, ◌≤◌, List, [], ◌∷◌, length, true, false, refl, sym, ap, ◌∙◌, arith}
+use Rattle.std.proofs.lemmas.Bool.{false≢true}
 use Rattle.text_place.specs.declared.place.Pos.{Pos}
 use Rattle.c_num.specs.declared.IntType.{IntType}
 use Rattle.c_typed.specs.declared.typed.LibraryFunction.{LibraryFunction}
@@ -79,3 +80,24 @@ more_than_one types table L.Free groups place (first ∷ second ∷ others) h = 
 more_than_one types table L.GetChar groups place (first ∷ second ∷ others) h = refl
 more_than_one types table L.PutChar groups place (first ∷ second ∷ others) h = refl
 more_than_one types table L.Exit groups place (first ∷ second ∷ others) h = refl
+
+-- one that is called without an argument is `getchar`
+pub none_called : (types : List IntType) (table : Interned) (function : LibraryFunction) (groups : ℕ) (place : Pos) (arguments : List Value) → length arguments < 1 → (function ≡ L.GetChar → ⊥)
+    → is_inside types (T.LibraryCall function groups place (values_in table arguments)) ≡ true → ⊥
+none_called types table function groups place (first ∷ others) few other h = absurd (omega (arith, few))
+none_called types table L.Malloc groups place [] few other h = false≢true h
+none_called types table L.Free groups place [] few other h = false≢true h
+none_called types table L.GetChar groups place [] few other h = other refl
+none_called types table L.PutChar groups place [] few other h = false≢true h
+none_called types table L.Exit groups place [] few other h = false≢true h
+
+-- one that is called with an argument is `putchar` or `exit`
+pub one_called : (types : List IntType) (table : Interned) (function : LibraryFunction) (groups : ℕ) (place : Pos) (arguments : List Value) → 1 ≤ length arguments → length arguments < 2 → (function ≡ L.PutChar → ⊥) → (function ≡ L.Exit → ⊥)
+    → is_inside types (T.LibraryCall function groups place (values_in table arguments)) ≡ true → ⊥
+one_called types table function groups place [] some few put exits h = absurd (omega (arith, some))
+one_called types table function groups place (first ∷ second ∷ others) some few put exits h = absurd (omega (arith, few))
+one_called types table L.Malloc groups place (first ∷ []) some few put exits h = false≢true h
+one_called types table L.Free groups place (first ∷ []) some few put exits h = false≢true h
+one_called types table L.GetChar groups place (first ∷ []) some few put exits h = false≢true h
+one_called types table L.PutChar groups place (first ∷ []) some few put exits h = put refl
+one_called types table L.Exit groups place (first ∷ []) some few put exits h = exits refl

@@ -45,6 +45,10 @@ read_appended [] x y (suc i) e = absurd (cc)
 read_appended (z ∷ xs) x y zero e = inl e
 read_appended (z ∷ xs) x y (suc i) e = read_appended xs x y i e
 
+-- a list that is written is as long
+pub set_length : (points points' : List Op) (place : ℕ) (op : Op) → points' ≡ slice_set points place op → length points' ≡ length points
+set_length points points' place op e = ap length e ∙ length-set points place op
+
 -- ---- names
 
 -- with more registers and more points what an operation names is still there

@@ -1,5 +1,5 @@
 -- The code of a `switch` does what the `switch` does: the labels are tested in order, and then the items are done from one on.
-use Rattle.std.proofs.Common.{◌≡◌, ◌⊎◌, inl, inr, ℕ, zero, suc, ◌+◌, ◌≤◌, ◌<◌, Bool, true, false, true≢false, if◌then◌else◌, is_some, ℤ, List, Option, Some, length, slice_get, slice_set, ap, sym, ◌∙◌, refl, subst, arith}
+use Rattle.std.proofs.Common.{◌≡◌, ◌⊎◌, inl, inr, ℕ, zero, suc, ◌+◌, ◌≤◌, ◌<◌, Bool, true, false, true≢false, not, if◌then◌else◌, is_some, ℤ, List, Option, Some, length, slice_get, slice_set, ap, sym, ◌∙◌, refl, subst, arith}
 use Rattle.std.specs.Ordering.{int_eq}
 use Rattle.std.proofs.lemmas.Bool.{and_parts}
 use Rattle.std.specs.List.{AllByRecursion}
@@ -16,8 +16,8 @@ use Rattle.tac_ir.specs.Meaning as M
 use Rattle.tac_ir.specs.Values.{is_zero, truth}
 use Rattle.tac_ir.specs.Fits.{NamesBelow}
 use Rattle.tac_ir.specs.declared.Op.{Op}
-use Rattle.tac_build.specs.Inside.{word_type, is_inside, is_condition, is_label, is_stmt, is_switch}
-use Rattle.tac_build.specs.Code.{or_long, Ways, LabelCode, SwitchCode, has_default, GoesPast}
+use Rattle.tac_build.specs.Inside.{word_type, is_inside, is_condition, is_label, has_default, is_stmt, is_switch}
+use Rattle.tac_build.specs.Code.{or_long, Ways, LabelCode, SwitchCode, GoesPast}
 use Rattle.tac_build.proofs.Registers.{slice_get-set, slice_get-set_other, Ready, ready_behind}
 use Rattle.tac_build.proofs.Paths.{stand, written, Path, Does, comes, start, eased, onward, along, eases, allows, bind, enter}
 use Rattle.tac_build.proofs.Values.{truth_fits, tested_fits, label_fits}
@@ -125,7 +125,7 @@ module _ (points : List Op) (worth : ℕ) (around : TypeEnvironment) (calls : Ca
   cases_do T.SwitchEnd number types names tested ways z tests entry otherwise inside code fits registers s ready there =
       comes NoEntry s (stand tests registers s) (start (stand tests registers s) s.units) (registers, ap (λ at. stand at registers s) code.0, ready)
   cases_do (T.Default others) number types names tested ways z tests entry otherwise inside code fits registers s ready there =
-      allows (cases_do others (suc number) types names tested ways z tests entry otherwise inside code.1 fits registers s ready there) (found_behind types names (or_long tested) ways otherwise number (T.Default others) others (λ j at from. from))
+      allows (cases_do others (suc number) types names tested ways z tests entry otherwise (and_parts (not (has_default others)) (is_switch types tested others) inside).1 code.1 fits registers s ready there) (found_behind types names (or_long tested) ways otherwise number (T.Default others) others (λ j at from. from))
   cases_do (T.SwitchStmt one others) number types names tested ways z tests entry otherwise inside code fits registers s ready there =
       allows (cases_do others (suc number) types names tested ways z tests code.0 otherwise (and_parts (is_stmt types one) (is_switch types tested others) inside).1 code.2 fits registers s ready there)
       (found_behind types names (or_long tested) ways otherwise number (T.SwitchStmt one others) others (λ j at from. from))
@@ -168,8 +168,8 @@ module _ (points : List Op) (worth : ℕ) (around : TypeEnvironment) (calls : Ca
       does types names tested int_type ways otherwise k at (and_parts (is_label tested label) (is_switch types tested others) inside).1 code enough registers s ready
 
   pub defaults : (others : SwitchItems) → ExecutesItems others → ExecutesItems (T.Default others)
-  defaults others does types names tested int_type ways otherwise zero at inside code enough registers s ready = does types names tested int_type ways otherwise zero at inside (code.0, code.1.1) enough registers s ready
-  defaults others does types names tested int_type ways otherwise (suc k) at inside code enough registers s ready = does types names tested int_type ways otherwise k at inside code enough registers s ready
+  defaults others does types names tested int_type ways otherwise zero at inside code enough registers s ready = does types names tested int_type ways otherwise zero at (and_parts (not (has_default others)) (is_switch types tested others) inside).1 (code.0, code.1.1) enough registers s ready
+  defaults others does types names tested int_type ways otherwise (suc k) at inside code enough registers s ready = does types names tested int_type ways otherwise k at (and_parts (not (has_default others)) (is_switch types tested others) inside).1 code enough registers s ready
 
   pub switch_stmts : (one : Stmt) (others : SwitchItems) → Executes points worth around calls count below one → ExecutesItems others → ExecutesItems (T.SwitchStmt one others)
   switch_stmts one others does does' types names tested int_type ways otherwise zero at inside code enough registers s ready =

@@ -24,7 +24,7 @@ use Rattle.tac_ir.specs.declared.Register.{Register}
 use Rattle.tac_ir.specs.declared.PointId.{PointId}
 use Rattle.tac_ir.specs.declared.Tac.{Tac}
 use Rattle.tac_ir.specs.Fits.{NamesBelow}
-use Rattle.tac_build.specs.Inside.{local_of, word_type, common_word_type, with_local, with_start}
+use Rattle.tac_build.specs.Inside.{local_of, word_type, common_word_type, with_local, with_start, has_default}
 
 abbrev pub register : ℕ → Register
 register number = record { 0 = number }
@@ -175,12 +175,6 @@ LabelCode points int_type scope label entry inside next =
     × BranchCode points I.Int last (scope + 1) inside next
 
 -- without `default` the way goes on behind the `switch`
-abbrev pub has_default : SwitchItems → Bool
-has_default T.SwitchEnd = false
-has_default (T.Case label others) = has_default others
-has_default (T.Default others) = true
-has_default (T.SwitchStmt stmt others) = has_default others
-
 abbrev pub GoesPast : Bool → ℕ → ℕ → Type 0
 GoesPast true otherwise onward = Unit {0}
 GoesPast false otherwise onward = otherwise ≡ onward

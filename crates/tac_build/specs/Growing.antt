@@ -21,9 +21,10 @@ use Rattle.tac_build.specs.declared.conditions.Head.{Head}
 use Rattle.tac_build.specs.Inside.{with_local}
 use Rattle.tac_build.specs.Code.{HasOp, Ways, ConstantCode, BranchCode, OperatorCode, ExprCode, ConditionCode, OptionalCode, StmtCode, tested_type, register, point}
 
--- Each point names only registers and points that are there.
-abbrev pub IsNamed : Builder → Type 0
-IsNamed builder = (at : ℕ) (op : Op) → HasOp builder.points.items at op → NamesBelow builder.registers (length builder.points.items) op
+-- Each point names only registers and points that are there, and a frame has room for the registers.
+pub record IsNamed (builder : Builder) : Type 0 where
+  pub names : (at : ℕ) (op : Op) → HasOp builder.points.items at op → NamesBelow builder.registers (length builder.points.items) op
+  pub few : builder.registers ≤ 8388608
 
 -- The same, and this is one of the points: a part can be put in front of it.
 pub record IsReady (builder : Builder) (at : ℕ) : Type 0 where
@@ -35,6 +36,10 @@ pub record Grows (old new : Builder) : Type 0 where
   pub stands : (at : ℕ) (op : Op) → HasOp old.points.items at op → HasOp new.points.items at op
   pub longer : length old.points.items ≤ length new.points.items
   pub kept : old.registers ≤ new.registers
+
+-- at most so many points more
+abbrev pub Adds : Builder → Builder → ℕ → Type 0
+Adds old new count = length new.points.items ≤ length old.points.items + count
 
 -- ---- expressions
 

@@ -176,6 +176,13 @@ abbrev pub with_start : List IntType → ForStart → List IntType
 with_start types (T.StartLocals locals) = with_locals types locals
 with_start types _ = types
 
+-- whether there is a `default`
+abbrev pub has_default : SwitchItems → Bool
+has_default T.SwitchEnd = false
+has_default (T.Case label others) = has_default others
+has_default (T.Default others) = true
+has_default (T.SwitchStmt stmt others) = has_default others
+
 abbrev mutual
   pub is_stmt : List IntType → Stmt → Bool
   is_stmt types (T.BlockStmt items) = is_block types items
@@ -201,7 +208,7 @@ abbrev mutual
   pub is_switch : List IntType → Option IntType → SwitchItems → Bool
   is_switch types tested T.SwitchEnd = true
   is_switch types tested (T.Case label others) = is_label tested label && is_switch types tested others
-  is_switch types tested (T.Default others) = is_switch types tested others
+  is_switch types tested (T.Default others) = not (has_default others) && is_switch types tested others
   is_switch types tested (T.SwitchStmt stmt others) = is_stmt types stmt && is_switch types tested others
 
 -- a condition, and the statement that is done where it holds

@@ -1,8 +1,10 @@
 -- What lowering a part gives: points that do it, from an entry on. They name no type but those of the locals in scope, so what they
 -- do is told for each table of types.
-use Rattle.std.specs.Prelude.{ℕ, ◌-◌, List, length, Option, Some, Result, IfOk}
+use Rattle.std.specs.Prelude.{◌≡◌, ℕ, Bool, ◌-◌, List, length, Option, Some, Result, IfOk}
 use Rattle.std.specs.declared.alloc.AllocError.{AllocError}
+use Rattle.text_place.specs.declared.place.Pos.{Pos}
 use Rattle.c_num.specs.declared.IntType.{IntType}
+use Rattle.c_typed.specs.declared.typed.LibraryFunction.{LibraryFunction}
 use Rattle.c_typed.specs.declared.typed.Value as memory_value
 use Rattle.c_typed.specs.declared.statement.LocalDef as memory_local
 use Rattle.c_typed.specs.Typed as T
@@ -13,8 +15,14 @@ use Rattle.tac_ir.specs.declared.PointId.{PointId}
 use Rattle.tac_build.specs.declared.builder.Builder.{Builder}
 use Rattle.tac_build.specs.declared.builder.Ways as rust_ways
 use Rattle.tac_build.specs.declared.conditions.Head.{Head}
+use Rattle.tac_build.specs.Inside.{fits}
 use Rattle.tac_build.specs.Code.{Ways, ExprCode, ConditionCode, OptionalCode, FirstCode, StmtCode}
 use Rattle.tac_build.specs.Growing.{HeadCode, ways_of}
+
+-- whether what a library function gives is a value of the type, whatever it is called with
+abbrev pub SaysCallFits : Bool → LibraryFunction → IntType → Type 0
+SaysCallFits is function int_type =
+    (groups : ℕ) (place : Pos) (types : List IntType) (arguments : T.Values) → is ≡ fits types (T.LibraryCall function groups place arguments) int_type
 
 -- ---- expressions
 

@@ -25,7 +25,7 @@ impl Builder {
     ghost use Rattle.tac_ir.specs.declared.Op.TheVariants as O;
     ghost use Rattle.tac_ir.specs.Fits.{NamesBelow};
     ghost use Rattle.tac_build.specs.Code.{HasOp};
-    ghost use Rattle.tac_build.specs.Growing.{IsNamed, IsReady, Grows};
+    ghost use Rattle.tac_build.specs.Growing.{IsNamed, IsReady, Grows, Adds};
 
     /// Neither points nor registers.
     pub fn new(alloc: Global) -> Builder
@@ -43,11 +43,13 @@ impl Builder {
     pub fn append(&mut self, op: Op, last: Register) -> Result<PointId, AllocError>
         requires all_named { IsNamed self.old }
         requires op_named { NamesBelow (last.0 + 1) (length self.old.points.items) op }
+        requires room { last.0 < 8388608 }
         ensures code { IfOk result (λ at. HasOp self.new.points.items at.0 op) }
         ensures grows { OnOk result (Grows self.old self.new) }
+        ensures adds { OnOk result (Adds self.old self.new 1) }
         ensures ready { IfOk result (λ at. IsReady self.new at.0) }
     {
-        self.reach(last)?;
+        self.reach(last);
         let at = PointId(self.points.len());
         self.points.push(op)?;
         Ok(at)
@@ -59,6 +61,7 @@ impl Builder {
         ensures code { IfOk result (λ at. HasOp self.new.points.items at.0 O.Reserved) }
         ensures is_new { IfOk result (λ at. at.0 ≡ length self.old.points.items) }
         ensures grows { OnOk result (Grows self.old self.new) }
+        ensures adds { OnOk result (Adds self.old self.new 1) }
         ensures ready { IfOk result (λ at. IsReady self.new at.0) }
     {
         let at = PointId(self.points.len());
@@ -67,26 +70,25 @@ impl Builder {
     }
 
     /// Fills in a point. The registers of the operation are the last one at most.
-    pub fn fill(&mut self, at: PointId, op: Op, last: Register) -> Result<(), AllocError>
+    pub fn fill(&mut self, at: PointId, op: Op, last: Register)
         requires there { at.0 < length self.old.points.items }
         requires all_named { IsNamed self.old }
         requires op_named { NamesBelow (last.0 + 1) (length self.old.points.items) op }
-        ensures points { OnOk result (self.new.points.items ≡ slice_set self.old.points.items at.0 op) }
-        ensures registers { OnOk result (self.new.registers ≡ max self.old.registers (last.0 + 1)) }
-        ensures named { OnOk result (IsNamed self.new) }
+        requires room { last.0 < 8388608 }
+        ensures points { self.new.points.items ≡ slice_set self.old.points.items at.0 op }
+        ensures registers { self.new.registers ≡ max self.old.registers (last.0 + 1) }
+        ensures named { IsNamed self.new }
     {
-        self.reach(last)?;
+        self.reach(last);
         self.points[at.0] = op;
-        Ok(())
     }
 
-    /// Sees that a register is there. It is out of memory where the numbers of registers end.
-    fn reach(&mut self, last: Register) -> Result<(), AllocError>
+    /// Sees that a register is there.
+    fn reach(&mut self, last: Register)
+        requires { last.0 < 8388608 }
         ensures points { self.new.points.items ≡ self.old.points.items }
-        ensures registers { OnOk result (self.new.registers ≡ max self.old.registers (last.0 + 1)) }
+        ensures registers { self.new.registers ≡ max self.old.registers (last.0 + 1) }
     {
-        let needed = last.0.checked_add(1).ok_or(AllocError)?;
-        self.registers = self.registers.max(needed);
-        Ok(())
+        self.registers = self.registers.max(last.0 + 1);
     }
 }

@@ -1,16 +1,18 @@
 // Expressions, lowered backwards: the operation on the value first, then the operands, the last one first.
 
-ghost use Rattle.std.specs.Prelude.{◌≡◌, ◌+◌, ◌<◌, ℕ, pos, length, IfOk, OnOk};
+ghost use Rattle.std.specs.Prelude.{◌≡◌, ◌+◌, ◌*◌, ◌<◌, ℕ, pos, length, IfOk, OnOk};
 ghost use Rattle.text_place.specs.declared.place.Pos.{Pos};
 ghost use Rattle.c_num.specs.declared.BinOp.TheVariants as B;
 ghost use Rattle.ref_semantics.specs.Meaning.{step_operator};
 ghost use Rattle.c_typed.specs.Table.{Interned};
 ghost use Rattle.c_typed.specs.Typed as typed;
 ghost use Rattle.c_typed.specs.Views.{value_in, object_in, values_in};
+ghost use Rattle.c_sizes.specs.TypedNodes.{value_nodes, values_nodes};
 ghost use Rattle.tac_ir.specs.Fits.{NamesBelow};
 ghost use Rattle.tac_build.specs.Code.{HasOp, ConstantCode, OperatorCode, ExprCode, SteppingCode, gives_old};
 ghost use Rattle.tac_build.specs.Lowered.{LowersValue};
-ghost use Rattle.tac_build.specs.Growing.{IsNamed, IsReady, Grows, TruthCode, UpdateCode, StepFrom};
+ghost use Rattle.tac_build.specs.Growing.{IsNamed, IsReady, Grows, Adds, TruthCode, UpdateCode, StepFrom};
+ghost use Rattle.tac_build.specs.Rooms.{CanLower, CanCall, IsBefore};
 
 use crate::builder::Builder;
 use crate::operations::{
@@ -31,8 +33,7 @@ struct Truth {
 }
 
 impl Builder {
-    /// An expression, whose value comes to a register. One that is outside of the part that is compiled is refused as if
-    /// memory were short.
+    /// An expression, whose value comes to a register (C17 6.5).
     #[cycle(expressions)]
     pub fn expression(
         &mut self,
@@ -41,9 +42,11 @@ impl Builder {
         to: Register,
         next: PointId,
     ) -> Result<PointId, AllocError>
-        requires { IsReady self.old next.0 }
+        requires ready { IsReady self.old next.0 }
+        requires room { CanLower types.now value.now to.0 }
         ensures code { LowersValue result self.new types.now value.now to.0 next.0 }
         ensures grows { OnOk result (Grows self.old self.new) }
+        ensures adds { (table : Interned) → OnOk result (Adds self.old self.new (8 * value_nodes (value_in table value.now))) }
         ensures ready { IfOk result (λ entry. IsReady self.new entry.0) }
     {
         match value {
@@ -53,11 +56,11 @@ impl Builder {
             Value::Cast(inner) => self.expression(inner, types, to, next),
             Value::CastVoid(inner) => self.expression(inner, types, to, next),
             Value::Read { object, .. } => {
-                let local = local_before(object, to)?;
+                let local = local_before(object, to);
                 self.append(copy(local, to, next), to)
             }
             Value::Assign { object, value, .. } => {
-                let local = local_before(object, to)?;
+                let local = local_before(object, to);
                 self.value_then(value, types, to, copy(to, local, next))
             }
             Value::StepInteger {
@@ -71,67 +74,6 @@ impl Builder {
                 arguments,
                 ..
             } => self.library_call(*function, arguments.as_slice(), types, to, next),
-            _ => self.operation(value, types, to, next),
-        }
-    }
-
-    /// An operator on the values of others (C17 6.5.3.3, 6.5.5 to 6.5.16).
-    #[cycle(expressions)]
-    fn operation(
-        &mut self,
-        value: &Value,
-        types: &[IntType],
-        to: Register,
-        next: PointId,
-    ) -> Result<PointId, AllocError>
-        requires { IsReady self.old next.0 }
-        ensures code { LowersValue result self.new types.now value.now to.0 next.0 }
-        ensures grows { OnOk result (Grows self.old self.new) }
-        ensures ready { IfOk result (λ entry. IsReady self.new entry.0) }
-    {
-        match value {
-            Value::Arithmetic {
-                op,
-                int_type,
-                left,
-                right,
-                ..
-            } => {
-                let second = register_behind(to)?;
-                let op = arithmetic(*op, *int_type, to, second, next);
-                let mid = self.value_then(right, types, second, op)?;
-                self.expression(left, types, to, mid)
-            }
-            Value::Compare {
-                relation,
-                left,
-                right,
-            } => {
-                let second = register_behind(to)?;
-                let int_type = type_of_comparison(left, right, types);
-                let op = comparison(*relation, int_type, to, second, to, next);
-                let mid = self.value_then(right, types, second, op)?;
-                self.expression(left, types, to, mid)
-            }
-            _ => self.unary(value, types, to, next),
-        }
-    }
-
-    /// An operator on one value (C17 6.3.1.3, 6.5.3.3, 6.5.16.2).
-    #[cycle(expressions)]
-    fn unary(
-        &mut self,
-        value: &Value,
-        types: &[IntType],
-        to: Register,
-        next: PointId,
-    ) -> Result<PointId, AllocError>
-        requires { IsReady self.old next.0 }
-        ensures code { LowersValue result self.new types.now value.now to.0 next.0 }
-        ensures grows { OnOk result (Grows self.old self.new) }
-        ensures ready { IfOk result (λ entry. IsReady self.new entry.0) }
-    {
-        match value {
             Value::Converted { int_type, value } => {
                 self.value_then(value, types, to, conversion(*int_type, to, to, next))
             }
@@ -147,6 +89,29 @@ impl Builder {
                 operand,
                 ..
             } => self.negation(*int_type, operand, types, to, next),
+            Value::Arithmetic {
+                op,
+                int_type,
+                left,
+                right,
+                ..
+            } => {
+                let second = register_behind(to);
+                let op = arithmetic(*op, *int_type, to, second, next);
+                let mid = self.value_then(right, types, second, op)?;
+                self.expression(left, types, to, mid)
+            }
+            Value::Compare {
+                relation,
+                left,
+                right,
+            } => {
+                let second = register_behind(to);
+                let int_type = type_of_comparison(left, right, types);
+                let op = comparison(*relation, int_type, to, second, to, next);
+                let mid = self.value_then(right, types, second, op)?;
+                self.expression(left, types, to, mid)
+            }
             Value::AssignArithmetic {
                 op,
                 object_type,
@@ -155,30 +120,11 @@ impl Builder {
                 value,
                 ..
             } => {
-                let local = local_before(object, to)?;
-                let second = register_behind(to)?;
+                let local = local_before(object, to);
+                let second = register_behind(to);
                 let at = self.update(*op, *object_type, *int_type, local, to, next)?;
                 self.expression(value, types, second, at)
             }
-            _ => self.choice(value, types, to, next),
-        }
-    }
-
-    /// An operator that tests its operands in turn (C17 6.5.13 to 6.5.15).
-    #[cycle(expressions)]
-    fn choice(
-        &mut self,
-        value: &Value,
-        types: &[IntType],
-        to: Register,
-        next: PointId,
-    ) -> Result<PointId, AllocError>
-        requires { IsReady self.old next.0 }
-        ensures code { LowersValue result self.new types.now value.now to.0 next.0 }
-        ensures grows { OnOk result (Grows self.old self.new) }
-        ensures ready { IfOk result (λ entry. IsReady self.new entry.0) }
-    {
-        match value {
             Value::And { left, right } => {
                 let ways = self.truth(right, types, to, next)?;
                 let int_type = type_of_test(left, types);
@@ -201,7 +147,7 @@ impl Builder {
                 let op = branch(type_of_test(condition, types), to, holds, fails);
                 self.value_then(condition, types, to, op)
             }
-            _ => Err(AllocError),
+            _ => unreachable!(),
         }
     }
 
@@ -217,9 +163,11 @@ impl Builder {
     ) -> Result<PointId, AllocError>
         requires all_named { IsNamed self.old }
         requires op_named { NamesBelow (to.0 + 1) (length self.old.points.items) op }
+        requires room { CanLower types.now value.now to.0 }
         ensures code { (table : Interned) → IfOk result (λ entry. (at : ℕ) ×
             ExprCode self.new.points.items types.now (value_in table value.now) entry.0 to.0 at × HasOp self.new.points.items at op) }
         ensures grows { OnOk result (Grows self.old self.new) }
+        ensures adds { (table : Interned) → OnOk result (Adds self.old self.new (8 * value_nodes (value_in table value.now) + 1)) }
         ensures ready { IfOk result (λ entry. IsReady self.new entry.0) }
     {
         let at = self.append(op, to)?;
@@ -236,15 +184,17 @@ impl Builder {
         to: Register,
         next: PointId,
     ) -> Result<PointId, AllocError>
-        requires { IsReady self.old next.0 }
+        requires ready { IsReady self.old next.0 }
+        requires room { CanLower types.now operand.now (to.0 + 1) }
         ensures code { (table : Interned) → IfOk result (λ entry. (mid : ℕ) × (last : ℕ)
             × ConstantCode self.new.points.items (pos 0) entry.0 to.0 mid
             × ExprCode self.new.points.items types.now (value_in table operand.now) mid (to.0 + 1) last
             × OperatorCode self.new.points.items B.Sub int_type last to.0 next.0) }
         ensures grows { OnOk result (Grows self.old self.new) }
+        ensures adds { (table : Interned) → OnOk result (Adds self.old self.new (8 * value_nodes (value_in table operand.now) + 2)) }
         ensures ready { IfOk result (λ entry. IsReady self.new entry.0) }
     {
-        let second = register_behind(to)?;
+        let second = register_behind(to);
         let op = arithmetic(BinOp::Sub, int_type, to, second, next);
         let mid = self.value_then(operand, types, second, op)?;
         self.constant(0, to, mid)
@@ -259,10 +209,12 @@ impl Builder {
         to: Register,
         next: PointId,
     ) -> Result<Truth, AllocError>
-        requires { IsReady self.old next.0 }
+        requires ready { IsReady self.old next.0 }
+        requires room { CanLower types.now right.now to.0 }
         ensures code { (table : Interned) → IfOk result (λ ways. TruthCode self.new.points.items types.now (value_in table right.now)
             ways.more.0 ways.holds.0 ways.fails.0 to.0 next.0) }
         ensures grows { OnOk result (Grows self.old self.new) }
+        ensures adds { (table : Interned) → OnOk result (Adds self.old self.new (8 * value_nodes (value_in table right.now) + 3)) }
         ensures ready { IfOk result (λ ways. IsReady self.new ways.more.0) }
         ensures holds { IfOk result (λ ways. ways.holds.0 < length self.new.points.items) }
         ensures fails { IfOk result (λ ways. ways.fails.0 < length self.new.points.items) }
@@ -284,23 +236,25 @@ impl Builder {
         to: Register,
         next: PointId,
     ) -> Result<PointId, AllocError>
-        requires { IsReady self.old next.0 }
+        requires ready { IsReady self.old next.0 }
+        requires room { CanCall types.now function arguments.now to.0 }
         ensures code { (table : Interned) (groups : ℕ) (place : Pos) → IfOk result (λ entry. ExprCode self.new.points.items types.now
             (typed.LibraryCall function groups place (values_in table arguments.now)) entry.0 to.0 next.0) }
         ensures grows { OnOk result (Grows self.old self.new) }
+        ensures adds { (table : Interned) → OnOk result (Adds self.old self.new (8 * values_nodes (values_in table arguments.now) + 1)) }
         ensures ready { IfOk result (λ entry. IsReady self.new entry.0) }
     {
         match arguments {
             [] => match function {
                 LibraryFunction::GetChar => self.append(Op::GetChar { to, next }, to),
-                _ => Err(AllocError),
+                _ => unreachable!(),
             },
             [value] => match function {
                 LibraryFunction::PutChar => self.value_then(value, types, to, put_char(to, next)),
                 LibraryFunction::Exit => self.value_then(value, types, to, Op::Exit { from: to }),
-                _ => Err(AllocError),
+                _ => unreachable!(),
             },
-            _ => Err(AllocError),
+            _ => unreachable!(),
         }
     }
 
@@ -311,9 +265,11 @@ impl Builder {
         to: Register,
         next: PointId,
     ) -> Result<PointId, AllocError>
-        requires { IsReady self.old next.0 }
+        requires ready { IsReady self.old next.0 }
+        requires room { to.0 < 8388608 }
         ensures code { IfOk result (λ at. ConstantCode self.new.points.items value at.0 to.0 next.0) }
         ensures grows { OnOk result (Grows self.old self.new) }
+        ensures adds { OnOk result (Adds self.old self.new 1) }
         ensures ready { IfOk result (λ at. IsReady self.new at.0) }
     {
         self.append(Op::Constant { to, value, next }, to)
@@ -331,11 +287,13 @@ impl Builder {
     ) -> Result<PointId, AllocError>
         requires ready { IsReady self.old next.0 }
         requires before { local.0 < to.0 }
+        requires room { to.0 + 1 < 8388608 }
         ensures code { IfOk result (λ at. UpdateCode self.new.points.items op object_type int_type local at.0 to.0 next.0) }
         ensures grows { OnOk result (Grows self.old self.new) }
+        ensures adds { OnOk result (Adds self.old self.new 4) }
         ensures ready { IfOk result (λ at. IsReady self.new at.0) }
     {
-        let second = register_behind(to)?;
+        let second = register_behind(to);
         let store = self.append(copy(to, local, next), to)?;
         let more = self.append(conversion(object_type, to, to, store), to)?;
         let last = self.append(arithmetic(op, int_type, to, second, more), second)?;
@@ -351,15 +309,18 @@ impl Builder {
         to: Register,
         next: PointId,
     ) -> Result<PointId, AllocError>
-        requires { IsReady self.old next.0 }
+        requires ready { IsReady self.old next.0 }
+        requires before { IsBefore object.now to.0 }
+        requires room { to.0 + 2 < 8388608 }
         ensures code { (table : Interned) → IfOk result (λ entry. SteppingCode self.new.points.items (gives_old stepping) stepping int_type
             (object_in table object.now) entry.0 to.0 next.0) }
         ensures grows { OnOk result (Grows self.old self.new) }
+        ensures adds { OnOk result (Adds self.old self.new 6) }
         ensures ready { IfOk result (λ entry. IsReady self.new entry.0) }
     {
-        let local = local_before(object, to)?;
+        let local = local_before(object, to);
         if gives_old(stepping) {
-            let value = register_behind(to)?;
+            let value = register_behind(to);
             let last = self.append(copy(value, local, next), value)?;
             let mid = self.append(copy(local, to, last), to)?;
             self.step(stepping, int_type, local, value, mid)
@@ -380,12 +341,14 @@ impl Builder {
     ) -> Result<PointId, AllocError>
         requires ready { IsReady self.old next.0 }
         requires before { local.0 < to.0 }
+        requires room { to.0 + 1 < 8388608 }
         ensures code { IfOk result (λ entry. StepFrom self.new.points.items stepping int_type local entry.0 to.0 next.0) }
         ensures grows { OnOk result (Grows self.old self.new) }
+        ensures adds { OnOk result (Adds self.old self.new 4) }
         ensures ready { IfOk result (λ entry. IsReady self.new entry.0) }
     {
         let working = common(int_type, IntType::Int);
-        let second = register_behind(to)?;
+        let second = register_behind(to);
         let more = self.append(conversion(int_type, to, to, next), to)?;
         let op = arithmetic(step_operator(stepping), working, to, second, more);
         let last = self.append(op, second)?;

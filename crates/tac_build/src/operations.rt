@@ -1,36 +1,35 @@
 // The operations of expressions and statements, and the registers and types that they name.
 
-ghost use Rattle.std.specs.Prelude.{◌≡◌, ◌+◌, ◌<◌, IfOk};
+ghost use Rattle.std.specs.Prelude.{◌≡◌, ◌+◌, ◌<◌};
 ghost use Rattle.c_typed.specs.Table.{Interned};
 ghost use Rattle.c_typed.specs.Views.{value_in, object_in};
 ghost use Rattle.tac_build.specs.Inside.{common_word_type};
+ghost use Rattle.tac_build.specs.Rooms.{IsBefore};
 ghost use Rattle.tac_build.specs.Code.{local_register, or_long, tested_type};
 
-use crate::inside::{common_word_type, local_of, word_type};
+use crate::word_types::{common_word_type, local_of, word_type};
 use c_num::{BinOp, IntType, Relation};
 use c_typed::{Object, Value};
-use std::alloc::AllocError;
 use tac_ir::{Op, PointId, Register};
 
-/// The register of the local that an object is, which lies before that of a value. An object that is no local in scope, of
-/// which no program of the part that is compiled has one, is refused as if memory were short.
-pub fn local_before(object: &Object, to: Register) -> Result<Register, AllocError>
-    ensures number { (table : Interned) → IfOk result (λ register. register ≡ local_register (object_in table object.now)) }
-    ensures before { IfOk result (λ register. register.0 < to.0) }
+/// The register of the local that an object is, which lies before that of a value.
+pub fn local_before(object: &Object, to: Register) -> Register
+    requires { IsBefore object.now to.0 }
+    ensures number { (table : Interned) → result ≡ local_register (object_in table object.now) }
+    ensures before { result.0 < to.0 }
 {
-    let local = local_of(object).ok_or(AllocError)?;
-    if local < to.0 {
-        Ok(Register(local))
-    } else {
-        Err(AllocError)
+    match local_of(object) {
+        Some(number) => Register(number),
+        None => unreachable!(),
     }
 }
 
-/// A register behind another. It is out of memory where the numbers of registers end.
-pub fn register_behind(register: Register) -> Result<Register, AllocError>
-    ensures { IfOk result (λ behind. behind.0 ≡ register.0 + 1) }
+/// A register behind another.
+pub fn register_behind(register: Register) -> Register
+    requires { register.0 < 8388608 }
+    ensures { result.0 ≡ register.0 + 1 }
 {
-    Ok(Register(register.0.checked_add(1).ok_or(AllocError)?))
+    Register(register.0 + 1)
 }
 
 /// The type of words at which a value is tested. One that no type of words holds, of which no program of the part that is

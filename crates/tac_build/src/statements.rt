@@ -1,12 +1,14 @@
 // Statements and blocks, lowered backwards: the last item of a block first. The types of the locals in scope are those at the
 // point that is lowered: a block declares its locals first, and each is out of scope again once its declaration is lowered.
 
-ghost use Rattle.std.specs.Prelude.{◌≡◌, ◌<◌, ℕ, length, option_copied, IfOk, OnOk};
+ghost use Rattle.std.specs.Prelude.{◌≡◌, ◌+◌, ◌*◌, ◌<◌, ◌≤◌, ℕ, length, option_copied, IfOk, OnOk};
 ghost use Rattle.c_typed.specs.StatementViews.{optional_value_in, stmt_in, StmtStands, block_in, BlockStands, switch_in, SwitchStands};
 ghost use Rattle.c_typed.specs.Typed as typed;
 ghost use Rattle.c_typed.specs.Views.{value_in};
+ghost use Rattle.c_sizes.specs.TypedNodes.{optional_nodes, stmt_nodes, block_nodes, switch_nodes};
 ghost use Rattle.tac_build.specs.Code.{BlockCode};
-ghost use Rattle.tac_build.specs.Growing.{IsReady, Grows, AreReady, ways_of, TurnsCode};
+ghost use Rattle.tac_build.specs.Growing.{IsReady, Grows, Adds, AreReady, ways_of, TurnsCode};
+ghost use Rattle.tac_build.specs.Rooms.{OptionalRoom, StmtRoom, BlockRoom, SwitchRoom};
 ghost use Rattle.tac_build.specs.Lowered.{LowersStmt};
 ghost use Rattle.tac_build.specs.Switches.{CasesCode, PlacesWithin, DefaultWithin};
 
@@ -20,7 +22,7 @@ use std::alloc::AllocError;
 use tac_ir::{PointId, Register};
 
 impl Builder {
-    /// A statement. One that is outside of the part that is compiled is refused as if memory were short.
+    /// A statement.
     #[cycle(statements)]
     pub fn statement(
         &mut self,
@@ -31,9 +33,11 @@ impl Builder {
     ) -> Result<PointId, AllocError>
         requires stands { StmtStands table.now stmt.now }
         requires ready { AreReady self.old ways }
+        requires room { StmtRoom types.old.items (stmt_in table.now stmt.now) }
         ensures code { LowersStmt result self.new types.old.items (stmt_in table.now stmt.now) ways }
         ensures scope { OnOk result (types.new.items ≡ types.old.items) }
         ensures grows { OnOk result (Grows self.old self.new) }
+        ensures adds { OnOk result (Adds self.old self.new (8 * stmt_nodes (stmt_in table.now stmt.now))) }
         ensures ready { IfOk result (λ entry. IsReady self.new entry.0) }
     {
         match stmt {
@@ -56,27 +60,6 @@ impl Builder {
             Stmt::Break => Ok(ways.broken),
             Stmt::Continue => Ok(ways.continued),
             Stmt::Return(value) => self.returned(value, types.as_slice()),
-            _ => self.longer_statement(stmt, table, types, ways),
-        }
-    }
-
-    /// A loop or a `switch` (C17 6.8.4.2, 6.8.5).
-    #[cycle(statements)]
-    fn longer_statement(
-        &mut self,
-        stmt: &Stmt,
-        table: &TypeTable,
-        types: &mut Vec<IntType>,
-        ways: Ways,
-    ) -> Result<PointId, AllocError>
-        requires stands { StmtStands table.now stmt.now }
-        requires ready { AreReady self.old ways }
-        ensures code { LowersStmt result self.new types.old.items (stmt_in table.now stmt.now) ways }
-        ensures scope { OnOk result (types.new.items ≡ types.old.items) }
-        ensures grows { OnOk result (Grows self.old self.new) }
-        ensures ready { IfOk result (λ entry. IsReady self.new entry.0) }
-    {
-        match stmt {
             Stmt::While { condition, body } => {
                 self.turns(Some(condition), None, body, table, types, ways)
             }
@@ -102,7 +85,6 @@ impl Builder {
                 let tests = self.tests(cases.labels.as_slice(), int_type, scope, otherwise)?;
                 self.value(value, types.as_slice(), tests)
             }
-            _ => Err(AllocError),
         }
     }
 
@@ -120,10 +102,15 @@ impl Builder {
     ) -> Result<PointId, AllocError>
         requires stands { StmtStands table.now body.now }
         requires ready { AreReady self.old ways }
+        requires condition { OptionalRoom types.old.items (optional_value_in table.now (option_copied condition)) (length types.old.items) }
+        requires step { OptionalRoom types.old.items (optional_value_in table.now (option_copied step)) (length types.old.items) }
+        requires room { StmtRoom types.old.items (stmt_in table.now body.now) }
         ensures code { IfOk result (λ entry. TurnsCode self.new.points.items types.old.items (optional_value_in table.now (option_copied condition.entry))
             (optional_value_in table.now (option_copied step.entry)) (stmt_in table.now body.now) entry.0 (ways_of ways)) }
         ensures scope { OnOk result (types.new.items ≡ types.old.items) }
         ensures grows { OnOk result (Grows self.old self.new) }
+        ensures adds { OnOk result (Adds self.old self.new (8 * (optional_nodes (optional_value_in table.now (option_copied condition.entry))
+            + (optional_nodes (optional_value_in table.now (option_copied step.entry)) + stmt_nodes (stmt_in table.now body.now))) + 1)) }
         ensures ready { IfOk result (λ entry. IsReady self.new entry.0) }
     {
         let head = self.head(condition, types.as_slice())?;
@@ -134,7 +121,7 @@ impl Builder {
             continued: next,
         };
         let inside = self.statement(body, table, types, inner)?;
-        self.close(head.test, condition, types.as_slice(), inside, ways.onward)?;
+        self.close(head.test, condition, types.as_slice(), inside, ways.onward);
         Ok(head.entry)
     }
 
@@ -150,9 +137,11 @@ impl Builder {
     ) -> Result<PointId, AllocError>
         requires stands { StmtStands table.now body.now }
         requires ready { AreReady self.old ways }
+        requires room { StmtRoom types.old.items (typed.DoWhile (stmt_in table.now body.now) (value_in table.now condition.now)) }
         ensures code { LowersStmt result self.new types.old.items (typed.DoWhile (stmt_in table.now body.now) (value_in table.now condition.now)) ways }
         ensures scope { OnOk result (types.new.items ≡ types.old.items) }
         ensures grows { OnOk result (Grows self.old self.new) }
+        ensures adds { OnOk result (Adds self.old self.new (8 * stmt_nodes (typed.DoWhile (stmt_in table.now body.now) (value_in table.now condition.now)))) }
         ensures ready { IfOk result (λ entry. IsReady self.new entry.0) }
     {
         let head = self.head(Some(condition), types.as_slice())?;
@@ -168,11 +157,11 @@ impl Builder {
             types.as_slice(),
             entry,
             ways.onward,
-        )?;
+        );
         Ok(entry)
     }
 
-    /// The items of a `switch`. One that has two `default`, which no program has, is refused as if memory were short.
+    /// The items of a `switch`, of which at most one is `default`.
     #[cycle(statements)]
     fn cases(
         &mut self,
@@ -183,12 +172,15 @@ impl Builder {
     ) -> Result<Cases, AllocError>
         requires stands { SwitchStands table.now items.now }
         requires ready { AreReady self.old ways }
+        requires room { SwitchRoom types.old.items (switch_in table.now items.now) }
         ensures code { IfOk result (λ cases. (entry : ℕ) × CasesCode self.new.points.items types.old.items (switch_in table.now items.now) entry
             cases.labels.items cases.default (ways_of ways)) }
         ensures places { IfOk result (λ cases. PlacesWithin (length self.new.points.items) cases.labels.items) }
         ensures default { IfOk result (λ cases. DefaultWithin (length self.new.points.items) cases.default) }
         ensures scope { OnOk result (types.new.items ≡ types.old.items) }
         ensures grows { OnOk result (Grows self.old self.new) }
+        ensures adds { IfOk result (λ cases. length self.new.points.items + 3 * length cases.labels.items
+            ≤ length self.old.points.items + 8 * switch_nodes (switch_in table.now items.now)) }
         ensures ready { OnOk result (AreReady self.new ways) }
     {
         let mut labels = Vec::new(self.alloc);
@@ -203,8 +195,7 @@ impl Builder {
                     };
                     labels.push(label)?;
                 }
-                SwitchItem::Default if default.is_none() => default = Some(entry),
-                SwitchItem::Default => return Err(AllocError),
+                SwitchItem::Default => default = Some(entry),
                 SwitchItem::Statement(stmt) => {
                     let inner = Ways {
                         onward: entry,
@@ -229,9 +220,11 @@ impl Builder {
     ) -> Result<PointId, AllocError>
         requires stands { BlockStands table.now items.now }
         requires ready { AreReady self.old ways }
+        requires room { BlockRoom types.old.items (block_in table.now items.now) }
         ensures code { IfOk result (λ entry. BlockCode self.new.points.items types.old.items (block_in table.now items.now) entry.0 (ways_of ways)) }
         ensures scope { OnOk result (types.new.items ≡ types.old.items) }
         ensures grows { OnOk result (Grows self.old self.new) }
+        ensures adds { OnOk result (Adds self.old self.new (8 * block_nodes (block_in table.now items.now))) }
         ensures ready { IfOk result (λ entry. IsReady self.new entry.0) }
     {
         declare_items(items, table, types)?;

@@ -1,8 +1,8 @@
 // The tests of the labels of a `switch` (C17 6.8.4.2 paragraph 5).
 
-ghost use Rattle.std.specs.Prelude.{◌<◌, length, IfOk, OnOk};
+ghost use Rattle.std.specs.Prelude.{◌+◌, ◌*◌, ◌<◌, length, IfOk, OnOk};
 ghost use Rattle.tac_build.specs.Code.{LabelCode};
-ghost use Rattle.tac_build.specs.Growing.{IsReady, Grows};
+ghost use Rattle.tac_build.specs.Growing.{IsReady, Grows, Adds};
 ghost use Rattle.tac_build.specs.Switches.{TestsCode, PlacesWithin};
 
 use crate::builder::Builder;
@@ -36,8 +36,10 @@ impl Builder {
     ) -> Result<PointId, AllocError>
         requires ready { IsReady self.old otherwise.0 }
         requires places { PlacesWithin (length self.old.points.items) labels.now }
+        requires room { value.0 + 1 < 8388608 }
         ensures code { IfOk result (λ entry. TestsCode self.new.points.items int_type value.0 labels.now entry.0 otherwise.0) }
         ensures grows { OnOk result (Grows self.old self.new) }
+        ensures adds { OnOk result (Adds self.old self.new (3 * length labels.now)) }
         ensures ready { IfOk result (λ entry. IsReady self.new entry.0) }
     {
         let mut entry = otherwise;
@@ -57,11 +59,13 @@ impl Builder {
     ) -> Result<PointId, AllocError>
         requires ready { IsReady self.old next.0 }
         requires place { label.place.0 < length self.old.points.items }
+        requires room { value.0 + 1 < 8388608 }
         ensures code { IfOk result (λ entry. LabelCode self.new.points.items int_type value.0 label.value entry.0 label.place.0 next.0) }
         ensures grows { OnOk result (Grows self.old self.new) }
+        ensures adds { OnOk result (Adds self.old self.new 3) }
         ensures ready { IfOk result (λ entry. IsReady self.new entry.0) }
     {
-        let second = register_behind(value)?;
+        let second = register_behind(value);
         let op = branch(IntType::Int, second, label.place, next);
         let last = self.append(op, second)?;
         let op = comparison(Relation::Eq, int_type, value, second, second, last);

@@ -1,10 +1,17 @@
 // Small programs and the points that stand for them, by hand. The end of `main` is at the points 0 and 1.
 
-ghost use Rattle.std.specs.Prelude.{IfOk};
+ghost use Rattle.std.specs.Prelude.{◌≡◌, ◌≤◌, pos, true, [], IfOk};
+ghost use Rattle.c_num.specs.declared.IntType.TheVariants as I;
+ghost use Rattle.c_typed.specs.declared.typed.LibraryFunction.TheVariants as L;
 ghost use Rattle.c_typed.specs.Table.{empty};
-ghost use Rattle.c_typed.specs.Views.{ValueStands};
-ghost use Rattle.c_typed.specs.StatementViews.{OptionalStands, LocalStands, StmtStands, BlockStands};
-ghost use Rattle.c_typed.specs.DefinitionViews.{ProgramStands};
+ghost use Rattle.c_typed.specs.Typed as typed;
+ghost use Rattle.c_typed.specs.Types.{Integer};
+ghost use Rattle.c_typed.specs.Views.{value_in, ValueStands};
+ghost use Rattle.c_typed.specs.StatementViews.{optional_value_in, local_in, stmt_in, block_in, OptionalStands, LocalStands, StmtStands, BlockStands};
+ghost use Rattle.c_typed.specs.DefinitionViews.{program_of, ProgramStands};
+ghost use Rattle.c_sizes.specs.TypedNodes.{block_nodes, program_nodes, greatest_nodes};
+ghost use Rattle.tac_build.specs.Inside.{is_block, is_integer_program};
+ghost use Rattle.tac_build_tests.specs.Trees.{here, read_tree, loop_tree, switch_tree, variables_tree, calls_tree};
 
 use c_num::{BinOp, IntType, Relation};
 use c_typed::{
@@ -97,7 +104,8 @@ fn returned(from: usize) -> Op {
 }
 
 fn read(alloc: Global, number: usize) -> Result<Value, AllocError>
-    ensures { IfOk result (ValueStands empty) }
+    ensures stands { IfOk result (ValueStands empty) }
+    ensures tree { IfOk result (λ value. value_in empty value ≡ read_tree number) }
 {
     Ok(Value::Read {
         place: HERE,
@@ -107,7 +115,8 @@ fn read(alloc: Global, number: usize) -> Result<Value, AllocError>
 
 fn assigned(alloc: Global, number: usize, value: Value) -> Result<Value, AllocError>
     requires { ValueStands empty value }
-    ensures { IfOk result (ValueStands empty) }
+    ensures stands { IfOk result (ValueStands empty) }
+    ensures tree { IfOk result (λ made. value_in empty made ≡ typed.Assign here (typed.Local number) (value_in empty value)) }
 {
     Ok(Value::Assign {
         place: HERE,
@@ -119,7 +128,8 @@ fn assigned(alloc: Global, number: usize, value: Value) -> Result<Value, AllocEr
 fn result_of(alloc: Global, op: BinOp, left: Value, right: Value) -> Result<Value, AllocError>
     requires left { ValueStands empty left }
     requires right { ValueStands empty right }
-    ensures { IfOk result (ValueStands empty) }
+    ensures stands { IfOk result (ValueStands empty) }
+    ensures tree { IfOk result (λ made. value_in empty made ≡ typed.Arithmetic op here I.Int (value_in empty left) (value_in empty right)) }
 {
     Ok(Value::Arithmetic {
         op,
@@ -131,7 +141,8 @@ fn result_of(alloc: Global, op: BinOp, left: Value, right: Value) -> Result<Valu
 }
 
 fn get(alloc: Global) -> Value
-    ensures { ValueStands empty result }
+    ensures stands { ValueStands empty result }
+    ensures tree { value_in empty result ≡ typed.LibraryCall L.GetChar 0 here typed.NoValues }
 {
     Value::LibraryCall {
         function: LibraryFunction::GetChar,
@@ -143,7 +154,9 @@ fn get(alloc: Global) -> Value
 
 fn put(alloc: Global, value: Value) -> Result<Stmt, AllocError>
     requires { ValueStands empty value }
-    ensures { IfOk result (StmtStands empty) }
+    ensures stands { IfOk result (StmtStands empty) }
+    ensures tree { IfOk result (λ stmt. stmt_in empty stmt
+        ≡ typed.Expression (typed.LibraryCall L.PutChar 0 here (typed.MoreValues (value_in empty value) typed.NoValues))) }
 {
     Ok(Stmt::Expression(Value::LibraryCall {
         function: LibraryFunction::PutChar,
@@ -154,7 +167,8 @@ fn put(alloc: Global, value: Value) -> Result<Stmt, AllocError>
 }
 
 fn number(value: i128) -> Value
-    ensures { ValueStands empty result }
+    ensures stands { ValueStands empty result }
+    ensures tree { value_in empty result ≡ typed.Constant I.Int value }
 {
     let int_type = IntType::Int;
     Value::Constant { int_type, value }
@@ -163,7 +177,8 @@ fn number(value: i128) -> Value
 /// A local of type `int`.
 fn int_local(first: Option<Value>) -> LocalDef
     requires { OptionalStands empty first }
-    ensures { LocalStands empty result }
+    ensures stands { LocalStands empty result }
+    ensures tree { local_in empty result ≡ record { c_type = Integer I.Int; first = optional_value_in empty first } }
 {
     LocalDef {
         c_type: CType::integer(IntType::Int),
@@ -171,20 +186,26 @@ fn int_local(first: Option<Value>) -> LocalDef
     }
 }
 
-/// A program of one function with this body.
-fn program_of(alloc: Global, body: Vec<BlockItem>) -> Result<Program, AllocError>
-    requires { BlockStands empty body.items }
-    ensures { IfOk result ProgramStands }
+/// The program whose `main` has this body.
+fn program_with(alloc: Global, body: Vec<BlockItem>) -> Result<Program, AllocError>
+    requires stand { BlockStands empty body.items }
+    requires inside { is_block [] (block_in empty body.items) ≡ true }
+    requires small { block_nodes (block_in empty body.items) ≤ 1000 }
+    ensures stands { IfOk result ProgramStands }
+    ensures inside { IfOk result (λ program. is_integer_program (program_of program) ≡ true) }
+    ensures small { IfOk result (λ program. program_nodes (program_of program) ≤ greatest_nodes) }
 {
+    let mut types = TypeTable::new(alloc);
+    let none = types.no_parameters()?;
     let main = FunctionDef {
         name: ByteString::from_slice(alloc, b"main")?,
-        c_type: CType::integer(IntType::Int),
+        c_type: types.function(CType::integer(IntType::Int), none)?,
         parameters: Vec::new(alloc),
         returned: CType::integer(IntType::Int),
         body,
     };
     Ok(Program {
-        types: TypeTable::new(alloc),
+        types,
         completed: Vec::new(alloc),
         globals: Vec::new(alloc),
         literals: Vec::new(alloc),
@@ -200,9 +221,11 @@ fn gives(
     entry: usize,
     registers: usize,
 ) -> Result<bool, AllocError>
-    requires { BlockStands empty body.items }
+    requires stand { BlockStands empty body.items }
+    requires inside { is_block [] (block_in empty body.items) ≡ true }
+    requires small { block_nodes (block_in empty body.items) ≤ 1000 }
 {
-    let tac = lower(alloc, &program_of(alloc, body)?)?;
+    let tac = lower(alloc, &program_with(alloc, body)?)?;
     let main = &tac.main;
     Ok(
         main.points.as_slice() == points
@@ -212,9 +235,10 @@ fn gives(
 }
 
 /// `{ putchar(getchar()); ; return -1; }`
-#[test]
-fn calls_and_an_empty_statement(rt: HostRuntime) -> Result<(), Fail> {
-    let alloc = rt.alloc();
+fn calls(alloc: Global) -> Result<Vec<BlockItem>, AllocError>
+    ensures stand { IfOk result (λ body. BlockStands empty body.items) }
+    ensures tree { IfOk result (λ body. block_in empty body.items ≡ calls_tree) }
+{
     let negative = Value::Minus {
         place: HERE,
         int_type: IntType::Int,
@@ -225,6 +249,13 @@ fn calls_and_an_empty_statement(rt: HostRuntime) -> Result<(), Fail> {
         BlockItem::Statement(Stmt::Empty),
         BlockItem::Statement(Stmt::Return(Some(negative))),
     ]?;
+    Ok(body)
+}
+
+#[test]
+fn calls_and_an_empty_statement(rt: HostRuntime) -> Result<(), Fail> {
+    let alloc = rt.alloc();
+    let body = calls(alloc)?;
     let points = [
         returned(0),
         constant(0, 0, 0),
@@ -240,9 +271,10 @@ fn calls_and_an_empty_statement(rt: HostRuntime) -> Result<(), Fail> {
 }
 
 /// `{ int x = (char)200; int y; y = x - 3 * x; return (y); }`
-#[test]
-fn variables_and_operands(rt: HostRuntime) -> Result<(), Fail> {
-    let alloc = rt.alloc();
+fn variables(alloc: Global) -> Result<Vec<BlockItem>, AllocError>
+    ensures stand { IfOk result (λ body. BlockStands empty body.items) }
+    ensures tree { IfOk result (λ body. block_in empty body.items ≡ variables_tree) }
+{
     let character = Value::Converted {
         int_type: IntType::Char,
         value: Box::new(alloc, number(200))?,
@@ -257,6 +289,13 @@ fn variables_and_operands(rt: HostRuntime) -> Result<(), Fail> {
         BlockItem::Statement(Stmt::Expression(sum)),
         BlockItem::Statement(Stmt::Return(Some(y))),
     ]?;
+    Ok(body)
+}
+
+#[test]
+fn variables_and_operands(rt: HostRuntime) -> Result<(), Fail> {
+    let alloc = rt.alloc();
+    let body = variables(alloc)?;
     let points = [
         returned(0),
         constant(0, 0, 0),
@@ -278,7 +317,8 @@ fn variables_and_operands(rt: HostRuntime) -> Result<(), Fail> {
 
 /// `for (int i = 0; i < 3; i++) { if (i) continue; break; }`
 fn counting(alloc: Global) -> Result<Stmt, AllocError>
-    ensures { IfOk result (StmtStands empty) }
+    ensures stands { IfOk result (StmtStands empty) }
+    ensures tree { IfOk result (λ stmt. stmt_in empty stmt ≡ loop_tree) }
 {
     let condition = Value::Compare {
         relation: Relation::Lt,
@@ -335,7 +375,8 @@ fn loop_with_its_ways(rt: HostRuntime) -> Result<(), Fail> {
 
 /// `switch (getchar()) { case 65: putchar(66); case 67: putchar(68); break; default: return 2; }`
 fn cases(alloc: Global) -> Result<Stmt, AllocError>
-    ensures { IfOk result (StmtStands empty) }
+    ensures stands { IfOk result (StmtStands empty) }
+    ensures tree { IfOk result (λ stmt. stmt_in empty stmt ≡ switch_tree) }
 {
     let items = vec![in alloc;
         SwitchItem::Case(65),
@@ -374,15 +415,5 @@ fn switch_that_falls_through(rt: HostRuntime) -> Result<(), Fail> {
         get_char(0, 13),
     ];
     assert!(rt; gives(alloc, body, &points, 14, 2)?);
-    Ok(())
-}
-
-/// A local that isn't in scope, which no accepted program has.
-#[test]
-fn local_out_of_scope(rt: HostRuntime) -> Result<(), Fail> {
-    let alloc = rt.alloc();
-    let body = vec![in alloc; BlockItem::Statement(Stmt::Return(Some(read(alloc, 0)?)))]?;
-    let refused = lower(alloc, &program_of(alloc, body)?).is_err();
-    assert!(rt; refused);
     Ok(())
 }

@@ -1,10 +1,10 @@
 -- Typed trees of integers alone, by their forms.
-use Rattle.std.proofs.Common.{Bool, true, false, ◌&&◌, List, [], ◌∷◌, Option, Some, None}
+use Rattle.std.proofs.Common.{Bool, true, false, not, ◌&&◌, List, [], ◌∷◌, Option, Some, None}
 use Rattle.c_typed.specs.declared.typed.LibraryFunction.{LibraryFunction}
 use Rattle.c_typed.specs.declared.typed.LibraryFunction.TheVariants as L
 use Rattle.c_typed.specs.Typed as T
 use Rattle.c_typed.specs.Typed.{Value, Values, Object, Stmt, Block, SwitchItems, LocalDef, ForStart}
-use Rattle.tac_build.specs.Inside.{is_integer}
+use Rattle.tac_build.specs.Inside.{is_integer, has_default}
 
 -- a local, in parentheses or not
 abbrev pub names_local : Object → Bool
@@ -89,5 +89,5 @@ abbrev mutual
   pub only_items : SwitchItems → Bool
   only_items T.SwitchEnd = true
   only_items (T.Case label others) = only_items others
-  only_items (T.Default others) = only_items others
+  only_items (T.Default others) = not (has_default others) && only_items others
   only_items (T.SwitchStmt stmt others) = only_stmt stmt && only_items others

@@ -216,7 +216,9 @@ mutual
   items_inside around ns are within some n value (T.Case label others) o e =
       let ee = and_parts (typing.is_label (Some n) label) (typing.are_items around within (Some n) others) e in
       and_from (Inside.is_label (word_type (oldest_first ns) (T.Converted n value)) label) _ (label_inside (oldest_first ns) n value label ee.0) (items_inside around ns are within some n value others o ee.1)
-  items_inside around ns are within some n value (T.Default others) o e = items_inside around ns are within some n value others o e
+  items_inside around ns are within some n value (T.Default others) o e =
+      let oo = and_parts (not (Inside.has_default others)) (only_items others) o in
+      and_from (not (Inside.has_default others)) _ oo.0 (items_inside around ns are within some n value others oo.1 e)
   items_inside around ns are within some n value (T.SwitchStmt stmt others) o e =
       let oo = and_parts (only_stmt stmt) (only_items others) o in
       let ee = and_parts (typing.is_stmt around within stmt) (typing.are_items around within (Some n) others) e in

@@ -1,5 +1,5 @@
 -- A statement with nothing outside of what is compiled is elaborated to integers alone, where it violates nothing.
-use Rattle.std.proofs.Common.{◌≡◌, ℕ, zero, suc, Bool, true, false, cond, ◌&&◌, ◌||◌, List, [], ◌∷◌, ◌++◌, length, Option, Some, None, ℤ, bytes_eq, codes, nat_eq, arith, refl, sym, ap, subst, ◌∙◌}
+use Rattle.std.proofs.Common.{◌≡◌, ℕ, zero, suc, Bool, true, false, cond, not, ◌&&◌, ◌||◌, List, [], ◌∷◌, ◌++◌, length, Option, Some, None, ℤ, bytes_eq, codes, nat_eq, arith, refl, sym, ap, subst, ◌∙◌}
 use Rattle.std.proofs.lemmas.Bool.{false≢true, and_parts, and_from, or_left, or_right, eqb-true}
 use Rattle.std.proofs.lemmas.Option.{none-some, same_Some}
 use Rattle.text_place.specs.declared.place.Pos.{Pos}
@@ -20,7 +20,8 @@ use Rattle.c_rules.specs.Statements.{FunctionContext, object_type, with_declared
 use Rattle.c_rules.specs.Elaborated.{known_value, unused, test_of, condition_test, mapped, known_as, value_as, first_local, type_or_void, local_of, locals_of, declared_locals, declare_each, start_of, stmt_of, block_of, switch_of, value_of, switched}
 use Rattle.c_rules_typing.proofs.Answering.{HaveTypes, has_type, value-answers, integer-answers, condition-answers}
 use Rattle.c_rules_typing.proofs.TypeNames.{expr_answers}
-use Rattle.c_rules_typing.proofs.Nothing.{both_none, three_none}
+use Rattle.c_rules_typing.proofs.Nothing.{both_none, three_none, unless_none}
+use Rattle.tac_build.specs.Inside as Inside
 use Rattle.tac_build_typing.proofs.Integers.{only, only_optional, only_converted, only_local, only_locals, only_start, only_stmt, only_block, only_items}
 use Rattle.tac_build_typing.proofs.Knowing.{each_at}
 use Rattle.tac_build_typing.proofs.OperatorsOnly.{IsValue, IsNumber, IsTest, number_integer, value_in_only, value_each, integer_each, condition_each, dropped_only}
@@ -214,6 +215,14 @@ each_declared (first ∷ others) b are is = let parts = and_parts (only_local fi
 
 -- ---- statements, in a function whose result is an integer
 
+-- behind `default` there is no other
+no_other : (scope : Scope) (result : Option CType) (around : FunctionContext) (int_type : Option IntType) (items : SwitchTree) (labels : List ℤ) → switch_items scope around int_type labels true items ≡ []
+    → Inside.has_default (switch_of scope result int_type items) ≡ false
+no_other scope result around int_type Trees.SwitchEnd labels none = refl
+no_other scope result around int_type (Trees.Case place e others) labels none = no_other scope result around int_type others _ (both_none _ _ none).1
+no_other scope result around int_type (Trees.Default place others) labels none = absurd (false≢true (unless_none false R.T21 place (both_none _ _ none).0))
+no_other scope result around int_type (Trees.SwitchStmt one others) labels none = no_other scope result around int_type others labels (both_none _ _ none).1
+
 module _ (n : IntType) where
   abbrev result : Option CType
   result = Some (Integer n)
@@ -289,7 +298,7 @@ module _ (n : IntType) where
         let w = first_none (outside_expr hidden e) (outside_switch hidden others) within in
         items_only hidden scope ready around gives int_type _ has_default others w.1 (both_none _ _ none).1
     items_only hidden scope ready around gives int_type labels has_default (Trees.Default place others) within none =
-        items_only hidden scope ready around gives int_type labels true others within (both_none _ _ none).1
+        and_from (not (Inside.has_default (switch_of scope result int_type others))) _ (ap not (no_other scope result around int_type others labels (both_none _ _ none).1)) (items_only hidden scope ready around gives int_type labels true others within (both_none _ _ none).1)
     items_only hidden scope ready around gives int_type labels has_default (Trees.SwitchStmt one others) within none =
         let w = first_none (outside_stmt hidden one) (outside_switch hidden others) within in
         let parts = both_none (stmt scope around one) (switch_items scope around int_type labels has_default others) none in

@@ -1,5 +1,6 @@
-use Rattle.std.proofs.Common.{◌≡◌, drop}
-use Rattle.c_typed.specs.StatementViews.{BlockStands}
+use Rattle.std.proofs.Common.{◌≡◌, true, drop}
+use Rattle.c_typed.specs.StatementViews.{block_in, BlockStands}
+use Rattle.tac_build.specs.Inside.{is_block}
 use Rattle.tac_build.specs.Growing.{with_items}
 use Rattle.tac_build.proofs.declarations.declare_items.Given as goal
 
@@ -7,5 +8,6 @@ use Rattle.tac_build.proofs.declarations.declare_items.Given as goal
 abbrev pub invariant-loop-item : goal.invariant-loop-item
 invariant-loop-item l = record {
   stand : BlockStands l.table (drop l.item-index l.items);
+  inside : is_block l.types.items (block_in l.table (drop l.item-index l.items)) ≡ true;
   scope : with_items l.table l.types.items (drop l.item-index l.items) ≡ with_items l.table l.fn.types.items l.items;
 }

@@ -5,6 +5,9 @@ use Rattle.tac_build.proofs.builder.Builder.reserve.Goals as goal
 
 pub returns-clause-ready : goal.returns-clause-ready
 returns-clause-ready c = record {
-  named = named_appended _ _ _ _ O.Reserved c.in_ok-push.ensures.items (omega arith) c.requires tt;
+  named = record {
+    names = named_appended _ _ _ _ O.Reserved c.in_ok-push.ensures.items (omega arith) c.requires.names tt;
+    few = c.requires.few;
+  };
   within = omega (arith, c.in_ok-push.ensures.len, c.len.ensures);
 }

@@ -1,4 +1,4 @@
-use Rattle.std.proofs.Common.{pos}
+use Rattle.std.proofs.Common.{pos, arith}
 use Rattle.tac_build.specs.declared.switches.Label.{Label}
 use Rattle.tac_build.specs.Code.{point}
 use Rattle.tac_build.proofs.Points.{grows_on}
@@ -21,5 +21,6 @@ loop-label-preserved c =
           (tests_stand old new (filled_stand c.loop-label.self c.label_test.new.self grows) c.args.int_type c.args.value.0 _ c.loop-label.entry.0 c.args.otherwise.0 c.loop-label.invariant.code) c.in_ok-entry.ensures.code;
       places = places_more _ _ _ grows.longer (places_behind _ c.args.labels.now c.loop-label.label-index none c.loop-label-test.true c.loop-label.invariant.places).1;
       grows = grows_on _ _ _ c.loop-label.invariant.grows grows;
+      adds = omega (arith, c.loop-label.invariant.adds, c.in_ok-entry.ensures.adds);
       ready = c.in_ok-entry.ensures.ready;
     }
