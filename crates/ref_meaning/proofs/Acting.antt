@@ -14,7 +14,7 @@ use Rattle.ref_steps.specs.Steps.{Config}
 use Rattle.ref_steps.specs.Units as units
 use Rattle.ref_meaning.specs.declared.control.Node as memory_node
 use Rattle.ref_meaning.specs.declared.control.Node.TheVariants as N
-use Rattle.ref_meaning.specs.declared.control.Way.TheVariants as W
+use Rattle.ref_meaning.specs.declared.control.Completion.TheVariants as W
 use Rattle.ref_meaning.specs.declared.control.Given.TheVariants as G
 use Rattle.ref_meaning.specs.declared.control.Stage.TheVariants as S
 use Rattle.ref_meaning.specs.declared.control.Task as memory_task
@@ -24,7 +24,7 @@ use Rattle.ref_meaning.specs.declared.run.Halt.{Halt}
 use Rattle.ref_meaning.specs.declared.run.Halt.TheVariants as H
 use Rattle.ref_meaning.specs.declared.run.RefRun.{RefRun}
 use Rattle.ref_meaning.specs.Views.{config_in, around_run, functions_of, table_of, operands_of, stack_of, part_in, task_in, frames_in, operands_after, at_item}
-use Rattle.ref_meaning.specs.Holding.{Holds, TaskFits, FramesHold, HasItems}
+use Rattle.ref_meaning.specs.Holding.{IsConsistent, TaskFits, FramesHold, HasItems}
 use Rattle.ref_meaning.specs.Doing.{acting, performing, evaluating, IsExpression, TakesNone}
 use Rattle.ref_meaning.specs.Moving.{Becomes, IsSame, Arrives, Moves, Acts, IsTold}
 use Rattle.ref_meaning.proofs.Moves.{becomes-config, becomes-holds, becomes-arrives, same-stays}
@@ -86,8 +86,8 @@ pub evaluates : (run : RefRun) (node : memory_node.Node) → IsExpression node �
 evaluates run node is is_node is_task = sym (acting-at run node K.Enter is_node is_task ∙ evaluates-part run node is)
 
 -- a function's body begins with its first item
-pub body-begins : {A : Type 0} (old new : RefRun) (function : Bor FunctionDef) (result : Result A Halt) → Holds old → old.control.node ≡ N.Body function → old.control.task ≡ K.Enter
-    → OnOk result (Becomes old new (record { node = old.control.node; task = K.Give (G.Way W.Onward) }) (record { node = old.control.node; stage = S.Item 0 } ∷ stack_of old))
+pub body-begins : {A : Type 0} (old new : RefRun) (function : Bor FunctionDef) (result : Result A Halt) → IsConsistent old → old.control.node ≡ N.Body function → old.control.task ≡ K.Enter
+    → OnOk result (Becomes old new (record { node = old.control.node; task = K.Give (G.Completion W.Normal) }) (record { node = old.control.node; stage = S.Item 0 } ∷ stack_of old))
     → OnErr result (IsSame old new) → IfErr result (λ e. e ≡ H.OutOfMemory) → Moves old new (acting old) result
 body-begins old new function (Ok done) holds is_node is_task begins same only =
     let table = table_of old in
@@ -114,12 +114,12 @@ body-begins {A = A} old new function (Err halt) holds is_node is_task begins sam
 abbrev pub finished : Result (Unit {0}) Halt
 finished = Ok tt
 
-pub over-stays : (run : RefRun) (final : memory_final.Final) → Holds run → run.control.task ≡ K.Over final → Moves run run (acting run) finished
+pub over-stays : (run : RefRun) (final : memory_final.Final) → IsConsistent run → run.control.task ≡ K.Over final → Moves run run (acting run) finished
 over-stays run final holds is_task = λ state at. subst (λ (eval : Eval Config). Arrives run eval state) (sym (acting-at run run.control.node (K.Over final) refl is_task))
     (record { after = state; does = λ units input. refl; at = at; quiet = refl; holds = holds })
 
 -- where it moves, it holds behind that
-pub moves-holds : {A : Type 0} (old new : RefRun) (eval : Eval Config) (result : Result A Halt) → Holds old → Moves old new eval result → OnOk result (Holds new)
+pub moves-holds : {A : Type 0} (old new : RefRun) (eval : Eval Config) (result : Result A Halt) → IsConsistent old → Moves old new eval result → OnOk result (IsConsistent new)
 moves-holds old new eval (Ok done) holds moves = (moves holds.state holds.at).holds
 moves-holds old new eval (Err halt) holds moves = tt
 

@@ -34,13 +34,13 @@ use Rattle.ref_meaning.specs.declared.control.Node.TheVariants as N
 use Rattle.ref_meaning.specs.declared.control.Stage as memory_stage
 use Rattle.ref_meaning.specs.declared.control.Stage.TheVariants as S
 use Rattle.ref_meaning.specs.declared.control.Task.TheVariants as K
-use Rattle.ref_meaning.specs.declared.control.Way as memory_way
-use Rattle.ref_meaning.specs.declared.control.Way.TheVariants as W
+use Rattle.ref_meaning.specs.declared.control.Completion as memory_completion
+use Rattle.ref_meaning.specs.declared.control.Completion.TheVariants as W
 use Rattle.ref_meaning.specs.declared.run.RefRun.{RefRun}
 use Rattle.ref_meaning.specs.declared.run.Halt.{Halt}
 use Rattle.ref_meaning.specs.declared.run.Halt.TheVariants as H
-use Rattle.ref_meaning.specs.Views.{config_in, around_run, functions_of, table_of, operands_of, stack_of, part_in, given_in, way_in, task_in, items_from, case_items_from, case_items_of, at_item, behind_body, loop_of, locals_of}
-use Rattle.ref_meaning.specs.Holding.{Holds, NodeStands, GivenStands, WayStands, Waits, Fits, HasItems, IsSwitch, IsLoop, IsTurning, StageStands, HasRoom, TaskFits, FramesHold}
+use Rattle.ref_meaning.specs.Views.{config_in, around_run, functions_of, table_of, operands_of, stack_of, part_in, given_in, completion_in, task_in, items_from, case_items_from, case_items_of, at_item, behind_body, loop_of, locals_of}
+use Rattle.ref_meaning.specs.Holding.{IsConsistent, NodeStands, GivenStands, CompletionStands, Waits, Fits, HasItems, IsSwitch, IsLoop, IsTurning, StageStands, HasRoom, TaskFits, FramesHold}
 use Rattle.ref_meaning.specs.Doing.{TakesNone, IsInnermost, IsOfStatement, innermost, taking, beginning_turn, popped}
 use Rattle.ref_meaning.specs.Items.{IsBlock, block_of, start_of, ThisCaseItem, declaring, ending_turn}
 use Rattle.ref_meaning.specs.Moving.{Becomes, Moves, Stays, halt_of}
@@ -54,7 +54,7 @@ enters-fits table _ operands waits = tt
 -- ---- the innermost comes to another stage
 
 stage-moves : (old new : RefRun) (next : Control) (top : ℕ) (part : Part) (stage : memory_stage.Stage) (waits : IsInnermost old top part stage) (node : memory_node.Node) (later : memory_stage.Stage) (result : Result (Unit {0}) Halt)
-    → IsPlain stage → IsPlain later → TakesNone next.task → IsOk result → Holds old → TakesNone old.control.task
+    → IsPlain stage → IsPlain later → TakesNone next.task → IsOk result → IsConsistent old → TakesNone old.control.task
     → NodeStands (table_of old) node → Fits node later → StageStands (table_of old) later → HasRoom later old.base (length (operands_of old))
     → NodeStands (table_of old) next.node → TaskFits (table_of old) next.node (length (operands_of old)) next.task
     → Becomes old new next (record { node = node; stage = later } ∷ waits.others)
@@ -69,7 +69,7 @@ stage-moves old new next top part stage waits node later result plain plainly fr
 
 -- and a part is entered
 pub enters-moves : (old mid new : RefRun) (top : ℕ) (part : Part) (stage : memory_stage.Stage) (waits : IsInnermost old top part stage) (node : memory_node.Node) (later : memory_stage.Stage) (inner : memory_node.Node) (result : Result (Unit {0}) Halt)
-    → IsPlain stage → IsPlain later → Waits inner → IsOk result → Holds old → TakesNone old.control.task
+    → IsPlain stage → IsPlain later → Waits inner → IsOk result → IsConsistent old → TakesNone old.control.task
     → NodeStands (table_of old) node → Fits node later → StageStands (table_of old) later → HasRoom later old.base (length (operands_of old)) → NodeStands (table_of old) inner
     → Becomes old mid old.control (record { node = node; stage = later } ∷ waits.others) → Becomes mid new (record { node = inner; task = K.Enter }) (stack_of mid)
     → Moves old new (give (steps.enters (around_run old) (functions_of old) (part_in (table_of old) inner) (steps.waits (around_run old) (functions_of old) (innermost old (part_in (table_of old) node) later) (popped (config_in old))))) result
@@ -78,20 +78,20 @@ enters-moves old mid new top part stage waits node later inner result plain plai
     (becomes-then old mid new old.control (record { node = inner; task = K.Enter }) (record { node = node; stage = later } ∷ waits.others) first second)
 
 -- and what is before it ends so
-pub goes-moves : (old mid new : RefRun) (top : ℕ) (part : Part) (stage : memory_stage.Stage) (waits : IsInnermost old top part stage) (node : memory_node.Node) (later : memory_stage.Stage) (way : memory_way.Way) (result : Result (Unit {0}) Halt)
-    → IsPlain stage → IsPlain later → IsOk result → Holds old → TakesNone old.control.task
-    → NodeStands (table_of old) node → Fits node later → StageStands (table_of old) later → HasRoom later old.base (length (operands_of old)) → WayStands (table_of old) way
-    → Becomes old mid old.control (record { node = node; stage = later } ∷ waits.others) → Becomes mid new (record { node = mid.control.node; task = K.Give (G.Way way) }) (stack_of mid)
-    → Moves old new (give (steps.came (around_run old) (functions_of old) (WayGiven (way_in (table_of old) way)) (steps.waits (around_run old) (functions_of old) (innermost old (part_in (table_of old) node) later) (popped (config_in old))))) result
+pub goes-moves : (old mid new : RefRun) (top : ℕ) (part : Part) (stage : memory_stage.Stage) (waits : IsInnermost old top part stage) (node : memory_node.Node) (later : memory_stage.Stage) (way : memory_completion.Completion) (result : Result (Unit {0}) Halt)
+    → IsPlain stage → IsPlain later → IsOk result → IsConsistent old → TakesNone old.control.task
+    → NodeStands (table_of old) node → Fits node later → StageStands (table_of old) later → HasRoom later old.base (length (operands_of old)) → CompletionStands (table_of old) way
+    → Becomes old mid old.control (record { node = node; stage = later } ∷ waits.others) → Becomes mid new (record { node = mid.control.node; task = K.Give (G.Completion way) }) (stack_of mid)
+    → Moves old new (give (steps.came (around_run old) (functions_of old) (WayGiven (completion_in (table_of old) way)) (steps.waits (around_run old) (functions_of old) (innermost old (part_in (table_of old) node) later) (popped (config_in old))))) result
 goes-moves old mid new top part stage waits node later way result plain plainly ok holds free stands fits staged room given first second =
-    stage-moves old new (record { node = mid.control.node; task = K.Give (G.Way way) }) top part stage waits node later result plain plainly tt ok holds free stands fits staged room
+    stage-moves old new (record { node = mid.control.node; task = K.Give (G.Completion way) }) top part stage waits node later result plain plainly tt ok holds free stands fits staged room
     (subst (λ c. NodeStands (table_of old) c.node) (sym first.control) holds.node) given
-    (becomes-then old mid new old.control (record { node = mid.control.node; task = K.Give (G.Way way) }) (record { node = node; stage = later } ∷ waits.others) first second)
+    (becomes-then old mid new old.control (record { node = mid.control.node; task = K.Give (G.Completion way) }) (record { node = node; stage = later } ∷ waits.others) first second)
 
 -- ---- the innermost waits no more
 
 pub done-moves : (old new : RefRun) (top : ℕ) (part : Part) (stage : memory_stage.Stage) (waits : IsInnermost old top part stage) (given : memory_given.Given) (result : Result (Unit {0}) Halt)
-    → IsPlain stage → IsOk result → Holds old → TakesNone old.control.task → GivenStands (table_of old) given
+    → IsPlain stage → IsOk result → IsConsistent old → TakesNone old.control.task → GivenStands (table_of old) given
     → Becomes old new (record { node = old.control.node; task = K.Give given }) waits.others
     → Moves old new (give (steps.came (around_run old) (functions_of old) (given_in (table_of old) given) (popped (config_in old)))) result
 done-moves old new top part stage waits given result plain ok holds free stands becomes =
@@ -105,7 +105,7 @@ done-moves old new top part stage waits given result plain ok holds free stands 
 -- behind a call on the store
 pub stored-moves : {A : Type 0} (old new : RefRun) (mid : Store) (top : ℕ) (part : Part) (stage : memory_stage.Stage) (waits : IsInnermost old top part stage) (given : memory_given.Given) (result : Result (Unit {0}) Halt)
     (first : Eval A) (next : A → Eval Config) (a : A)
-    → IsPlain stage → IsOk result → Holds old → TakesNone old.control.task → GivenStands (table_of old) given
+    → IsPlain stage → IsOk result → IsConsistent old → TakesNone old.control.task → GivenStands (table_of old) given
     → Alters old new (record { node = old.control.node; task = K.Give given }) waits.others → new.store ≡ mid
     → ((state : State) → At (around_run old) old.store old.base state → Comes (around_run old) mid old.base first state a)
     → next a ≡ give (steps.came (around_run old) (functions_of old) (given_in (table_of old) given) (popped (config_in old)))
@@ -155,7 +155,7 @@ roomy old store frames same = record {
   stack = ap reverse same;
 }
 
-pub local-alters : (old new : RefRun) (mid : Store) (number : ℕ) (next : Control) (frames : List memory_frame.Frame) → Holds old → mid.types ≡ old.store.types → mid.locals.items ≡ old.store.locals.items ++ (number ∷ [])
+pub local-alters : (old new : RefRun) (mid : Store) (number : ℕ) (next : Control) (frames : List memory_frame.Frame) → IsConsistent old → mid.types ≡ old.store.types → mid.locals.items ≡ old.store.locals.items ++ (number ∷ [])
     → Becomes (record old { store = mid }) new next frames → Alters old new next frames
 local-alters old new mid number next frames holds types locals becomes =
     behind-alters old new mid next frames types
@@ -164,13 +164,13 @@ local-alters old new mid number next frames holds types locals becomes =
 
 -- without a first value
 pub bare-moves : (old new : RefRun) (mid : Store) (top : ℕ) (part : Part) (number : ℕ) (waits : IsInnermost old top part (S.Item number)) (node : memory_node.Node) (local : LocalDef) (place : memory_place.Place) (control : memory_node.Node) (result : Result (Unit {0}) Halt)
-    → IsOk result → Holds old → TakesNone old.control.task → NodeStands (table_of old) node → HasItems node → control ≡ old.control.node
-    → Alters old new (record { node = control; task = K.Give (G.Way W.Onward) }) (record { node = node; stage = S.Item (suc number) } ∷ waits.others) → new.store ≡ mid
+    → IsOk result → IsConsistent old → TakesNone old.control.task → NodeStands (table_of old) node → HasItems node → control ≡ old.control.node
+    → Alters old new (record { node = control; task = K.Give (G.Completion W.Normal) }) (record { node = node; stage = S.Item (suc number) } ∷ waits.others) → new.store ≡ mid
     → local.first ≡ None
     → ((state : State) → At (around_run old) old.store old.base state → Comes (around_run old) mid old.base (rules.new_local local.c_type) state (place_in (table_of old) place))
     → Moves old new (declaring old local (at_item (part_in (table_of old) node) (suc number))) result
 bare-moves old new mid top part number waits node local place control result ok holds free stands items same alters store none comes =
-    let next : Control = record { node = control; task = K.Give (G.Way W.Onward) } in
+    let next : Control = record { node = control; task = K.Give (G.Completion W.Normal) } in
     let held = comes holds.state holds.at in
     let config : Config = steps.waits (around_run old) (functions_of old) (at_item (part_in (table_of old) node) (suc number)) (popped (config_in old)) in
     ok-moves old new (declaring old local (at_item (part_in (table_of old) node) (suc number))) result ok (λ state at.
@@ -182,7 +182,7 @@ bare-moves old new mid top part number waits node local place control result ok 
 
 -- with one
 pub first-moves : (old new : RefRun) (mid : Store) (top : ℕ) (part : Part) (number : ℕ) (waits : IsInnermost old top part (S.Item number)) (node inner : memory_node.Node) (local : LocalDef) (v : T.Value) (place : memory_place.Place) (result : Result (Unit {0}) Halt)
-    → IsOk result → Holds old → TakesNone old.control.task → NodeStands (table_of old) node → HasItems node → NodeStands (table_of old) inner → Waits inner → part_in (table_of old) inner ≡ ValuePart v → PlaceStands (table_of old) place
+    → IsOk result → IsConsistent old → TakesNone old.control.task → NodeStands (table_of old) node → HasItems node → NodeStands (table_of old) inner → Waits inner → part_in (table_of old) inner ≡ ValuePart v → PlaceStands (table_of old) place
     → Alters old new (record { node = inner; task = K.Enter }) (record { node = N.Nothing; stage = S.Local place } ∷ record { node = node; stage = S.Item (suc number) } ∷ waits.others) → new.store ≡ mid
     → local.first ≡ Some v
     → ((state : State) → At (around_run old) old.store old.base state → Comes (around_run old) mid old.base (rules.new_local local.c_type) state (place_in (table_of old) place))
@@ -262,25 +262,25 @@ module _ (old : RefRun) where
   block-ends node number is e = block-taking node number Normal is ∙ ap (λ items. steps.next_item (around_run old) (functions_of old) items (popped (config_in old))) e
 
   -- what does not go on breaks off
-  breaks : (way : memory_way.Way) (rest : Eval Config) → (way ≡ W.Onward → ⊥)
-      → steps.behind (around_run old) (functions_of old) (way_in (table_of old) way) rest (popped (config_in old)) ≡ give (steps.came (around_run old) (functions_of old) (WayGiven (way_in (table_of old) way)) (popped (config_in old)))
-  breaks W.Onward rest off = absurd (off refl)
-  breaks W.Broken rest off = refl
-  breaks W.Continued rest off = refl
-  breaks (W.Returned value) rest off = refl
+  breaks : (way : memory_completion.Completion) (rest : Eval Config) → (way ≡ W.Normal → ⊥)
+      → steps.behind (around_run old) (functions_of old) (completion_in (table_of old) way) rest (popped (config_in old)) ≡ give (steps.came (around_run old) (functions_of old) (WayGiven (completion_in (table_of old) way)) (popped (config_in old)))
+  breaks W.Normal rest off = absurd (off refl)
+  breaks W.Break rest off = refl
+  breaks W.Continue rest off = refl
+  breaks (W.Return value) rest off = refl
 
-  pub block-breaks : (node : memory_node.Node) (number : ℕ) (way : memory_way.Way) → IsBlock node → (way ≡ W.Onward → ⊥)
-      → taking old (at_item (part_in (table_of old) node) number) (WayGiven (way_in (table_of old) way)) ≡ give (steps.came (around_run old) (functions_of old) (WayGiven (way_in (table_of old) way)) (popped (config_in old)))
-  block-breaks node number way is off = block-taking node number (way_in (table_of old) way) is ∙ breaks way _ off
+  pub block-breaks : (node : memory_node.Node) (number : ℕ) (way : memory_completion.Completion) → IsBlock node → (way ≡ W.Normal → ⊥)
+      → taking old (at_item (part_in (table_of old) node) number) (WayGiven (completion_in (table_of old) way)) ≡ give (steps.came (around_run old) (functions_of old) (WayGiven (completion_in (table_of old) way)) (popped (config_in old)))
+  block-breaks node number way is off = block-taking node number (completion_in (table_of old) way) is ∙ breaks way _ off
 
   case-taking : (s : Bor memory_stmt.Stmt) (number : ℕ) (way : Completion) → IsSwitch (N.Stmt s)
       → taking old (at_item (StmtPart (stmt_in (table_of old) s.now)) number) (WayGiven way)
       ≡ steps.behind (around_run old) (functions_of old) way (give (steps.next_case_item (around_run old) (functions_of old) (case_items_from number (case_items_of (stmt_in (table_of old) s.now))) (popped (config_in old)))) (popped (config_in old))
   case-taking s number way is = λ i. steps.take (around_run old) (functions_of old) (case-item (table_of old) s number is i) (WayGiven way) (popped (config_in old))
 
-  pub case-breaks : (s : Bor memory_stmt.Stmt) (number : ℕ) (way : memory_way.Way) → IsSwitch (N.Stmt s) → (way ≡ W.Onward → ⊥)
-      → taking old (at_item (StmtPart (stmt_in (table_of old) s.now)) number) (WayGiven (way_in (table_of old) way)) ≡ give (steps.came (around_run old) (functions_of old) (WayGiven (way_in (table_of old) way)) (popped (config_in old)))
-  case-breaks s number way is off = case-taking s number (way_in (table_of old) way) is ∙ breaks way _ off
+  pub case-breaks : (s : Bor memory_stmt.Stmt) (number : ℕ) (way : memory_completion.Completion) → IsSwitch (N.Stmt s) → (way ≡ W.Normal → ⊥)
+      → taking old (at_item (StmtPart (stmt_in (table_of old) s.now)) number) (WayGiven (completion_in (table_of old) way)) ≡ give (steps.came (around_run old) (functions_of old) (WayGiven (completion_in (table_of old) way)) (popped (config_in old)))
+  case-breaks s number way is off = case-taking s number (completion_in (table_of old) way) is ∙ breaks way _ off
 
   pub case-performs : (s : Bor memory_stmt.Stmt) (number : ℕ) (one : T.Stmt) → IsSwitch (N.Stmt s)
       → case_items_from number (case_items_of (stmt_in (table_of old) s.now)) ≡ T.SwitchStmt one (case_items_from (suc number) (case_items_of (stmt_in (table_of old) s.now)))
@@ -382,18 +382,18 @@ module _ (old : RefRun) where
 
 -- a local holds its first value
 pub hold-moves : (old new : RefRun) (mid : Store) (top : ℕ) (part : Part) (place : memory_place.Place) (given : memory_given.Given) (value : memory_scalar.Scalar) (waits : IsInnermost old top part (S.Local place)) (result : Result (Unit {0}) Halt)
-    → scalar_in (table_of old) value ≡ steps.scalar_of (given_in (table_of old) given) → IsOk result → Holds old → TakesNone old.control.task → mid.types ≡ old.store.types → mid.locals ≡ old.store.locals
+    → scalar_in (table_of old) value ≡ steps.scalar_of (given_in (table_of old) given) → IsOk result → IsConsistent old → TakesNone old.control.task → mid.types ≡ old.store.types → mid.locals ≡ old.store.locals
     → ((state : State) → At (around_run old) old.store old.base state → Comes (around_run old) mid old.base (write (around_run old) (record { line = 1; column = 1 }) (place_in (table_of old) place) (scalar_in (table_of old) value)) state (scalar_in (table_of old) value))
-    → Becomes (record old { store = mid }) new (record { node = old.control.node; task = K.Give (G.Way W.Onward) }) waits.others
+    → Becomes (record old { store = mid }) new (record { node = old.control.node; task = K.Give (G.Completion W.Normal) }) waits.others
     → Moves old new (taking old (innermost old part (S.Local place)) (given_in (table_of old) given)) result
 hold-moves old new mid top part place given value waits result is ok holds free types locals comes becomes =
     subst (λ v. Moves old new (write (around_run old) (record { line = 1; column = 1 }) (place_in (table_of old) place) v >>= λ b. give (steps.came (around_run old) (functions_of old) (WayGiven Normal) (popped (config_in old)))) result) is
-    (stored-moves old new mid top part (S.Local place) waits (G.Way W.Onward) result
+    (stored-moves old new mid top part (S.Local place) waits (G.Completion W.Normal) result
     (write (around_run old) (record { line = 1; column = 1 }) (place_in (table_of old) place) (scalar_in (table_of old) value)) (λ b. give (steps.came (around_run old) (functions_of old) (WayGiven Normal) (popped (config_in old)))) (scalar_in (table_of old) value)
-    tt ok holds free tt (stored-alters old new mid (record { node = old.control.node; task = K.Give (G.Way W.Onward) }) waits.others types locals holds becomes) becomes.store comes refl)
+    tt ok holds free tt (stored-alters old new mid (record { node = old.control.node; task = K.Give (G.Completion W.Normal) }) waits.others types locals holds becomes) becomes.store comes refl)
 
 pub hold-stops : (old : RefRun) (mid : Store) (part : Part) (place : memory_place.Place) (given : memory_given.Given) (value : memory_scalar.Scalar) (stop : Stop)
-    → scalar_in (table_of old) value ≡ steps.scalar_of (given_in (table_of old) given) → Holds old → mid.types ≡ old.store.types → mid.locals ≡ old.store.locals
+    → scalar_in (table_of old) value ≡ steps.scalar_of (given_in (table_of old) given) → IsConsistent old → mid.types ≡ old.store.types → mid.locals ≡ old.store.locals
     → CallGives {B = Unit {0}} (around_run old) old.store mid old.base (λ done. scalar_in (table_of old) value) (write (around_run old) (record { line = 1; column = 1 }) (place_in (table_of old) place) (scalar_in (table_of old) value)) (Err stop)
     → Moves {A = Unit {0}} old (record old { store = mid }) (taking old (innermost old part (S.Local place)) (given_in (table_of old) given)) (Err (halt_of stop))
 hold-stops old mid part place given value stop is holds types locals gives =
@@ -402,21 +402,21 @@ hold-stops old mid part place given value stop is holds types locals gives =
     (λ b. give (steps.came (around_run old) (functions_of old) (WayGiven Normal) (popped (config_in old)))) stop types locals holds gives)
 
 -- a scope ends
-pub leave-moves : (old new : RefRun) (mid : Store) (top : ℕ) (part : Part) (height : ℕ) (given : memory_given.Given) (way : memory_way.Way) (waits : IsInnermost old top part (S.Scope height)) (result : Result (Unit {0}) Halt)
-    → way_in (table_of old) way ≡ steps.way_of (given_in (table_of old) given) → IsOk result → Holds old → TakesNone old.control.task → WayStands (table_of old) way
+pub leave-moves : (old new : RefRun) (mid : Store) (top : ℕ) (part : Part) (height : ℕ) (given : memory_given.Given) (way : memory_completion.Completion) (waits : IsInnermost old top part (S.Scope height)) (result : Result (Unit {0}) Halt)
+    → completion_in (table_of old) way ≡ steps.way_of (given_in (table_of old) given) → IsOk result → IsConsistent old → TakesNone old.control.task → CompletionStands (table_of old) way
     → mid.types ≡ old.store.types → take height mid.locals.items ≡ take height old.store.locals.items
     → ((around : TypeEnvironment) (base : ℕ) (state : State) → base ≤ height → At around old.store base state → At around mid base (record state { objects = rules.killed (height - base) state.locals state.objects; locals = rules.kept (height - base) state.locals }))
-    → Becomes (record old { store = mid }) new (record { node = old.control.node; task = K.Give (G.Way way) }) waits.others
+    → Becomes (record old { store = mid }) new (record { node = old.control.node; task = K.Give (G.Completion way) }) waits.others
     → Moves old new (taking old (innermost old part (S.Scope height)) (given_in (table_of old) given)) result
 leave-moves old new mid top part height given way waits result is ok holds free stands types front left becomes =
     let low : old.base ≤ height = (innermost-hold old top part (S.Scope height) free waits holds).3 in
     let short : take old.base mid.locals.items ≡ take old.base old.store.locals.items = front-left old.base height mid.locals.items old.store.locals.items low front in
     subst (λ w. Moves old new (rules.leave w (height - old.base) >>= λ v. give (steps.came (around_run old) (functions_of old) (WayGiven v) (popped (config_in old)))) result) is
-    (stored-moves old new mid top part (S.Scope height) waits (G.Way way) result
-    (rules.leave (way_in (table_of old) way) (height - old.base)) (λ v. give (steps.came (around_run old) (functions_of old) (WayGiven v) (popped (config_in old)))) (way_in (table_of old) way)
+    (stored-moves old new mid top part (S.Scope height) waits (G.Completion way) result
+    (rules.leave (completion_in (table_of old) way) (height - old.base)) (λ v. give (steps.came (around_run old) (functions_of old) (WayGiven v) (popped (config_in old)))) (completion_in (table_of old) way)
     tt ok holds free stands
-    (behind-alters old new mid (record { node = old.control.node; task = K.Give (G.Way way) }) waits.others types short (within-left old.base mid.locals.items old.store.locals.items holds.within short) becomes)
-    becomes.store (left-comes (around_run old) old.store mid old.base height (way_in (table_of old) way) (λ state at. left (around_run old) old.base state low at)) refl)
+    (behind-alters old new mid (record { node = old.control.node; task = K.Give (G.Completion way) }) waits.others types short (within-left old.base mid.locals.items old.store.locals.items holds.within short) becomes)
+    becomes.store (left-comes (around_run old) old.store mid old.base height (completion_in (table_of old) way) (λ state at. left (around_run old) old.base state low at)) refl)
 
 -- items and turns look at the way alone
 module _ (around : TypeEnvironment) (functions : List FunctionDef) where
@@ -460,7 +460,7 @@ halt-moves old new eval (Ok done) halt out moves = absurd out
 halt-moves {A = A} old new eval (Err e) halt out moves = subst (λ h. Moves {A = A} old new eval (Err h)) (sym out) moves
 
 -- no room for a local
-pub local-fails : (old : RefRun) (mid : Store) (frames : Vec memory_frame.Frame Global) → Holds old → frames.items ≡ old.frames.items → mid.types ≡ old.store.types → mid.locals.items ≡ old.store.locals.items
+pub local-fails : (old : RefRun) (mid : Store) (frames : Vec memory_frame.Frame Global) → IsConsistent old → frames.items ≡ old.frames.items → mid.types ≡ old.store.types → mid.locals.items ≡ old.store.locals.items
     → ((around : TypeEnvironment) (base : ℕ) (state : State) → At around old.store base state → At around mid base state) → Stays old (record old { store = mid; frames = frames })
 local-fails old mid frames holds same types locals keeps =
     alters-stays old (record old { store = mid; frames = frames })

@@ -24,7 +24,7 @@ use Rattle.ref_meaning.specs.declared.run.RefRun.{RefRun}
 use Rattle.ref_meaning.specs.declared.run.Halt.{Halt}
 use Rattle.ref_meaning.specs.declared.run.Halt.TheVariants as H
 use Rattle.ref_meaning.specs.Views.{config_in, around_run, functions_of, table_of, operands_of, operands_after, stack_of, part_in, value_of, callee_of, newest, task_in, frames_in}
-use Rattle.ref_meaning.specs.Holding.{Holds, TaskFits, FramesHold, IsCall}
+use Rattle.ref_meaning.specs.Holding.{IsConsistent, TaskFits, FramesHold, IsCall}
 use Rattle.ref_meaning.specs.Doing.{acting}
 use Rattle.ref_meaning.specs.Moving.{IsKept, Becomes, Stays, Acts, IsTold, ArrivesTold}
 use Rattle.ref_meaning.specs.Calling.{ComesTold, Evaluates, Remains, IsStored}
@@ -43,11 +43,11 @@ apply-acting run call function count v value is_control is_call is_value =
     applied w = steps.apply (around_run run) (functions_of run) (callee_of w (scalar_in (table_of run) function)) (newest (table_of run) count (operands_of run)) (config_in run)
 
 -- its arguments are there
-pub apply-there : (run : RefRun) (call : memory_node.Node) (function : memory_scalar.Scalar) (count : ℕ) → run.control ≡ record { node = call; task = K.Apply function count } → Holds run → count ≤ length (operands_of run)
+pub apply-there : (run : RefRun) (call : memory_node.Node) (function : memory_scalar.Scalar) (count : ℕ) → run.control ≡ record { node = call; task = K.Apply function count } → IsConsistent run → count ≤ length (operands_of run)
 apply-there run call function count is holds = (subst (λ (c : Control). TaskFits (table_of run) c.node (length (operands_of run)) c.task) is holds.task).2
 
 -- it is a call
-pub apply-call : (run : RefRun) (call : memory_node.Node) (function : memory_scalar.Scalar) (count : ℕ) → run.control ≡ record { node = call; task = K.Apply function count } → Holds run → IsCall call
+pub apply-call : (run : RefRun) (call : memory_node.Node) (function : memory_scalar.Scalar) (count : ℕ) → run.control ≡ record { node = call; task = K.Apply function count } → IsConsistent run → IsCall call
 apply-call run call function count is holds = (subst (λ (c : Control). TaskFits (table_of run) c.node (length (operands_of run)) c.task) is holds.task).0
 
 pub no-call : (v : Bor memory_value.Value) → IsCall (N.Value v) → ((is_used : _) (place : _) (function : _) (c_type : _) (arguments : _) → v.now ≡ V.Call is_used place function c_type arguments → ⊥)
@@ -64,7 +64,7 @@ no-call v call own library = by v.now call own library
 
 -- ---- behind a call of the library
 
-stored-alters : (old new : RefRun) → Holds old → IsStored old new → Alters old new old.control (stack_of old)
+stored-alters : (old new : RefRun) → IsConsistent old → IsStored old new → Alters old new old.control (stack_of old)
 stored-alters old new holds stored = record {
   kept = stored.kept;
   types = stored.types;
@@ -78,7 +78,7 @@ stored-alters old new holds stored = record {
 }
 
 -- where it gives nothing
-pub halts-acts : {A : Type 0} (old new : RefRun) (eval : Eval Scalar) (next : Scalar → Eval Config) (halt : Halt) (result : Result A Halt) (is_left told is_left' told' : Option (List ℕ)) → IsErrAnd result (λ e. e ≡ halt) → Holds old → IsStored old new
+pub halts-acts : {A : Type 0} (old new : RefRun) (eval : Eval Scalar) (next : Scalar → Eval Config) (halt : Halt) (result : Result A Halt) (is_left told is_left' told' : Option (List ℕ)) → IsErrAnd result (λ e. e ≡ halt) → IsConsistent old → IsStored old new
     → Evaluates old new eval (Err halt) is_left told is_left' told' → Acts old new (eval >>= next) result is_left told is_left' told'
 halts-acts old new eval next halt (Ok done) is_left told is_left' told' same holds stored evaluates = absurd same
 halts-acts {A = A} old new eval next halt (Err e) is_left told is_left' told' same holds stored evaluates =
@@ -97,7 +97,7 @@ halts-acts {A = A} old new eval next halt (Err e) is_left told is_left' told' sa
 
 -- Where it gives a value: the operands that it got are dropped, and the call comes to the value.
 module _ (old mid new : RefRun) (call : memory_node.Node) (function : memory_scalar.Scalar) (count : ℕ) (value : memory_scalar.Scalar) (o : Vec memory_scalar.Scalar Global)
-    (holds : Holds old) (is_control : old.control ≡ record { node = call; task = K.Apply function count }) (there : count ≤ length (operands_of old)) (stands : ScalarStands (table_of old) value) (stored : IsStored old mid)
+    (holds : IsConsistent old) (is_control : old.control ≡ record { node = call; task = K.Apply function count }) (there : count ≤ length (operands_of old)) (stands : ScalarStands (table_of old) value) (stored : IsStored old mid)
     (all : ℕ) (all-is : all ≡ length old.operands.items) (truncated : o.items ≡ take (all - count) mid.operands.items)
     (becomes : Becomes (record mid { operands = o }) new (record { node = mid.control.node; task = K.Give (G.Scalar value) }) (stack_of mid)) where
   kept : IsKept old new
@@ -131,14 +131,14 @@ module _ (old mid new : RefRun) (call : memory_node.Node) (function : memory_sca
         depth = greatest_depth - old.depth;
       })
 
-  pub given-holds : Remains old mid → Holds new
+  pub given-holds : Remains old mid → IsConsistent new
   given-holds remains =
       let rest = remains holds.state holds.at in
       turns-holds old new _ _ _ _ _ turns holds holds.node stands (scalars-dropped (table_of old) count (operands_of old) holds.operands)
       (subst (λ operands. FramesHold (table_of old) old.base operands (stack_of old)) after-task holds.frames)
       (subst (λ l. old.base ≤ length l) (sym locals) holds.within) holds.calls holds.shallow rest.0 (subst (λ s. At (around_run old) s old.base rest.0) (sym becomes.store) rest.1)
 
-  pub given-arrives : (eval : Eval Scalar) (base input : List ℕ) (state : State) (is_left told : Option (List ℕ)) → Holds new → ComesTold old mid eval base input state (scalar_in (table_of old) value) is_left told
+  pub given-arrives : (eval : Eval Scalar) (base input : List ℕ) (state : State) (is_left told : Option (List ℕ)) → IsConsistent new → ComesTold old mid eval base input state (scalar_in (table_of old) value) is_left told
       → ArrivesTold new (eval >>= λ a. give (steps.came (around_run old) (functions_of old) (ScalarGiven a) (config_in old))) base input state is_left told
   given-arrives eval base input state is_left told held comes = record {
     after = comes.after;
@@ -153,7 +153,7 @@ module _ (old mid new : RefRun) (call : memory_node.Node) (function : memory_sca
 
 -- ---- by what a method results in
 
-pub ok-holds : {A : Type 0} (new : RefRun) (result : Result A Halt) → Holds new → OnOk result (Holds new)
+pub ok-holds : {A : Type 0} (new : RefRun) (result : Result A Halt) → IsConsistent new → OnOk result (IsConsistent new)
 ok-holds new (Ok done) holds = holds
 ok-holds new (Err halt) holds = tt
 

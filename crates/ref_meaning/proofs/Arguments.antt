@@ -8,9 +8,10 @@ use Rattle.c_typed.specs.declared.typed.Value.TheVariants as V
 use Rattle.c_typed.specs.declared.c_type.CType as memory_type
 use Rattle.c_typed.specs.Typed as T
 use Rattle.c_typed.specs.Typed.{Values}
-use Rattle.c_typed.specs.Table.{Interned, Stands}
+use Rattle.c_typed.specs.Table.{Interned}
+use Rattle.ref_store.specs.Fitting.{IsObjectType}
 use Rattle.c_typed.specs.Views.{value_in, values_in}
-use Rattle.c_typed.specs.DefinitionViews.{TypesStand}
+use Rattle.ref_meaning.specs.Trees.{TypesFit}
 use Rattle.ref_semantics.specs.Store.{State, give}
 use Rattle.ref_semantics.specs.Meaning.{greatest_depth}
 use Rattle.ref_steps.specs.Parts.{ValuePart}
@@ -26,7 +27,7 @@ use Rattle.ref_meaning.specs.declared.control.Stage.TheVariants as S
 use Rattle.ref_meaning.specs.declared.control.Task.TheVariants as K
 use Rattle.ref_meaning.specs.declared.run.RefRun.{RefRun}
 use Rattle.ref_meaning.specs.Views.{config_in, around_run, functions_of, table_of, operands_of, part_in, value_of, callee_of, arguments_of, arguments_from, newest, frames_in, waiting, base_behind, operands_behind}
-use Rattle.ref_meaning.specs.Holding.{Holds, NodeStands, Fits, StageStands, HasRoom, ScalarsStand, FramesHold, IsCall, calls_among}
+use Rattle.ref_meaning.specs.Holding.{IsConsistent, NodeStands, Fits, StageStands, HasRoom, ScalarsStand, FramesHold, IsCall, calls_among}
 use Rattle.ref_meaning.specs.Doing.{TakesNone, IsOwnCall, IsInnermost, innermost, popped, taking}
 use Rattle.ref_meaning.specs.Moving.{IsKept, Arrives}
 use Rattle.ref_meaning.specs.Calling.{IsArgument, OptionalNode, arguments_in, Goes, GoesOn}
@@ -40,12 +41,12 @@ there-is table vs number v at = subst (λ arguments. IsArgument table arguments 
 pub none-is : (table : Interned) (vs : List memory_value.Value) (number : ℕ) → IsItemAt vs number None → IsArgument table (arguments_from number (values_in table vs)) None
 none-is table vs number at = subst (λ arguments. IsArgument table arguments None) (sym (argument-past table vs number (found-past vs number at))) tt
 
-type-stands : (table : Interned) (types : List memory_type.CType) (number : ℕ) (t : memory_type.CType) → slice_get types number ≡ Some t → TypesStand table types → Stands table t
+type-stands : (table : Interned) (types : List memory_type.CType) (number : ℕ) (t : memory_type.CType) → slice_get types number ≡ Some t → TypesFit table types → IsObjectType table t
 type-stands table [] number t h stands = absurd (none-some t h)
-type-stands table (first ∷ others) zero t h stands = subst (Stands table) (same_Some first t h) stands.0
+type-stands table (first ∷ others) zero t h stands = subst (IsObjectType table) (same_Some first t h) stands.0
 type-stands table (first ∷ others) (suc number) t h stands = type-stands table others number t h stands.1
 
-pub parameter-stands : (table : Interned) (types : List memory_type.CType) (number : ℕ) (r : Option (Bor memory_type.CType)) → IsItemAt types number r → TypesStand table types → IfSome (option_copied r) (Stands table)
+pub parameter-stands : (table : Interned) (types : List memory_type.CType) (number : ℕ) (r : Option (Bor memory_type.CType)) → IsItemAt types number r → TypesFit table types → IfSome (option_copied r) (IsObjectType table)
 parameter-stands table types number None at stands = tt
 parameter-stands table types number (Some t) at stands = type-stands table types number t.now (found-there types number t at) stands
 
@@ -75,11 +76,11 @@ arguments-more (suc number) (T.MoreValues one more) first others e = arguments-m
 -- the first of the arguments that are left, or the call
 goes-by : (old new : RefRun) (call : memory_node.Node) (function : memory_scalar.Scalar) (count : ℕ) (others : List memory_frame.Frame) (operands : List memory_scalar.Scalar) (task : steps.Task)
     (arguments : Values) (next : Option memory_node.Node) → arguments_in (table_of old) call count ≡ arguments → IsArgument (table_of old) arguments next → OptionalNode (table_of old) next
-    → (o : Vec memory_scalar.Scalar Global) → reverse o.items ≡ operands → Goes (record old { operands = o }) new call function count others next → new.store ≡ old.store → Holds old
+    → (o : Vec memory_scalar.Scalar Global) → reverse o.items ≡ operands → Goes (record old { operands = o }) new call function count others next → new.store ≡ old.store → IsConsistent old
     → NodeStands (table_of old) call → IsCall call → ScalarStands (table_of old) function → ScalarsStand (table_of old) operands → count ≤ length operands
     → FramesHold (table_of old) old.base (drop count operands) others → old.depth ≡ calls_among others
     → (config_in new ≡ steps.next_argument (around_run old) (functions_of old) (callee_of (value_of (part_in (table_of old) call)) (scalar_in (table_of old) function)) (newest (table_of old) count operands) arguments
-    (record { task = task; frames = frames_in (table_of old) old.store.locals.items old.base (drop count operands) others; depth = greatest_depth - old.depth })) × Holds new
+    (record { task = task; frames = frames_in (table_of old) old.store.locals.items old.base (drop count operands) others; depth = greatest_depth - old.depth })) × IsConsistent new
 goes-by old new call function count others operands task T.NoValues None is argument stands o given goes store holds node fits function_stands scalars there waiting calls = (
   turns-config old new _ others operands old.base old.depth turns
       ∙ ap (λ locals. record { task = steps.Apply (callee_of (value_of (part_in (table_of old) call)) (scalar_in (table_of old) function)) (newest (table_of old) count operands); frames = frames_in (table_of old) locals old.base (drop count operands) others; depth = greatest_depth - old.depth })
@@ -135,7 +136,7 @@ goes-store old new call function count others (Some next) goes = (goes.store, go
 
 -- where a run goes on with a call, from the configuration without what waited for it
 pub goes-arrives : (old new : RefRun) (call : memory_node.Node) (function : memory_scalar.Scalar) (count : ℕ) (others : List memory_frame.Frame) (operands : List memory_scalar.Scalar) (config : Config)
-    (o : Vec memory_scalar.Scalar Global) → reverse o.items ≡ operands → GoesOn (record old { operands = o }) new call function count others → Holds old
+    (o : Vec memory_scalar.Scalar Global) → reverse o.items ≡ operands → GoesOn (record old { operands = o }) new call function count others → IsConsistent old
     → NodeStands (table_of old) call → IsCall call → ScalarStands (table_of old) function → ScalarsStand (table_of old) operands → count ≤ length operands
     → FramesHold (table_of old) old.base (drop count operands) others → old.depth ≡ calls_among others
     → config ≡ record { task = config.task; frames = frames_in (table_of old) old.store.locals.items old.base (drop count operands) others; depth = greatest_depth - old.depth }
@@ -149,14 +150,14 @@ goes-arrives old new call function count others operands config o given goes hol
     kept = goes-store (record old { operands = o }) new call function count others goes.next goes.goes
 
     by : (config_in new ≡ steps.next_argument (around_run old) (functions_of old) (callee_of (value_of (part_in (table_of old) call)) (scalar_in (table_of old) function)) (newest (table_of old) count operands) (arguments_in (table_of old) call count)
-        (record { task = config.task; frames = frames_in (table_of old) old.store.locals.items old.base (drop count operands) others; depth = greatest_depth - old.depth })) × Holds new
+        (record { task = config.task; frames = frames_in (table_of old) old.store.locals.items old.base (drop count operands) others; depth = greatest_depth - old.depth })) × IsConsistent new
     by = goes-by old new call function count others operands config.task (arguments_in (table_of old) call count) goes.next refl goes.is goes.stands o given goes.goes kept.0 holds node fits function_stands scalars there waiting calls
 
 -- one more operand
 newest-more : (table : Interned) (count : ℕ) (a : memory_scalar.Scalar) (operands : List memory_scalar.Scalar) → newest table (suc count) (a ∷ operands) ≡ newest table count operands ++ scalar_in table a ∷ []
 newest-more table count a operands = ap (map (scalar_in table)) (reverse-append (a ∷ []) (take count operands)) ∙ map-append (scalar_in table) (reverse (take count operands)) (a ∷ [])
 
-pub argument-given : (old new : RefRun) (top : ℕ) (call : memory_node.Node) (function : memory_scalar.Scalar) (count : ℕ) (a : memory_scalar.Scalar) (o : Vec memory_scalar.Scalar Global) → Holds old → TakesNone old.control.task
+pub argument-given : (old new : RefRun) (top : ℕ) (call : memory_node.Node) (function : memory_scalar.Scalar) (count : ℕ) (a : memory_scalar.Scalar) (o : Vec memory_scalar.Scalar Global) → IsConsistent old → TakesNone old.control.task
     → NodeStands (table_of old) call → ScalarStands (table_of old) function → ScalarStands (table_of old) a → IsCall call
     → (waits : IsInnermost old top (part_in (table_of old) call) (S.Argument function count)) → o.items ≡ old.operands.items ++ a ∷ []
     → GoesOn (record old { operands = o }) new call function (count + 1) waits.others
@@ -207,7 +208,7 @@ own-call (N.Stmt s) own = absurd own
 own-call (N.Body body) own = absurd own
 own-call N.Nothing own = absurd own
 
-pub function-given : (old new : RefRun) (top : ℕ) (call : memory_node.Node) (function : memory_scalar.Scalar) → Holds old → TakesNone old.control.task
+pub function-given : (old new : RefRun) (top : ℕ) (call : memory_node.Node) (function : memory_scalar.Scalar) → IsConsistent old → TakesNone old.control.task
     → NodeStands (table_of old) call → ScalarStands (table_of old) function → IsOwnCall call
     → (waits : IsInnermost old top (part_in (table_of old) call) S.First) → GoesOn old new call function 0 waits.others
     → (state : State) → At (around_run old) old.store old.base state

@@ -5,7 +5,8 @@ use Rattle.std.specs.Borrow.{Bor}
 use Rattle.text_place.specs.declared.place.Pos.{Pos}
 use Rattle.run_theory.specs.Runs as Runs
 use Rattle.c_typed.specs.declared.definition.FunctionDef as memory_function
-use Rattle.c_typed.specs.DefinitionViews.{function_in, FunctionStands}
+use Rattle.c_typed.specs.DefinitionViews.{function_in}
+use Rattle.ref_meaning.specs.Trees.{FunctionFits}
 use Rattle.ref_semantics.specs.Store.{State, Then}
 use Rattle.ref_semantics.specs.Meaning.{greatest_depth}
 use Rattle.ref_steps.specs.Steps as steps
@@ -17,7 +18,7 @@ use Rattle.ref_meaning.specs.declared.control.Stage.TheVariants as S
 use Rattle.ref_meaning.specs.declared.control.Task.TheVariants as K
 use Rattle.ref_meaning.specs.declared.run.RefRun.{RefRun}
 use Rattle.ref_meaning.specs.Views.{config_in, around_run, functions_of, table_of, operands_of, stack_of, operands_after, frames_in, newest}
-use Rattle.ref_meaning.specs.Holding.{Holds, FramesHold}
+use Rattle.ref_meaning.specs.Holding.{IsConsistent, FramesHold}
 use Rattle.ref_meaning.specs.Moving.{Arrives, IsOver}
 use Rattle.ref_meaning.proofs.Moves.{same-around}
 use Rattle.ref_meaning.proofs.Turns.{Turns, turns-config, turns-holds}
@@ -40,7 +41,7 @@ too-deep run is_used here number function given frames deep state =
     (record { there = state; is = λ units input. refl; quiet = refl })
 
 -- a call begins
-pub begins : (old new : RefRun) (is_used : Bool) (here : Pos) (number : ℕ) (function : Bor memory_function.FunctionDef) (count : ℕ) → Holds old → FunctionStands (table_of old) function.now
+pub begins : (old new : RefRun) (is_used : Bool) (here : Pos) (number : ℕ) (function : Bor memory_function.FunctionDef) (count : ℕ) → IsConsistent old → FunctionFits (table_of old) function.now
     → count ≤ length (operands_of old) → operands_after old.control.task (operands_of old) ≡ drop count (operands_of old) → old.depth < greatest_depth
     → Turns old new (record { node = N.Body function; task = K.Bind count 0 }) (record { node = N.Body function; stage = S.Call is_used here old.base } ∷ stack_of old) (operands_of old) (length old.store.locals.items) (old.depth + 1)
     → new.store ≡ old.store → (state : State) → At (around_run old) old.store old.base state

@@ -24,7 +24,7 @@ use Rattle.ref_meaning.specs.declared.control.Task.TheVariants as K
 use Rattle.ref_meaning.specs.declared.run.Halt.{Halt}
 use Rattle.ref_meaning.specs.declared.run.RefRun.{RefRun}
 use Rattle.ref_meaning.specs.Views.{part_in, given_in, loop_of, stmt_of, waiting, behind_body, frame_in, frames_in, task_in, operands_after, operands_behind, base_behind, table_of, operands_of, stack_of, around_run, functions_of, config_in}
-use Rattle.ref_meaning.specs.Holding.{Holds, NodeStands, GivenStands, Waits, Fits, StageStands, HasRoom, TaskFits, FramesHold, IsCall, IsBody, IsLoop, IsTurning, calls_in, calls_among}
+use Rattle.ref_meaning.specs.Holding.{IsConsistent, NodeStands, GivenStands, Waits, Fits, StageStands, HasRoom, TaskFits, FramesHold, IsCall, IsBody, IsLoop, IsTurning, calls_in, calls_among}
 use Rattle.ref_meaning.specs.Doing.{TakesNone, IsOnTop, body_in, without_first, popped, turning, asking}
 use Rattle.ref_meaning.specs.Moving.{Becomes, Arrives, Moves}
 use Rattle.ref_meaning.proofs.Moves.{becomes-config, becomes-holds, becomes-arrives, becomes-then, IsPlain, plain-base, plain-operands, plain-calls, takes-none, ok-moves}
@@ -56,7 +56,7 @@ pub record Behind (run : RefRun) (others : List memory_frame.Frame) (config : Co
   pub depth : greatest_depth - run.depth ≡ config.depth
 
 -- all but the innermost
-pub popped-behind : (run : RefRun) (first : memory_frame.Frame) (others : List memory_frame.Frame) → Holds run → TakesNone run.control.task → stack_of run ≡ first ∷ others → IsPlain first.stage → Behind run others (popped (config_in run))
+pub popped-behind : (run : RefRun) (first : memory_frame.Frame) (others : List memory_frame.Frame) → IsConsistent run → TakesNone run.control.task → stack_of run ≡ first ∷ others → IsPlain first.stage → Behind run others (popped (config_in run))
 popped-behind run first others holds free stack is = record {
   frames = (λ i. frames_in (table_of run) run.store.locals.items (sym (besides.bases run.base) i) (sym none i) others)
       ∙ sym (ap (λ s. without_first (frames_in (table_of run) run.store.locals.items run.base taken s)) stack);
@@ -110,25 +110,25 @@ config-so old new next others config behind free becomes = becomes-config old ne
   depth = behind.depth i;
 }
 
-holds-so : (old new : RefRun) (next : Control) (others : List memory_frame.Frame) (config : Config) → Holds old → Behind old others config → TakesNone next.task → NodeStands (table_of old) next.node
-    → TaskFits (table_of old) next.node (length (operands_of old)) next.task → Becomes old new next others → Holds new
+holds-so : (old new : RefRun) (next : Control) (others : List memory_frame.Frame) (config : Config) → IsConsistent old → Behind old others config → TakesNone next.task → NodeStands (table_of old) next.node
+    → TaskFits (table_of old) next.node (length (operands_of old)) next.task → Becomes old new next others → IsConsistent new
 holds-so old new next others config holds behind free node task becomes = becomes-holds old new next others becomes holds node task
     (subst (λ o. FramesHold (table_of old) old.base o others) (sym (takes-none next.task (operands_of old) free)) behind.hold) behind.calls
 
-pub arrives-so : (old new : RefRun) (next : Control) (others : List memory_frame.Frame) (config : Config) → Holds old → Behind old others config → TakesNone next.task → NodeStands (table_of old) next.node
+pub arrives-so : (old new : RefRun) (next : Control) (others : List memory_frame.Frame) (config : Config) → IsConsistent old → Behind old others config → TakesNone next.task → NodeStands (table_of old) next.node
     → TaskFits (table_of old) next.node (length (operands_of old)) next.task → Becomes old new next others
     → (state : State) → At (around_run old) old.store old.base state → Arrives new (give (doing old next config)) state
 arrives-so old new next others config holds behind free node task becomes state at =
     becomes-arrives old new next others (doing old next config) becomes (config-so old new next others config behind free becomes) (holds-so old new next others config holds behind free node task becomes) state at
 
 -- it comes to this
-pub moves-given : (old new : RefRun) (given : memory_given.Given) (others : List memory_frame.Frame) (config : Config) (result : Result (Unit {0}) Halt) → Holds old → Behind old others config → GivenStands (table_of old) given
+pub moves-given : (old new : RefRun) (given : memory_given.Given) (others : List memory_frame.Frame) (config : Config) (result : Result (Unit {0}) Halt) → IsConsistent old → Behind old others config → GivenStands (table_of old) given
     → Becomes old new (record { node = old.control.node; task = K.Give given }) others → IsOk result → Moves old new (give (record config { task = steps.Give (given_in (table_of old) given) })) result
 moves-given old new given others config result holds behind stands becomes ok = ok-moves old new (give (record config { task = steps.Give (given_in (table_of old) given) })) result ok
     (arrives-so old new (record { node = old.control.node; task = K.Give given }) others config holds behind tt holds.node stands becomes)
 
 -- another part is entered
-pub moves-enters : (old new : RefRun) (node : memory_node.Node) (others : List memory_frame.Frame) (config : Config) (result : Result (Unit {0}) Halt) → Holds old → Behind old others config → NodeStands (table_of old) node
+pub moves-enters : (old new : RefRun) (node : memory_node.Node) (others : List memory_frame.Frame) (config : Config) (result : Result (Unit {0}) Halt) → IsConsistent old → Behind old others config → NodeStands (table_of old) node
     → TaskFits (table_of old) node (length (operands_of old)) K.Enter → Becomes old new (record { node = node; task = K.Enter }) others → IsOk result
     → Moves old new (give (record config { task = steps.Enter (part_in (table_of old) node) })) result
 moves-enters old new node others config result holds behind stands fits becomes ok = ok-moves old new (give (record config { task = steps.Enter (part_in (table_of old) node) })) result ok
@@ -173,7 +173,7 @@ stmt-plain table node (S.Scope height) part fits = tt
 stmt-plain table node (S.Call is_used place base) part fits = no-body table node part fits
 
 -- what waits behind a statement on top
-pub top-behind : (run : RefRun) (top : ℕ) (part : Part) → Holds run → TakesNone run.control.task → IsStmtPart part → (on : IsOnTop run top part) → Behind run on.innermost.others (popped (config_in run))
+pub top-behind : (run : RefRun) (top : ℕ) (part : Part) → IsConsistent run → TakesNone run.control.task → IsStmtPart part → (on : IsOnTop run top part) → Behind run on.innermost.others (popped (config_in run))
 top-behind run top part holds free is on = popped-behind run (record { node = on.innermost.node; stage = on.stage }) on.innermost.others holds free on.innermost.stack
     (stmt-plain (table_of run) on.innermost.node on.stage (subst IsStmtPart (sym on.innermost.is) is) all.1)
   where
@@ -226,7 +226,7 @@ stmt-fits table (N.Body function) operands is = absurd is
 stmt-fits table N.Nothing operands is = absurd is
 
 -- a loop's body is performed
-pub moves-turning : (old new : RefRun) (top : ℕ) (node body : memory_node.Node) (result : Result (Unit {0}) Halt) → Holds old → TakesNone old.control.task → NodeStands (table_of old) node → IsLoop node
+pub moves-turning : (old new : RefRun) (top : ℕ) (node body : memory_node.Node) (result : Result (Unit {0}) Halt) → IsConsistent old → TakesNone old.control.task → NodeStands (table_of old) node → IsLoop node
     → (on : IsOnTop old top (part_in (table_of old) node)) → part_in (table_of old) body ≡ StmtPart (body_in (loop_of (stmt_of (part_in (table_of old) node)))) → NodeStands (table_of old) body
     → Becomes old new (record { node = body; task = K.Enter }) (record { node = node; stage = S.Turn } ∷ on.innermost.others) → IsOk result
     → Moves old new (turning old (stmt_of (part_in (table_of old) node))) result
@@ -247,7 +247,7 @@ moves-turning old new top node body result holds free stands is on part body_sta
     same = λ i. record rest { frames = loop.body i ∷ rest.frames; task = steps.Enter ((part ∙ ap StmtPart (same-body (around_run old) (functions_of old) (loop_of (stmt_of (part_in (table_of old) node))))) i) }
 
 -- and its condition evaluated
-pub moves-asking : (old new : RefRun) (top : ℕ) (node condition : memory_node.Node) (v : T.Value) (result : Result (Unit {0}) Halt) → Holds old → TakesNone old.control.task → NodeStands (table_of old) node → IsLoop node
+pub moves-asking : (old new : RefRun) (top : ℕ) (node condition : memory_node.Node) (v : T.Value) (result : Result (Unit {0}) Halt) → IsConsistent old → TakesNone old.control.task → NodeStands (table_of old) node → IsLoop node
     → (on : IsOnTop old top (part_in (table_of old) node)) → part_in (table_of old) condition ≡ ValuePart v → NodeStands (table_of old) condition → TaskFits (table_of old) condition (length (operands_of old)) K.Enter
     → Becomes old new (record { node = condition; task = K.Enter }) (record { node = node; stage = S.First } ∷ on.innermost.others) → IsOk result
     → Moves old new (asking old (stmt_of (part_in (table_of old) node)) v) result

@@ -4,7 +4,8 @@ use Rattle.std.proofs.lemmas.Option.{none-some, same_Some}
 use Rattle.c_typed.specs.declared.definition.FunctionDef as memory_function
 use Rattle.c_typed.specs.Typed.{FunctionDef}
 use Rattle.c_typed.specs.Table.{Interned}
-use Rattle.c_typed.specs.DefinitionViews.{function_in, FunctionStands, FunctionsStand}
+use Rattle.c_typed.specs.DefinitionViews.{function_in}
+use Rattle.ref_meaning.specs.Trees.{FunctionFits, FunctionsFit}
 use Rattle.ref_semantics.specs.Meaning.{function_from}
 
 -- a function in memory, by the number that is found
@@ -38,7 +39,7 @@ pub none-at : (found : Option (ℕ × FunctionDef)) → option_map (λ one. one.
 none-at None e = refl
 none-at (Some one) e = absurd (none-some one.0 (sym e))
 
-pub item-stands : (table : Interned) (items : List memory_function.FunctionDef) (at : ℕ) (item : memory_function.FunctionDef) → slice_get items at ≡ Some item → FunctionsStand table items → FunctionStands table item
+pub item-stands : (table : Interned) (items : List memory_function.FunctionDef) (at : ℕ) (item : memory_function.FunctionDef) → slice_get items at ≡ Some item → FunctionsFit table items → FunctionFits table item
 item-stands table [] at item h stands = absurd (none-some item h)
-item-stands table (first ∷ others) zero item h stands = subst (FunctionStands table) (same_Some first item h) stands.0
+item-stands table (first ∷ others) zero item h stands = subst (FunctionFits table) (same_Some first item h) stands.0
 item-stands table (first ∷ others) (suc at) item h stands = item-stands table others at item h stands.1

@@ -10,7 +10,7 @@ use Rattle.ref_store.specs.Holding.{At}
 use Rattle.ref_meaning.specs.declared.control.Control.{Control}
 use Rattle.ref_meaning.specs.declared.run.RefRun.{RefRun}
 use Rattle.ref_meaning.specs.Views.{config_in, around_run, table_of, operands_of, operands_after, stack_of, part_in, task_in, frames_in}
-use Rattle.ref_meaning.specs.Holding.{Holds, NodeStands, TaskFits, FramesHold, ScalarsStand}
+use Rattle.ref_meaning.specs.Holding.{IsConsistent, NodeStands, TaskFits, FramesHold, ScalarsStand}
 use Rattle.ref_meaning.specs.Doing.{TakesNone}
 use Rattle.ref_meaning.specs.Moving.{Becomes, Arrives}
 use Rattle.ref_meaning.proofs.Binding.{rest-dropped}
@@ -28,7 +28,7 @@ rest-left items kept all count there all-is is =
     ap reverse (is ∙ ap (λ n. take (n - count) items) all-is) ∙ sym (rest-dropped items count (subst (λ n. count ≤ n) (length-reverse items) there))
 
 -- A run goes on without the operands that its task took.
-module _ (old new : RefRun) (o : Vec memory_scalar.Scalar Global) (count : ℕ) (next : Control) (holds : Holds old) (was : operands_after old.control.task (operands_of old) ≡ drop count (operands_of old))
+module _ (old new : RefRun) (o : Vec memory_scalar.Scalar Global) (count : ℕ) (next : Control) (holds : IsConsistent old) (was : operands_after old.control.task (operands_of old) ≡ drop count (operands_of old))
     (given : reverse o.items ≡ drop count (operands_of old)) (free : TakesNone next.task) (becomes : Becomes (record old { operands = o }) new next (stack_of old)) where
   abbrev left_over : List memory_scalar.Scalar
   left_over = drop count (operands_of old)

@@ -26,7 +26,7 @@ use Rattle.ref_meaning.specs.declared.first.Role.TheVariants as O
 use Rattle.ref_meaning.specs.declared.run.Halt.{Halt}
 use Rattle.ref_meaning.specs.declared.run.RefRun.{RefRun}
 use Rattle.ref_meaning.specs.Views.{config_in, around_run, functions_of, table_of, operands_of, part_in, task_in, given_in, waiting}
-use Rattle.ref_meaning.specs.Holding.{Holds, NodeStands, GivenStands, Waits, Fits, StageStands, HasRoom}
+use Rattle.ref_meaning.specs.Holding.{IsConsistent, NodeStands, GivenStands, Waits, Fits, StageStands, HasRoom}
 use Rattle.ref_meaning.specs.Doing.{TakesNone, IsInnermost, NextStands, next_in, innermost, popped, without_first, taking, acting}
 use Rattle.ref_meaning.specs.Moving.{Becomes, Arrives, Moves, halt_of}
 use Rattle.ref_meaning.proofs.Moves.{IsPlain, stops, stored-alters, becomes-arrives, becomes-alters, behind_frames, done-config, done-holds, stage-config, stage-holds, arrives-behind, innermost-frames}
@@ -42,7 +42,7 @@ pub record Found (old : RefRun) (mid : Store) (node : memory_node.Node) (first :
       → Comes (around_run old) mid old.base (parts.next_of (around_run old) (part_in (table_of old) node) (scalar_in (table_of old) first)) state (next_in (table_of old) next)
 
 -- a value comes behind it
-pub first-given : (old new : RefRun) (mid : Store) (top : ℕ) (node : memory_node.Node) (first value : memory_scalar.Scalar) → Holds old → TakesNone old.control.task
+pub first-given : (old new : RefRun) (mid : Store) (top : ℕ) (node : memory_node.Node) (first value : memory_scalar.Scalar) → IsConsistent old → TakesNone old.control.task
     → Found old mid node first (X.Given value) → (waits : IsInnermost old top (part_in (table_of old) node) S.First)
     → waiting (part_in (table_of old) node) ≡ steps.First (part_in (table_of old) node) → ScalarStands (table_of old) value
     → Becomes (record old { store = mid }) new (record { node = old.control.node; task = K.Give (G.Scalar value) }) waits.others
@@ -61,7 +61,7 @@ first-given old new mid top node first value holds free found waits is stands be
     (found.comes state at))
 
 -- an expression is entered behind it, while this waits at another stage
-entered-staged : (old new : RefRun) (mid : Store) (top : ℕ) (node part : memory_node.Node) (first : memory_scalar.Scalar) (role : memory_role.Role) (later : memory_stage.Stage) → Holds old → TakesNone old.control.task
+entered-staged : (old new : RefRun) (mid : Store) (top : ℕ) (node part : memory_node.Node) (first : memory_scalar.Scalar) (role : memory_role.Role) (later : memory_stage.Stage) → IsConsistent old → TakesNone old.control.task
     → Found old mid node first (X.Enter part role) → (waits : IsInnermost old top (part_in (table_of old) node) S.First) → waiting (part_in (table_of old) node) ≡ steps.First (part_in (table_of old) node)
     → NodeStands (table_of old) node → IsPlain later → Fits node later → StageStands (table_of old) later → HasRoom later old.base (length (operands_of old)) → NodeStands (table_of old) part → Waits part
     → steps.goes (around_run old) (functions_of old) (part_in (table_of old) node) (scalar_in (table_of old) first) (next_in (table_of old) (X.Enter part role)) (popped (config_in old))
@@ -81,7 +81,7 @@ entered-staged old new mid top node part first role later holds free found waits
     (subst (λ s. At (around_run old) s old.base (found.comes holds.state holds.at).after) (sym becomes.store) (found.comes holds.state holds.at).at))
     (found.comes state at))
 
-pub first-second : (old new : RefRun) (mid : Store) (top : ℕ) (node part : memory_node.Node) (first : memory_scalar.Scalar) → Holds old → TakesNone old.control.task
+pub first-second : (old new : RefRun) (mid : Store) (top : ℕ) (node part : memory_node.Node) (first : memory_scalar.Scalar) → IsConsistent old → TakesNone old.control.task
     → Found old mid node first (X.Enter part O.Second) → (waits : IsInnermost old top (part_in (table_of old) node) S.First) → waiting (part_in (table_of old) node) ≡ steps.First (part_in (table_of old) node)
     → NodeStands (table_of old) node → Waits node → ScalarStands (table_of old) first → NextStands (table_of old) (X.Enter part O.Second)
     → Becomes (record old { store = mid }) new (record { node = part; task = K.Enter }) (record { node = node; stage = S.Second first } ∷ waits.others)
@@ -90,7 +90,7 @@ first-second old new mid top node (N.Value v) first holds free found waits is st
     entered-staged old new mid top node (N.Value v) first O.Second (S.Second first) holds free found waits is stands tt fits staged tt entered tt refl becomes
 first-second old new mid top node _ first holds free found waits is stands fits staged entered becomes = absurd entered
 
-pub first-right : (old new : RefRun) (mid : Store) (top : ℕ) (node part : memory_node.Node) (first : memory_scalar.Scalar) → Holds old → TakesNone old.control.task
+pub first-right : (old new : RefRun) (mid : Store) (top : ℕ) (node part : memory_node.Node) (first : memory_scalar.Scalar) → IsConsistent old → TakesNone old.control.task
     → Found old mid node first (X.Enter part O.Right) → (waits : IsInnermost old top (part_in (table_of old) node) S.First) → waiting (part_in (table_of old) node) ≡ steps.First (part_in (table_of old) node)
     → NodeStands (table_of old) node → NextStands (table_of old) (X.Enter part O.Right)
     → Becomes (record old { store = mid }) new (record { node = part; task = K.Enter }) (record { node = node; stage = S.Right } ∷ waits.others)
@@ -100,7 +100,7 @@ first-right old new mid top node (N.Value v) first holds free found waits is sta
 first-right old new mid top node _ first holds free found waits is stands entered becomes = absurd entered
 
 -- or comes to what that comes to
-pub first-whole : (old new : RefRun) (mid : Store) (top : ℕ) (node part : memory_node.Node) (first : memory_scalar.Scalar) → Holds old → TakesNone old.control.task
+pub first-whole : (old new : RefRun) (mid : Store) (top : ℕ) (node part : memory_node.Node) (first : memory_scalar.Scalar) → IsConsistent old → TakesNone old.control.task
     → Found old mid node first (X.Enter part O.Whole) → (waits : IsInnermost old top (part_in (table_of old) node) S.First) → waiting (part_in (table_of old) node) ≡ steps.First (part_in (table_of old) node)
     → NextStands (table_of old) (X.Enter part O.Whole) → Becomes (record old { store = mid }) new (record { node = part; task = K.Enter }) waits.others
     → (state : State) → At (around_run old) old.store old.base state → Arrives new (taking old (waiting (part_in (table_of old) node)) (ScalarGiven (scalar_in (table_of old) first))) state
@@ -120,7 +120,7 @@ first-whole old new mid top node _ first holds free found waits is entered becom
 
 -- ---- the second operand, and the right one
 
-pub second-given : (old new : RefRun) (mid : Store) (top : ℕ) (node : memory_node.Node) (first second value : memory_scalar.Scalar) (given : Given) → Holds old → TakesNone old.control.task
+pub second-given : (old new : RefRun) (mid : Store) (top : ℕ) (node : memory_node.Node) (first second value : memory_scalar.Scalar) (given : Given) → IsConsistent old → TakesNone old.control.task
     → mid.types ≡ old.store.types → mid.locals ≡ old.store.locals → (waits : IsInnermost old top (part_in (table_of old) node) (S.Second first)) → scalar_in (table_of old) second ≡ steps.scalar_of given → ScalarStands (table_of old) value
     → ((state : State) → At (around_run old) old.store old.base state
     → Comes (around_run old) mid old.base (parts.both_of (around_run old) (part_in (table_of old) node) (scalar_in (table_of old) first) (scalar_in (table_of old) second)) state (scalar_in (table_of old) value))
@@ -140,7 +140,7 @@ second-given old new mid top node first second value given holds free types loca
     (comes state at))
 
 -- the innermost comes to this
-pub done-arrives : (old new : RefRun) (top : ℕ) (part : Part) (stage : memory_stage.Stage) (given : memory_given.Given) → Holds old → TakesNone old.control.task → IsPlain stage → (waits : IsInnermost old top part stage)
+pub done-arrives : (old new : RefRun) (top : ℕ) (part : Part) (stage : memory_stage.Stage) (given : memory_given.Given) → IsConsistent old → TakesNone old.control.task → IsPlain stage → (waits : IsInnermost old top part stage)
     → GivenStands (table_of old) given → Becomes old new (record { node = old.control.node; task = K.Give given }) waits.others
     → (state : State) → At (around_run old) old.store old.base state → Arrives new (give (steps.came (around_run old) (functions_of old) (given_in (table_of old) given) (popped (config_in old)))) state
 done-arrives old new top part stage given holds free plain waits stands becomes state at =
@@ -152,7 +152,7 @@ done-arrives old new top part stage given holds free plain waits stands becomes 
 
 -- where a call on the store stops
 
-pub first-stops : (old : RefRun) (mid : Store) (node : memory_node.Node) (first : memory_scalar.Scalar) (stop : Stop) (result : Result (Unit {0}) Halt) → IsErrAnd result (λ e. e ≡ halt_of stop) → Holds old → mid.types ≡ old.store.types → mid.locals ≡ old.store.locals
+pub first-stops : (old : RefRun) (mid : Store) (node : memory_node.Node) (first : memory_scalar.Scalar) (stop : Stop) (result : Result (Unit {0}) Halt) → IsErrAnd result (λ e. e ≡ halt_of stop) → IsConsistent old → mid.types ≡ old.store.types → mid.locals ≡ old.store.locals
     → waiting (part_in (table_of old) node) ≡ steps.First (part_in (table_of old) node)
     → CallGives (around_run old) old.store mid old.base (next_in (table_of old)) (parts.next_of (around_run old) (part_in (table_of old) node) (scalar_in (table_of old) first)) (Err stop)
     → Moves old (record old { store = mid }) (taking old (waiting (part_in (table_of old) node)) (ScalarGiven (scalar_in (table_of old) first))) result
@@ -163,7 +163,7 @@ first-stops old mid node first stop (Err halt) same holds types locals is gives 
     (stops (Unit {0}) old mid (next_in (table_of old)) (parts.next_of (around_run old) (part_in (table_of old) node) (scalar_in (table_of old) first))
     (λ behind. give (steps.goes (around_run old) (functions_of old) (part_in (table_of old) node) (scalar_in (table_of old) first) behind (popped (config_in old)))) stop types locals holds gives))
 
-pub second-stops : (old : RefRun) (mid : Store) (node : memory_node.Node) (first second : memory_scalar.Scalar) (given : Given) (stop : Stop) (result : Result (Unit {0}) Halt) → IsErrAnd result (λ e. e ≡ halt_of stop) → Holds old → mid.types ≡ old.store.types → mid.locals ≡ old.store.locals
+pub second-stops : (old : RefRun) (mid : Store) (node : memory_node.Node) (first second : memory_scalar.Scalar) (given : Given) (stop : Stop) (result : Result (Unit {0}) Halt) → IsErrAnd result (λ e. e ≡ halt_of stop) → IsConsistent old → mid.types ≡ old.store.types → mid.locals ≡ old.store.locals
     → scalar_in (table_of old) second ≡ steps.scalar_of given
     → CallGives (around_run old) old.store mid old.base (scalar_in (table_of old)) (parts.both_of (around_run old) (part_in (table_of old) node) (scalar_in (table_of old) first) (scalar_in (table_of old) second)) (Err stop)
     → Moves old (record old { store = mid }) (taking old (innermost old (part_in (table_of old) node) (S.Second first)) given) result

@@ -20,10 +20,10 @@ use Rattle.ref_meaning.specs.declared.run.RefEnd.{RefEnd}
 use Rattle.ref_meaning.specs.declared.run.RefEnd.TheVariants as E
 use Rattle.ref_meaning.specs.declared.run.RefRun.{RefRun}
 use Rattle.ref_meaning.specs.Views.{table_of, operands_of, part_in, task_in, config_in, around_run, functions_of, final_of}
-use Rattle.ref_meaning.specs.Holding.{Holds}
+use Rattle.ref_meaning.specs.Holding.{IsConsistent}
 use Rattle.ref_meaning.specs.Doing.{acting, takes}
 use Rattle.ref_meaning.specs.Moving.{IsKept, IsTold, IsOverTold, StaysTold, Acts}
-use Rattle.ref_meaning.specs.Running.{Reached, reached, Behaviour, answers, StandsFor, Ends, GoesOn, BreaksOff, RunAnswers, SpendsNeeded, end_in, answer_of, halted, spent_at, IsHalted, HoldsUnlessOver}
+use Rattle.ref_meaning.specs.Running.{Reached, reached, Behaviour, answers, StandsFor, Ends, GoesOn, BreaksOff, RunAnswers, SpendsNeeded, end_in, answer_of, halted, spent_at, IsHalted, IsConsistentUnlessOver}
 
 -- Of so many units some are left, and the run goes on behind the others; with fewer than these it was going.
 pub record Goes (first now : RefRun) (behaviour : Behaviour) (base input : List ℕ) (steps units : ℕ) (is_left written : Option (List ℕ)) : Type 0 where
@@ -162,7 +162,7 @@ spent-all first now behaviour base input steps units is_left written goes e none
 
 -- ---- a step
 
-pub respent : (run : RefRun) (n : ℕ) → Holds run → Holds (record run { spent = n })
+pub respent : (run : RefRun) (n : ℕ) → IsConsistent run → IsConsistent (record run { spent = n })
 respent run n holds = record {
   program = holds.program;
   types = holds.types;
@@ -412,11 +412,11 @@ halted-written H.WriteFault e = refl
 halted-written H.OutOfMemory e = absurd (false≢true (ap is_written e))
 
 -- behind a step that isn't done
-pub halted-unless : (A : Type 0) (old mid new : RefRun) (halt : Halt) (is_left written left' written' : Option (List ℕ)) → Acts {A = A} old mid (acting old) (Err halt) is_left written left' written' → IsHalted mid halt new → HoldsUnlessOver new
+pub halted-unless : (A : Type 0) (old mid new : RefRun) (halt : Halt) (is_left written left' written' : Option (List ℕ)) → Acts {A = A} old mid (acting old) (Err halt) is_left written left' written' → IsHalted mid halt new → IsConsistentUnlessOver new
 halted-unless A old mid new (H.Final final) is_left written left' written' acts is = λ none. absurd (false≢true (ap is_some (sym none ∙ is)))
-halted-unless A old mid new H.ReadFault is_left written left' written' acts is = λ none. subst Holds (sym is) acts.stays.holds
-halted-unless A old mid new H.WriteFault is_left written left' written' acts is = λ none. subst Holds (sym is) acts.stays.holds
-halted-unless A old mid new H.OutOfMemory is_left written left' written' acts is = λ none. subst Holds (sym is) acts.stays.holds
+halted-unless A old mid new H.ReadFault is_left written left' written' acts is = λ none. subst IsConsistent (sym is) acts.stays.holds
+halted-unless A old mid new H.WriteFault is_left written left' written' acts is = λ none. subst IsConsistent (sym is) acts.stays.holds
+halted-unless A old mid new H.OutOfMemory is_left written left' written' acts is = λ none. subst IsConsistent (sym is) acts.stays.holds
 
 -- what is done is no fault
 pub done-no-fault : (value : Unit {0}) (halt : Halt) → Ok value ≡ Err halt → ⊥

@@ -3,7 +3,8 @@ use Rattle.std.specs.Prelude.{codes}
 use Rattle.std.proofs.Common.{◌≡◌, ℕ, ◌-◌, ◌≤◌, List, [], reverse, length, refl, sym, ap, subst, ◌∙◌, arith}
 use Rattle.run_theory.specs.Runs.{Ended}
 use Rattle.c_typed.specs.Typed.{Program}
-use Rattle.c_typed.specs.DefinitionViews.{program_of, ProgramStands}
+use Rattle.c_typed.specs.DefinitionViews.{program_of}
+use Rattle.ref_meaning.specs.Trees.{ProgramFits}
 use Rattle.ref_semantics.specs.Values.{Scalar}
 use Rattle.ref_semantics.specs.Store.{State, Outcome, Then, Stopped, continue_with, halt}
 use Rattle.ref_semantics.specs.Library.{low_byte}
@@ -33,7 +34,7 @@ goes-behaviour program depth e input units =
 
 -- the run that `new` makes
 pub stands-first : (run : RefRun) → run.control ≡ record { node = N.Nothing; task = K.Start } → run.frames.items ≡ [] → run.operands.items ≡ [] → run.base ≡ 0 → run.depth ≡ 0
-    → ProgramStands run.program.now → run.store.types.now ≡ run.program.now.types
+    → ProgramFits run.program.now → run.store.types.now ≡ run.program.now.types
     → HasNumbers run.functions 0 run.program.now.functions.items
     → run.main ≡ number_from 0 run.program.now.functions.items (codes "main")
     → At (around_run run) run.store 0 (first_state (program_of run.program.now) [] 0)

@@ -25,12 +25,12 @@ use Rattle.ref_meaning.specs.declared.control.Frame as memory_frame
 use Rattle.ref_meaning.specs.declared.control.Stage.TheVariants as S
 use Rattle.ref_meaning.specs.declared.control.Task.TheVariants as K
 use Rattle.ref_meaning.specs.declared.control.Given.TheVariants as G
-use Rattle.ref_meaning.specs.declared.control.Way.TheVariants as Ways
+use Rattle.ref_meaning.specs.declared.control.Completion.TheVariants as Ways
 use Rattle.ref_meaning.specs.declared.run.RefRun.{RefRun}
 use Rattle.ref_meaning.specs.declared.run.Halt.{Halt}
 use Rattle.ref_meaning.specs.declared.run.Halt.TheVariants as H
 use Rattle.ref_meaning.specs.Views.{part_in, task_in, frames_in, at_item, stmt_of, case_items_of, case_items_from, config_in, around_run, functions_of, table_of, operands_of, operands_after, stack_of}
-use Rattle.ref_meaning.specs.Holding.{Holds, NodeStands, TaskFits, FramesHold, IsSwitch, HasItems}
+use Rattle.ref_meaning.specs.Holding.{IsConsistent, NodeStands, TaskFits, FramesHold, IsSwitch, HasItems}
 use Rattle.ref_meaning.specs.Items.{ThisCaseItem}
 use Rattle.ref_meaning.specs.Doing.{acting}
 use Rattle.ref_meaning.specs.Moving.{Becomes, IsSame, Moves, Arrives}
@@ -39,7 +39,7 @@ use Rattle.ref_meaning.proofs.Moves.{becomes-config, becomes-holds, becomes-arri
 -- ---- what waits or runs out of memory
 
 module _ (old new : RefRun) (next : Control) (frames : List memory_frame.Frame) where
-  pub moves-either : (eval : Eval Config) {A : Type 0} (result : Result A Halt) → OnOk result (Becomes old new next frames) → OnErr result (IsSame old new) → IfErr result (λ e. e ≡ H.OutOfMemory) → Holds old
+  pub moves-either : (eval : Eval Config) {A : Type 0} (result : Result A Halt) → OnOk result (Becomes old new next frames) → OnErr result (IsSame old new) → IfErr result (λ e. e ≡ H.OutOfMemory) → IsConsistent old
       → (Becomes old new next frames → (state : State) → At (around_run old) old.store old.base state → Arrives new eval state) → Moves old new eval result
   moves-either eval (Ok done) becomes same only holds arrives = arrives becomes
   moves-either eval {A = A} (Err e) becomes same only holds arrives = subst (λ (h : Halt). Moves {A = A} old new eval (Err h)) (sym only) (same-stays old new same holds)
@@ -95,7 +95,7 @@ switch-items N.Nothing h = absurd h
 
 -- ---- a label is looked for
 
-module _ (old : RefRun) (holds : Holds old) (switch : memory_node.Node) (value : ℤ) (number : ℕ) (default : Option ℕ) (control : old.control ≡ record { node = switch; task = K.Label value number default }) where
+module _ (old : RefRun) (holds : IsConsistent old) (switch : memory_node.Node) (value : ℤ) (number : ℕ) (default : Option ℕ) (control : old.control ≡ record { node = switch; task = K.Label value number default }) where
   abbrev pub table : Interned
   table = table_of old
 
@@ -127,7 +127,7 @@ module _ (old : RefRun) (holds : Holds old) (switch : memory_node.Node) (value :
     found-frames = record { node = switch; stage = S.Item from } ∷ stack_of old
 
     abbrev pub found-next : Control
-    found-next = record { node = old.control.node; task = K.Give (G.Way Ways.Onward) }
+    found-next = record { node = old.control.node; task = K.Give (G.Completion Ways.Normal) }
 
     found-arrives : Becomes old new found-next found-frames → (state : State) → At (around_run old) old.store old.base state → Arrives new (acting old) state
     found-arrives becomes state at =

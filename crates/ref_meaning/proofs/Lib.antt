@@ -31,3 +31,6 @@ pub mod Returning
 pub mod Provided
 pub mod Applying
 pub mod Naming
+pub mod TreeRows
+pub mod SmallTrees
+pub mod Elements

@@ -9,7 +9,8 @@ use Rattle.c_typed.specs.declared.definition.FunctionDef as memory_function
 use Rattle.c_typed.specs.Types.{CType, same_type}
 use Rattle.c_typed.specs.Typed.{FunctionDef}
 use Rattle.c_typed.specs.Table.{Stands, type_in}
-use Rattle.c_typed.specs.DefinitionViews.{function_in, FunctionStands}
+use Rattle.c_typed.specs.DefinitionViews.{function_in}
+use Rattle.ref_meaning.specs.Trees.{FunctionFits}
 use Rattle.ref_semantics.specs.Values.{Scalar, NullValue, FunctionValue}
 use Rattle.ref_semantics.specs.Store.{Eval, State, give, unless, premise}
 use Rattle.ref_semantics.specs.Meaning.{function_from}
@@ -25,14 +26,14 @@ use Rattle.ref_store.proofs.Giving.{unless-fails}
 use Rattle.ref_meaning.specs.declared.control.Task.TheVariants as K
 use Rattle.ref_meaning.specs.declared.run.RefRun.{RefRun}
 use Rattle.ref_meaning.specs.Views.{config_in, around_run, functions_of, table_of, operands_of, part_in, task_in}
-use Rattle.ref_meaning.specs.Holding.{Holds}
+use Rattle.ref_meaning.specs.Holding.{IsConsistent}
 use Rattle.ref_meaning.specs.Doing.{acting}
 use Rattle.ref_meaning.specs.Moving.{IsOver}
 use Rattle.ref_meaning.proofs.Called.{Found, found-at, item-stands}
 
 -- ---- the function of a number
 
-module _ (run : RefRun) (holds : Holds run) (name : List ℕ) (number : ℕ) (numbered : option_map (λ found. found.0) (function_from 0 (functions_of run) name) ≡ Some number) where
+module _ (run : RefRun) (holds : IsConsistent run) (name : List ℕ) (number : ℕ) (numbered : option_map (λ found. found.0) (function_from 0 (functions_of run) name) ≡ Some number) where
   found : Found run.program.now.types 0 run.program.now.functions.items name number
   found = found-at run.program.now.types 0 run.program.now.functions.items name number numbered
 
@@ -49,11 +50,11 @@ module _ (run : RefRun) (holds : Holds run) (name : List ℕ) (number : ℕ) (nu
     pub called-is : function_from 0 (functions_of run) name ≡ Some (number, function_in (table_of run) function)
     called-is = found.is ∙ (λ i. Some (number, function_in (sym holds.types i) (item-is i)))
 
-    program-stands : FunctionStands run.program.now.types function
-    program-stands = subst (FunctionStands run.program.now.types) item-is (item-stands run.program.now.types run.program.now.functions.items number found.item there holds.program.functions)
+    program-stands : FunctionFits run.program.now.types function
+    program-stands = subst (FunctionFits run.program.now.types) item-is (item-stands run.program.now.types run.program.now.functions.items number found.item there holds.program.functions)
 
-    pub called-stands : FunctionStands (table_of run) function
-    called-stands = subst (λ table. FunctionStands table function) (sym holds.types) program-stands
+    pub called-stands : FunctionFits (table_of run) function
+    called-stands = subst (λ table. FunctionFits table function) (sym holds.types) program-stands
 
     pub called-type-stands : Stands run.program.now.types function.c_type
     called-type-stands = program-stands.0
@@ -92,7 +93,7 @@ module _ (run : RefRun) (is_used : Bool) (here : Pos) (c_type : CType) (given : 
         ∙ ap (λ b. unless here (premise (not b) Ub.U14 ∷ []) begun) (sym same)
 
 -- the types are those of the program
-pub in-table : (run : RefRun) → Holds run → (t : number.CType) (b : Bool) (c_type : CType) → b ≡ same_type (type_in run.program.now.types t) c_type → b ≡ same_type (type_in (table_of run) t) c_type
+pub in-table : (run : RefRun) → IsConsistent run → (t : number.CType) (b : Bool) (c_type : CType) → b ≡ same_type (type_in run.program.now.types t) c_type → b ≡ same_type (type_in (table_of run) t) c_type
 in-table run holds t b c_type e = subst (λ table. b ≡ same_type (type_in table t) c_type) (sym holds.types) e
 
 -- what a program begins with
@@ -103,7 +104,7 @@ acting-start run e = ap (λ task. units.act (around_run run) (functions_of run) 
 -- ---- a call of a name in memory
 
 module _ (run : RefRun) (is_used : Bool) (here : Pos) (c_type : number.CType) (given : List Scalar) (function : memory_scalar.Scalar) (name : Bor (List ℕ)) (number : ℕ) (item : memory_function.FunctionDef)
-    (holds : Holds run) (named : function ≡ M.Function name) (is : function_from 0 (functions_of run) name.now ≡ Some (number, function_in (table_of run) item)) where
+    (holds : IsConsistent run) (named : function ≡ M.Function name) (is : function_from 0 (functions_of run) name.now ≡ Some (number, function_in (table_of run) item)) where
   abbrev made : memory_scalar.Scalar → Eval Config
   made f = steps.make_call (around_run run) (functions_of run) is_used here (type_in (table_of run) c_type) (scalar_in (table_of run) f) given (config_in run)
 

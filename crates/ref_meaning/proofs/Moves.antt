@@ -5,7 +5,8 @@ use Rattle.text_place.specs.declared.place.Pos.{Pos}
 use Rattle.run_theory.specs.declared.ends.UbKind.{UbKind}
 use Rattle.run_theory.specs.Runs as Runs
 use Rattle.c_typed.specs.Table.{Interned}
-use Rattle.c_typed.specs.DefinitionViews.{program_of, ProgramStands}
+use Rattle.c_typed.specs.DefinitionViews.{program_of}
+use Rattle.ref_meaning.specs.Trees.{ProgramFits}
 use Rattle.ref_semantics.specs.Store.{State, Eval, ◌>>=◌, continue_with, give}
 use Rattle.ref_semantics.specs.Meaning.{greatest_depth, function_from}
 use Rattle.ref_semantics.specs.First.{around_of}
@@ -29,7 +30,7 @@ use Rattle.ref_meaning.specs.declared.run.RefRun.{RefRun}
 use Rattle.ref_meaning.specs.declared.run.Halt.{Halt}
 use Rattle.ref_meaning.specs.declared.run.Halt.TheVariants as H
 use Rattle.ref_meaning.specs.Views.{config_in, around_run, functions_of, table_of, operands_of, stack_of, operands_after, operands_behind, base_behind, function_of, part_in, task_in, frame_in, frames_in}
-use Rattle.ref_meaning.specs.Holding.{Holds, NodeStands, Fits, StageStands, HasRoom, TaskFits, FramesHold, ScalarsStand, calls_in, calls_among}
+use Rattle.ref_meaning.specs.Holding.{IsConsistent, NodeStands, Fits, StageStands, HasRoom, TaskFits, FramesHold, ScalarsStand, calls_in, calls_among}
 use Rattle.ref_meaning.specs.Doing.{TakesNone, IsInnermost, innermost, popped, without_first}
 use Rattle.ref_meaning.specs.Moving.{IsKept, Becomes, IsSame, Arrives, IsOver, Stays, Moves, halt_of}
 
@@ -47,13 +48,13 @@ becomes-config old new next frames becomes = λ i. record {
 }
 
 -- a run of the same program with the same types holds where what is its own does
-pub kept-holds : (old new : RefRun) → IsKept old new → new.store.types ≡ old.store.types → Holds old
+pub kept-holds : (old new : RefRun) → IsKept old new → new.store.types ≡ old.store.types → IsConsistent old
     → NodeStands (table_of new) new.control.node → TaskFits (table_of new) new.control.node (length (operands_of new)) new.control.task
     → ScalarsStand (table_of new) (operands_of new) → FramesHold (table_of new) new.base (operands_after new.control.task (operands_of new)) (stack_of new)
     → new.base ≤ length new.store.locals.items → new.depth ≡ calls_among (stack_of new) → new.depth ≤ greatest_depth
-    → (state : State) → At (around_run new) new.store new.base state → Holds new
+    → (state : State) → At (around_run new) new.store new.base state → IsConsistent new
 kept-holds old new kept types holds node task operands frames within calls shallow state at = record {
-  program = subst (λ p. ProgramStands p.now) (sym kept.program) holds.program;
+  program = subst (λ p. ProgramFits p.now) (sym kept.program) holds.program;
   types = ap (λ t. t.now) types ∙ (holds.types ∙ sym (ap (λ p. p.now.types) kept.program));
   numbered = λ name.
       subst (λ f. get_by (λ key. bytes_eq name key.now) f ≡ option_map (λ found. found.0) (function_from 0 (functions_of new) name)) (sym kept.functions)
@@ -80,9 +81,9 @@ becomes-at old new next frames becomes state at =
     (subst (λ store. At (around_run old) store new.base state) (sym becomes.store) (subst (λ base. At (around_run old) old.store base state) (sym becomes.base) at))
 
 -- it holds where what is next and what waits do
-pub becomes-holds : (old new : RefRun) (next : Control) (frames : List memory_frame.Frame) → Becomes old new next frames → Holds old
+pub becomes-holds : (old new : RefRun) (next : Control) (frames : List memory_frame.Frame) → Becomes old new next frames → IsConsistent old
     → NodeStands (table_of old) next.node → TaskFits (table_of old) next.node (length (operands_of old)) next.task
-    → FramesHold (table_of old) old.base (operands_after next.task (operands_of old)) frames → old.depth ≡ calls_among frames → Holds new
+    → FramesHold (table_of old) old.base (operands_after next.task (operands_of old)) frames → old.depth ≡ calls_among frames → IsConsistent new
 becomes-holds old new next frames becomes holds node task waiting calls =
     kept-holds old new becomes.kept (ap (λ s. s.types) becomes.store) holds
     (subst (λ s. NodeStands s.types.now new.control.node) (sym becomes.store) (subst (λ c. NodeStands (table_of old) c.node) (sym becomes.control) node))
@@ -102,7 +103,7 @@ becomes-holds old new next frames becomes holds node task waiting calls =
     (becomes-at old new next frames becomes holds.state holds.at)
 
 -- it arrives where it gives the configuration that it becomes
-pub becomes-arrives : (old new : RefRun) (next : Control) (frames : List memory_frame.Frame) (config : Config) → Becomes old new next frames → config_in new ≡ config → Holds new
+pub becomes-arrives : (old new : RefRun) (next : Control) (frames : List memory_frame.Frame) (config : Config) → Becomes old new next frames → config_in new ≡ config → IsConsistent new
     → (state : State) → At (around_run old) old.store old.base state → Arrives new (give config) state
 becomes-arrives old new next frames config becomes is holds state at = record {
   after = state;
@@ -113,7 +114,7 @@ becomes-arrives old new next frames config becomes is holds state at = record {
 }
 
 -- nothing is done
-pub same-stays : (old new : RefRun) → Becomes old new old.control (stack_of old) → Holds old → Stays old new
+pub same-stays : (old new : RefRun) → Becomes old new old.control (stack_of old) → IsConsistent old → Stays old new
 same-stays old new same holds = record {
   same = becomes-config old new old.control (stack_of old) same;
   at = λ state at. becomes-at old new old.control (stack_of old) same state at;
@@ -158,12 +159,12 @@ behind-alters old new mid next frames types front within becomes = record {
 }
 
 -- that leaves the locals alone
-pub stored-alters : (old new : RefRun) (mid : Store) (next : Control) (frames : List memory_frame.Frame) → mid.types ≡ old.store.types → mid.locals ≡ old.store.locals → Holds old
+pub stored-alters : (old new : RefRun) (mid : Store) (next : Control) (frames : List memory_frame.Frame) → mid.types ≡ old.store.types → mid.locals ≡ old.store.locals → IsConsistent old
     → Becomes (record old { store = mid }) new next frames → Alters old new next frames
 stored-alters old new mid next frames types locals holds becomes =
     behind-alters old new mid next frames types (ap (λ l. take old.base l.items) locals) (subst (λ l. old.base ≤ length l.items) (sym locals) holds.within) becomes
 
-pub becomes-alters : (old new : RefRun) (next : Control) (frames : List memory_frame.Frame) → Holds old → Becomes old new next frames → Alters old new next frames
+pub becomes-alters : (old new : RefRun) (next : Control) (frames : List memory_frame.Frame) → IsConsistent old → Becomes old new next frames → Alters old new next frames
 becomes-alters old new next frames holds becomes = stored-alters old new old.store next frames refl refl holds
     (record { kept = record { program = becomes.kept.program; functions = becomes.kept.functions; main = becomes.kept.main; spent = becomes.kept.spent }; store = becomes.store; operands = becomes.operands; base = becomes.base; depth = becomes.depth; control = becomes.control; stack = becomes.stack })
 
@@ -212,10 +213,10 @@ at-new old new mid kept store base state at =
     subst (λ around. At around new.store new.base state) (sym (same-around old new kept))
     (subst (λ s. At (around_run old) s new.base state) (sym store) (subst (λ b. At (around_run old) mid b state) (sym base) at))
 
-pub alters-holds : (old new : RefRun) (next : Control) (frames : List memory_frame.Frame) → Alters old new next frames → Holds old
+pub alters-holds : (old new : RefRun) (next : Control) (frames : List memory_frame.Frame) → Alters old new next frames → IsConsistent old
     → NodeStands (table_of old) next.node → TaskFits (table_of old) next.node (length (operands_of old)) next.task
     → FramesHold (table_of old) old.base (operands_after next.task (operands_of old)) frames → old.depth ≡ calls_among frames
-    → (state : State) → At (around_run old) new.store old.base state → Holds new
+    → (state : State) → At (around_run old) new.store old.base state → IsConsistent new
 alters-holds old new next frames alters holds node task waiting calls state at =
     kept-holds old new alters.kept alters.types holds
     (subst (λ t. NodeStands t.now new.control.node) (sym alters.types) (subst (λ c. NodeStands (table_of old) c.node) (sym alters.control) node))
@@ -237,7 +238,7 @@ alters-holds old new next frames alters holds node task waiting calls state at =
 -- ---- behind an evaluation that a call on the store gives
 
 pub arrives-behind : {A : Type 0} (old new : RefRun) (mid : Store) (first : Eval A) (next : A → Eval Config) (a : A) (state : State) → IsKept old new → new.store ≡ mid → new.base ≡ old.base
-    → next a ≡ give (config_in new) → Holds new → Comes (around_run old) mid old.base first state a → Arrives new (first >>= next) state
+    → next a ≡ give (config_in new) → IsConsistent new → Comes (around_run old) mid old.base first state a → Arrives new (first >>= next) state
 arrives-behind old new mid first next a state kept store base is holds comes = record {
   after = comes.after;
   does = does-bind first next state comes.after comes.after a (config_in new) comes.does (λ units input. ap (λ e. e (left units input comes.after)) is);
@@ -250,7 +251,7 @@ pub over-first : {A : Type 0} (first : Eval A) (next : A → Eval Config) (state
 over-first first next state kind place undefined = record { there = undefined.there; is = λ units input. ap (continue_with next) (undefined.is units input); quiet = undefined.quiet }
 
 -- where memory runs out in a call on the store
-pub alters-stays : (old new : RefRun) → Alters old new old.control (stack_of old) → Holds old → ((state : State) → At (around_run old) old.store old.base state → At (around_run old) new.store old.base state) → Stays old new
+pub alters-stays : (old new : RefRun) → Alters old new old.control (stack_of old) → IsConsistent old → ((state : State) → At (around_run old) old.store old.base state → At (around_run old) new.store old.base state) → Stays old new
 alters-stays old new alters holds keeps = record {
   same = alters-config old new old.control (stack_of old) alters holds.frames;
   at = λ state at. at-new old new new.store alters.kept refl alters.base state (keeps state at);
@@ -258,7 +259,7 @@ alters-stays old new alters holds keeps = record {
 }
 
 -- what `?` hands on of a call on the store
-pub stops : {A B : Type 0} (C : Type 0) (old : RefRun) (mid : Store) (view : B → A) (first : Eval A) (next : A → Eval Config) (stop : Stop) → mid.types ≡ old.store.types → mid.locals ≡ old.store.locals → Holds old
+pub stops : {A B : Type 0} (C : Type 0) (old : RefRun) (mid : Store) (view : B → A) (first : Eval A) (next : A → Eval Config) (stop : Stop) → mid.types ≡ old.store.types → mid.locals ≡ old.store.locals → IsConsistent old
     → CallGives (around_run old) old.store mid old.base view first (Err stop) → Moves {A = C} old (record old { store = mid }) (first >>= next) (Err (halt_of stop))
 stops C old mid view first next (T.Undefined kind place) types locals holds gives = λ state at. over-first first next state kind place (gives state at)
 stops C old mid view first next T.OutOfMemory types locals holds gives =
@@ -278,7 +279,7 @@ takes-none _ operands free = refl
 pub all-frames : (run : RefRun) → TakesNone run.control.task → (config_in run).frames ≡ frames_in (table_of run) run.store.locals.items run.base (operands_of run) (stack_of run)
 all-frames run free = ap (λ o. frames_in (table_of run) run.store.locals.items run.base o (stack_of run)) (takes-none run.control.task (operands_of run) free)
 
-pub all-hold : (run : RefRun) → TakesNone run.control.task → Holds run → FramesHold (table_of run) run.base (operands_of run) (stack_of run)
+pub all-hold : (run : RefRun) → TakesNone run.control.task → IsConsistent run → FramesHold (table_of run) run.base (operands_of run) (stack_of run)
 all-hold run free holds = subst (λ o. FramesHold (table_of run) run.base o (stack_of run)) (takes-none run.control.task (operands_of run) free) holds.frames
 
 pub free-hold : (run : RefRun) (task : memory_task.Task) (frames : List memory_frame.Frame) → TakesNone task → FramesHold (table_of run) run.base (operands_of run) frames
@@ -321,25 +322,25 @@ pub innermost-popped : (run : RefRun) (top : ℕ) (part : Part) (stage : memory_
 innermost-popped run top part stage free waits = ap (λ frames. record (config_in run) { frames = without_first frames }) (innermost-frames run top part stage free waits)
 
 -- how it stands, and what is behind it
-pub innermost-hold : (run : RefRun) (top : ℕ) (part : Part) (stage : memory_stage.Stage) → TakesNone run.control.task → (waits : IsInnermost run top part stage) → Holds run
+pub innermost-hold : (run : RefRun) (top : ℕ) (part : Part) (stage : memory_stage.Stage) → TakesNone run.control.task → (waits : IsInnermost run top part stage) → IsConsistent run
     → NodeStands (table_of run) waits.node × Fits waits.node stage × StageStands (table_of run) stage × HasRoom stage run.base (length (operands_of run))
     × FramesHold (table_of run) (base_behind stage run.base) (operands_behind stage (operands_of run)) waits.others
 innermost-hold run top part stage free waits holds = subst (FramesHold (table_of run) run.base (operands_of run)) waits.stack (all-hold run free holds)
 
-pub innermost-calls : (run : RefRun) (top : ℕ) (part : Part) (stage : memory_stage.Stage) (waits : IsInnermost run top part stage) → Holds run → run.depth ≡ calls_in stage (calls_among waits.others)
+pub innermost-calls : (run : RefRun) (top : ℕ) (part : Part) (stage : memory_stage.Stage) (waits : IsInnermost run top part stage) → IsConsistent run → run.depth ≡ calls_in stage (calls_among waits.others)
 innermost-calls run top part stage waits holds = holds.calls ∙ ap calls_among waits.stack
 
 -- what is behind a plain one
 pub plain-frames : (run : RefRun) (stage : memory_stage.Stage) (others : List memory_frame.Frame) → IsPlain stage → behind_frames run stage others ≡ frames_in (table_of run) run.store.locals.items run.base (operands_of run) others
 plain-frames run stage others plain = λ i. frames_in (table_of run) run.store.locals.items (plain-base stage run.base plain i) (plain-operands stage (operands_of run) plain i) others
 
-pub plain-hold : (run : RefRun) (top : ℕ) (part : Part) (stage : memory_stage.Stage) → TakesNone run.control.task → IsPlain stage → (waits : IsInnermost run top part stage) → Holds run
+pub plain-hold : (run : RefRun) (top : ℕ) (part : Part) (stage : memory_stage.Stage) → TakesNone run.control.task → IsPlain stage → (waits : IsInnermost run top part stage) → IsConsistent run
     → FramesHold (table_of run) run.base (operands_of run) waits.others
 plain-hold run top part stage free plain waits holds =
     subst (λ b. FramesHold (table_of run) b (operands_of run) waits.others) (plain-base stage run.base plain)
     (subst (λ o. FramesHold (table_of run) (base_behind stage run.base) o waits.others) (plain-operands stage (operands_of run) plain) (innermost-hold run top part stage free waits holds).4)
 
-pub plain-depth : (run : RefRun) (top : ℕ) (part : Part) (stage : memory_stage.Stage) → IsPlain stage → (waits : IsInnermost run top part stage) → Holds run → run.depth ≡ calls_among waits.others
+pub plain-depth : (run : RefRun) (top : ℕ) (part : Part) (stage : memory_stage.Stage) → IsPlain stage → (waits : IsInnermost run top part stage) → IsConsistent run → run.depth ≡ calls_among waits.others
 plain-depth run top part stage plain waits holds = innermost-calls run top part stage waits holds ∙ plain-calls stage (calls_among waits.others) plain
 
 -- one more waits in front of others
@@ -365,7 +366,7 @@ wait-frames run task node stage others free plain =
 -- ---- what a run becomes whose task takes no operands
 
 -- it does this next, with all that waited
-pub task-config : (old new : RefRun) (next : Control) → Alters old new next (stack_of old) → TakesNone old.control.task → TakesNone next.task → Holds old
+pub task-config : (old new : RefRun) (next : Control) → Alters old new next (stack_of old) → TakesNone old.control.task → TakesNone next.task → IsConsistent old
     → config_in new ≡ record (config_in old) { task = task_in (table_of old) (operands_of old) (part_in (table_of old) next.node) next.task }
 task-config old new next alters free freed holds =
     alters-config old new next (stack_of old) alters (free-hold old next.task (stack_of old) freed (all-hold old free holds))
@@ -374,14 +375,14 @@ task-config old new next alters free freed holds =
     same : frames_in (table_of old) old.store.locals.items old.base (operands_after next.task (operands_of old)) (stack_of old) ≡ (config_in old).frames
     same = ap (λ o. frames_in (table_of old) old.store.locals.items old.base o (stack_of old)) (takes-none next.task (operands_of old) freed) ∙ sym (all-frames old free)
 
-pub task-holds : (old new : RefRun) (next : Control) → Alters old new next (stack_of old) → TakesNone old.control.task → TakesNone next.task → Holds old
-    → NodeStands (table_of old) next.node → TaskFits (table_of old) next.node (length (operands_of old)) next.task → (state : State) → At (around_run old) new.store old.base state → Holds new
+pub task-holds : (old new : RefRun) (next : Control) → Alters old new next (stack_of old) → TakesNone old.control.task → TakesNone next.task → IsConsistent old
+    → NodeStands (table_of old) next.node → TaskFits (table_of old) next.node (length (operands_of old)) next.task → (state : State) → At (around_run old) new.store old.base state → IsConsistent new
 task-holds old new next alters free freed holds node task state at =
     alters-holds old new next (stack_of old) alters holds node task (free-hold old next.task (stack_of old) freed (all-hold old free holds)) holds.calls state at
 
 -- it does this next, and one more waits
 pub wait-config : (old new : RefRun) (next : Control) (node : memory_node.Node) (stage : memory_stage.Stage) → Alters old new next (record { node = node; stage = stage } ∷ stack_of old)
-    → TakesNone old.control.task → TakesNone next.task → IsPlain stage → Holds old
+    → TakesNone old.control.task → TakesNone next.task → IsPlain stage → IsConsistent old
     → NodeStands (table_of old) node → Fits node stage → StageStands (table_of old) stage → HasRoom stage old.base (length (operands_of old))
     → config_in new ≡ record (config_in old) { task = task_in (table_of old) (operands_of old) (part_in (table_of old) next.node) next.task; frames = innermost old (part_in (table_of old) node) stage ∷ (config_in old).frames }
 wait-config old new next node stage alters free freed plain holds stands fits staged room =
@@ -389,9 +390,9 @@ wait-config old new next node stage alters free freed plain holds stands fits st
     ∙ ap (λ frames. record (config_in old) { task = task_in (table_of old) (operands_of old) (part_in (table_of old) next.node) next.task; frames = frames }) (wait-frames old next.task node stage (stack_of old) freed plain ∙ ap (λ frames. innermost old (part_in (table_of old) node) stage ∷ frames) (sym (all-frames old free)))
 
 pub wait-holds : (old new : RefRun) (next : Control) (node : memory_node.Node) (stage : memory_stage.Stage) → Alters old new next (record { node = node; stage = stage } ∷ stack_of old)
-    → TakesNone old.control.task → TakesNone next.task → IsPlain stage → Holds old
+    → TakesNone old.control.task → TakesNone next.task → IsPlain stage → IsConsistent old
     → NodeStands (table_of old) node → Fits node stage → StageStands (table_of old) stage → HasRoom stage old.base (length (operands_of old))
-    → NodeStands (table_of old) next.node → TaskFits (table_of old) next.node (length (operands_of old)) next.task → (state : State) → At (around_run old) new.store old.base state → Holds new
+    → NodeStands (table_of old) next.node → TaskFits (table_of old) next.node (length (operands_of old)) next.task → (state : State) → At (around_run old) new.store old.base state → IsConsistent new
 wait-holds old new next node stage alters free freed plain holds stands fits staged room entered task state at =
     alters-holds old new next (record { node = node; stage = stage } ∷ stack_of old) alters holds entered task
     (free-hold old next.task (record { node = node; stage = stage } ∷ stack_of old) freed (wait-hold old node stage (stack_of old) plain stands fits staged room (all-hold old free holds)))
@@ -399,7 +400,7 @@ wait-holds old new next node stage alters free freed plain holds stands fits sta
 
 -- it does this next, and the innermost waits no more
 pub done-config : (old new : RefRun) (next : Control) (top : ℕ) (part : Part) (stage : memory_stage.Stage) (waits : IsInnermost old top part stage) → Alters old new next waits.others
-    → TakesNone old.control.task → TakesNone next.task → IsPlain stage → Holds old
+    → TakesNone old.control.task → TakesNone next.task → IsPlain stage → IsConsistent old
     → config_in new ≡ record (popped (config_in old)) { task = task_in (table_of old) (operands_of old) (part_in (table_of old) next.node) next.task }
 done-config old new next top part stage waits alters free freed plain holds =
     alters-config old new next waits.others alters (free-hold old next.task waits.others freed (plain-hold old top part stage free plain waits holds))
@@ -408,14 +409,14 @@ done-config old new next top part stage waits alters free freed plain holds =
     ∙ ap {A = Config} (λ c. record c { task = task_in (table_of old) (operands_of old) (part_in (table_of old) next.node) next.task }) (sym (innermost-popped old top part stage free waits)))
 
 pub done-holds : (old new : RefRun) (next : Control) (top : ℕ) (part : Part) (stage : memory_stage.Stage) (waits : IsInnermost old top part stage) → Alters old new next waits.others
-    → TakesNone old.control.task → TakesNone next.task → IsPlain stage → Holds old
-    → NodeStands (table_of old) next.node → TaskFits (table_of old) next.node (length (operands_of old)) next.task → (state : State) → At (around_run old) new.store old.base state → Holds new
+    → TakesNone old.control.task → TakesNone next.task → IsPlain stage → IsConsistent old
+    → NodeStands (table_of old) next.node → TaskFits (table_of old) next.node (length (operands_of old)) next.task → (state : State) → At (around_run old) new.store old.base state → IsConsistent new
 done-holds old new next top part stage waits alters free freed plain holds node task state at =
     alters-holds old new next waits.others alters holds node task (free-hold old next.task waits.others freed (plain-hold old top part stage free plain waits holds)) (plain-depth old top part stage plain waits holds) state at
 
 -- it does this next, and the innermost comes to another stage
 pub stage-config : (old new : RefRun) (next : Control) (top : ℕ) (part : Part) (stage : memory_stage.Stage) (waits : IsInnermost old top part stage) (node : memory_node.Node) (later : memory_stage.Stage)
-    → Alters old new next (record { node = node; stage = later } ∷ waits.others) → TakesNone old.control.task → TakesNone next.task → IsPlain stage → IsPlain later → Holds old
+    → Alters old new next (record { node = node; stage = later } ∷ waits.others) → TakesNone old.control.task → TakesNone next.task → IsPlain stage → IsPlain later → IsConsistent old
     → NodeStands (table_of old) node → Fits node later → StageStands (table_of old) later → HasRoom later old.base (length (operands_of old))
     → config_in new ≡ record (popped (config_in old)) { task = task_in (table_of old) (operands_of old) (part_in (table_of old) next.node) next.task; frames = innermost old (part_in (table_of old) node) later ∷ (popped (config_in old)).frames }
 stage-config old new next top part stage waits node later alters free freed plain plainly holds stands fits staged room =
@@ -426,9 +427,9 @@ stage-config old new next top part stage waits node later alters free freed plai
     ∙ ap {A = Config} (λ c. record c { task = task_in (table_of old) (operands_of old) (part_in (table_of old) next.node) next.task; frames = innermost old (part_in (table_of old) node) later ∷ c.frames }) (sym (innermost-popped old top part stage free waits)))
 
 pub stage-holds : (old new : RefRun) (next : Control) (top : ℕ) (part : Part) (stage : memory_stage.Stage) (waits : IsInnermost old top part stage) (node : memory_node.Node) (later : memory_stage.Stage)
-    → Alters old new next (record { node = node; stage = later } ∷ waits.others) → TakesNone old.control.task → TakesNone next.task → IsPlain stage → IsPlain later → Holds old
+    → Alters old new next (record { node = node; stage = later } ∷ waits.others) → TakesNone old.control.task → TakesNone next.task → IsPlain stage → IsPlain later → IsConsistent old
     → NodeStands (table_of old) node → Fits node later → StageStands (table_of old) later → HasRoom later old.base (length (operands_of old))
-    → NodeStands (table_of old) next.node → TaskFits (table_of old) next.node (length (operands_of old)) next.task → (state : State) → At (around_run old) new.store old.base state → Holds new
+    → NodeStands (table_of old) next.node → TaskFits (table_of old) next.node (length (operands_of old)) next.task → (state : State) → At (around_run old) new.store old.base state → IsConsistent new
 stage-holds old new next top part stage waits node later alters free freed plain plainly holds stands fits staged room entered task state at =
     alters-holds old new next (record { node = node; stage = later } ∷ waits.others) alters holds entered task
     (free-hold old next.task (record { node = node; stage = later } ∷ waits.others) freed (wait-hold old node later waits.others plainly stands fits staged room (plain-hold old top part stage free plain waits holds)))
@@ -442,7 +443,7 @@ ok-moves old new eval (Err e) ok arrives = absurd (true≢false (sym ok))
 
 -- a method that changes nothing where memory runs out
 pub memory-moves : {A : Type 0} (old new : RefRun) (eval : Eval Config) (next : Control) (frames : List memory_frame.Frame) (result : Result A Halt) → OnOk result (Becomes old new next frames) → OnErr result (IsSame old new)
-    → IfErr result (λ e. e ≡ H.OutOfMemory) → Holds old → (Becomes old new next frames → (state : State) → At (around_run old) old.store old.base state → Arrives new eval state) → Moves old new eval result
+    → IfErr result (λ e. e ≡ H.OutOfMemory) → IsConsistent old → (Becomes old new next frames → (state : State) → At (around_run old) old.store old.base state → Arrives new eval state) → Moves old new eval result
 memory-moves {A = A} old new eval next frames (Ok done) becomes same only holds arrives = arrives becomes
 memory-moves {A = A} old new eval next frames (Err e) becomes same only holds arrives = subst (λ h. Moves {A = A} old new eval (Err h)) (sym only) (same-stays old new same holds)
 

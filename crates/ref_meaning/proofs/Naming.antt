@@ -20,7 +20,7 @@ use Rattle.ref_meaning.specs.declared.run.RefRun.{RefRun}
 use Rattle.ref_meaning.specs.declared.run.Halt.{Halt}
 use Rattle.ref_meaning.specs.declared.run.Halt.TheVariants as H
 use Rattle.ref_meaning.specs.Views.{config_in, around_run, functions_of, table_of, operands_of, operands_after, stack_of, part_in, value_of, callee_of, named_call, task_in, frames_in}
-use Rattle.ref_meaning.specs.Holding.{Holds, NodeStands, TaskFits, FramesHold, IsCall, IsLibraryCall}
+use Rattle.ref_meaning.specs.Holding.{IsConsistent, NodeStands, TaskFits, FramesHold, IsCall, IsLibraryCall}
 use Rattle.ref_meaning.specs.Doing.{acting}
 use Rattle.ref_meaning.specs.Moving.{Becomes, IsSame, Arrives, Moves}
 use Rattle.ref_meaning.specs.Calling.{IsArgument, arguments_in}
@@ -58,7 +58,7 @@ library-call (N.Body body) library = absurd library
 library-call N.Nothing library = absurd library
 
 -- where there is an argument
-pub first-moves : {A : Type 0} (old new : RefRun) (call first : memory_node.Node) (groups : ℕ) (result : Result A Halt) → Holds old → old.control ≡ record { node = call; task = K.Library groups } → groups ≡ 0
+pub first-moves : {A : Type 0} (old new : RefRun) (call first : memory_node.Node) (groups : ℕ) (result : Result A Halt) → IsConsistent old → old.control ≡ record { node = call; task = K.Library groups } → groups ≡ 0
     → IsArgument (table_of old) (arguments_in (table_of old) call 0) (Some first) → NodeStands (table_of old) first
     → OnOk result (Becomes old new (record { node = first; task = K.Enter }) (record { node = call; stage = S.Argument M.Null 0 } ∷ stack_of old)) → OnErr result (IsSame old new) → IfErr result (λ e. e ≡ H.OutOfMemory)
     → Moves old new (acting old) result

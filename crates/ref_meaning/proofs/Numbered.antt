@@ -5,8 +5,9 @@ use Rattle.std.specs.Slice.{IsItemAt}
 use Rattle.c_typed.specs.Typed as T
 use Rattle.c_typed.specs.Typed.{SwitchItems}
 use Rattle.c_typed.specs.Table.{Interned}
-use Rattle.c_typed.specs.Views.{value_in, values_in, ValueStands, ValuesStand}
-use Rattle.c_typed.specs.StatementViews.{stmt_in, local_in, block_in, switch_in, StmtStands, LocalStands, LocalsStand, BlockStands, SwitchStands}
+use Rattle.c_typed.specs.Views.{value_in, values_in}
+use Rattle.c_typed.specs.StatementViews.{stmt_in, local_in, block_in, switch_in}
+use Rattle.ref_meaning.specs.Trees.{ValueFits, ValuesFit, StmtFits, LocalFits, LocalsFit, BlockFits, SwitchFits}
 use Rattle.c_typed.specs.declared.typed.Value as memory_value
 use Rattle.c_typed.specs.declared.statement.LocalDef as memory_local
 use Rattle.c_typed.specs.declared.statement.Stmt as memory_stmt
@@ -15,7 +16,7 @@ use Rattle.c_typed.specs.declared.statement.BlockItem as memory_item
 use Rattle.c_typed.specs.declared.statement.BlockItem.TheVariants as B
 use Rattle.c_typed.specs.declared.statement.SwitchItem as memory_switch
 use Rattle.c_typed.specs.declared.statement.SwitchItem.TheVariants as W
-use Rattle.c_typed.proofs.StatementItems.{block-items, switch-items}
+use Rattle.ref_meaning.proofs.TreeRows.{block-items, switch-items}
 use Rattle.c_typed.proofs.StatementsStay.{stmt_in-block, stmt_in-switch}
 use Rattle.ref_steps.specs.Parts.{StmtPart}
 use Rattle.ref_meaning.specs.Views.{arguments_from, items_from, case_items_from, case_items_of}
@@ -42,9 +43,9 @@ module _ (table : Interned) where
   argument-there (first ∷ others) zero v h = ap (λ x. T.MoreValues (value_in table x) (values_in table others)) (same_Some first v h)
   argument-there (first ∷ others) (suc number) v h = argument-there others number v h
 
-  pub argument-stands : (vs : List memory_value.Value) (number : ℕ) (v : memory_value.Value) → slice_get vs number ≡ Some v → ValuesStand table vs → ValueStands table v
+  pub argument-stands : (vs : List memory_value.Value) (number : ℕ) (v : memory_value.Value) → slice_get vs number ≡ Some v → ValuesFit table vs → ValueFits table v
   argument-stands [] number v h stands = absurd (none-some v h)
-  argument-stands (first ∷ others) zero v h stands = subst (ValueStands table) (same_Some first v h) stands.0
+  argument-stands (first ∷ others) zero v h stands = subst (ValueFits table) (same_Some first v h) stands.0
   argument-stands (first ∷ others) (suc number) v h stands = argument-stands others number v h stands.1
 
   pub argument-past : (vs : List memory_value.Value) (number : ℕ) → length vs ≤ number → arguments_from number (values_in table vs) ≡ T.NoValues
@@ -55,11 +56,11 @@ module _ (table : Interned) where
 
   -- ---- items of a block
 
-  item-first : (first : memory_item.BlockItem) (others : List memory_item.BlockItem) → BlockStands table (first ∷ others) → ThisItem table zero (block_in table (first ∷ others)) first
+  item-first : (first : memory_item.BlockItem) (others : List memory_item.BlockItem) → BlockFits table (first ∷ others) → ThisItem table zero (block_in table (first ∷ others)) first
   item-first (B.Local local) others stands = (refl, stands.0)
   item-first (B.Statement stmt) others stands = (refl, stands.0)
 
-  pub item-there : (items : List memory_item.BlockItem) (number : ℕ) (item : memory_item.BlockItem) → slice_get items number ≡ Some item → BlockStands table items
+  pub item-there : (items : List memory_item.BlockItem) (number : ℕ) (item : memory_item.BlockItem) → slice_get items number ≡ Some item → BlockFits table items
       → ThisItem table number (block_in table items) item
   item-there [] number item h stands = absurd (none-some item h)
   item-there (first ∷ others) zero item h stands = subst (λ x. ThisItem table zero (block_in table (first ∷ others)) x) (same_Some first item h) (item-first first others stands)
@@ -76,7 +77,7 @@ module _ (table : Interned) where
   item-past (B.Statement stmt ∷ others) (suc number) h = item-past others number (omega (arith, h))
 
   -- those of a function's body
-  pub item-found : (items xs : List memory_item.BlockItem) (number : ℕ) (r : Option (Bor memory_item.BlockItem)) → xs ≡ items → IsItemAt xs number r → length xs < 2 ^ 64 → BlockStands table items
+  pub item-found : (items xs : List memory_item.BlockItem) (number : ℕ) (r : Option (Bor memory_item.BlockItem)) → xs ≡ items → IsItemAt xs number r → length xs < 2 ^ 64 → BlockFits table items
       → ItemIs table number (block_in table items) r
   item-found items xs number None same h small stands = item-past items number (subst (λ ys. length ys ≤ number) same (found-past xs number h))
   item-found items xs number (Some item) same h small stands =
@@ -84,19 +85,19 @@ module _ (table : Interned) where
 
   -- those of a block in memory
   pub block-found : (s : memory_stmt.Stmt) (items : Vec memory_item.BlockItem Global) (xs : List memory_item.BlockItem) (number : ℕ) (r : Option (Bor memory_item.BlockItem)) → s ≡ S.Block items
-      → xs ≡ items.items → IsItemAt xs number r → length xs < 2 ^ 64 → StmtStands table s → ItemIs table number (block_of (StmtPart (stmt_in table s))) r
+      → xs ≡ items.items → IsItemAt xs number r → length xs < 2 ^ 64 → StmtFits table s → ItemIs table number (block_of (StmtPart (stmt_in table s))) r
   block-found s items xs number r is same h small stands =
       subst (λ x. ItemIs table number (block_of (StmtPart x)) r) (sym (ap (stmt_in table) is ∙ stmt_in-block table items))
-      (item-found items.items xs number r same h small (block-items table items (subst (StmtStands table) is stands)))
+      (item-found items.items xs number r same h small (block-items table items (subst (StmtFits table) is stands)))
 
   -- ---- items of a `switch`
 
-  case-first : (first : memory_switch.SwitchItem) (others : List memory_switch.SwitchItem) → SwitchStands table (first ∷ others) → ThisCaseItem table zero (switch_in table (first ∷ others)) first
+  case-first : (first : memory_switch.SwitchItem) (others : List memory_switch.SwitchItem) → SwitchFits table (first ∷ others) → ThisCaseItem table zero (switch_in table (first ∷ others)) first
   case-first (W.Case label) others stands = refl
   case-first W.Default others stands = refl
   case-first (W.Statement stmt) others stands = (refl, stands.0)
 
-  rest-stands : (first : memory_switch.SwitchItem) (others : List memory_switch.SwitchItem) → SwitchStands table (first ∷ others) → SwitchStands table others
+  rest-stands : (first : memory_switch.SwitchItem) (others : List memory_switch.SwitchItem) → SwitchFits table (first ∷ others) → SwitchFits table others
   rest-stands (W.Case label) others stands = stands
   rest-stands W.Default others stands = stands
   rest-stands (W.Statement stmt) others stands = stands.1
@@ -112,7 +113,7 @@ module _ (table : Interned) where
   case-behind W.Default number n items xs one two h = one ∙ (h ∙ ap T.Default (sym two))
   case-behind (W.Statement stmt) number n items xs one two h = (one ∙ (h.0 ∙ ap (T.SwitchStmt (stmt_in table stmt)) (sym two)), h.1)
 
-  pub case-there : (items : List memory_switch.SwitchItem) (number : ℕ) (item : memory_switch.SwitchItem) → slice_get items number ≡ Some item → SwitchStands table items
+  pub case-there : (items : List memory_switch.SwitchItem) (number : ℕ) (item : memory_switch.SwitchItem) → slice_get items number ≡ Some item → SwitchFits table items
       → ThisCaseItem table number (switch_in table items) item
   case-there [] number item h stands = absurd (none-some item h)
   case-there (first ∷ others) zero item h stands = subst (λ x. ThisCaseItem table zero (switch_in table (first ∷ others)) x) (same_Some first item h) (case-first first others stands)
@@ -126,7 +127,7 @@ module _ (table : Interned) where
   case-past (first ∷ others) zero h = absurd (omega (arith, h))
   case-past (first ∷ others) (suc number) h = rest-from first others number ∙ case-past others number (omega (arith, h))
 
-  pub cases-found : (items xs : List memory_switch.SwitchItem) (number : ℕ) (r : Option (Bor memory_switch.SwitchItem)) → xs ≡ items → IsItemAt xs number r → length xs < 2 ^ 64 → SwitchStands table items
+  pub cases-found : (items xs : List memory_switch.SwitchItem) (number : ℕ) (r : Option (Bor memory_switch.SwitchItem)) → xs ≡ items → IsItemAt xs number r → length xs < 2 ^ 64 → SwitchFits table items
       → CaseItemIs table number (switch_in table items) r
   cases-found items xs number None same h small stands = case-past items number (subst (λ ys. length ys ≤ number) same (found-past xs number h))
   cases-found items xs number (Some item) same h small stands =
@@ -134,10 +135,10 @@ module _ (table : Interned) where
 
   -- those of a `switch` in memory
   pub switch-found : (s : memory_stmt.Stmt) (value : memory_value.Value) (items : Vec memory_switch.SwitchItem Global) (xs : List memory_switch.SwitchItem) (number : ℕ) (r : Option (Bor memory_switch.SwitchItem))
-      → s ≡ S.Switch value items → xs ≡ items.items → IsItemAt xs number r → length xs < 2 ^ 64 → StmtStands table s → CaseItemIs table number (case_items_of (stmt_in table s)) r
+      → s ≡ S.Switch value items → xs ≡ items.items → IsItemAt xs number r → length xs < 2 ^ 64 → StmtFits table s → CaseItemIs table number (case_items_of (stmt_in table s)) r
   switch-found s value items xs number r is same h small stands =
       subst (λ x. CaseItemIs table number (case_items_of x) r) (sym (ap (stmt_in table) is ∙ stmt_in-switch table value items))
-      (cases-found items.items xs number r same h small (switch-items table value items (subst (StmtStands table) is stands)))
+      (cases-found items.items xs number r same h small (switch-items table value items (subst (StmtFits table) is stands)))
 
   -- ---- locals of a `for`
 
@@ -147,9 +148,9 @@ module _ (table : Interned) where
   local-there (first ∷ others) zero local h = ap (λ x. local_in table x ∷ map (local_in table) others) (same_Some first local h)
   local-there (first ∷ others) (suc number) local h = local-there others number local h
 
-  pub local-stands : (locals : List memory_local.LocalDef) (number : ℕ) (local : memory_local.LocalDef) → slice_get locals number ≡ Some local → LocalsStand table locals → LocalStands table local
+  pub local-stands : (locals : List memory_local.LocalDef) (number : ℕ) (local : memory_local.LocalDef) → slice_get locals number ≡ Some local → LocalsFit table locals → LocalFits table local
   local-stands [] number local h stands = absurd (none-some local h)
-  local-stands (first ∷ others) zero local h stands = subst (LocalStands table) (same_Some first local h) stands.0
+  local-stands (first ∷ others) zero local h stands = subst (LocalFits table) (same_Some first local h) stands.0
   local-stands (first ∷ others) (suc number) local h stands = local-stands others number local h stands.1
 
   pub local-past : (locals : List memory_local.LocalDef) (number : ℕ) → length locals ≤ number → drop number (map (local_in table) locals) ≡ []
@@ -158,7 +159,7 @@ module _ (table : Interned) where
   local-past (first ∷ others) zero h = absurd (omega (arith, h))
   local-past (first ∷ others) (suc number) h = local-past others number (omega (arith, h))
 
-  pub local-found : (locals xs : List memory_local.LocalDef) (number : ℕ) (r : Option (Bor memory_local.LocalDef)) → xs ≡ locals → IsItemAt xs number r → length xs < 2 ^ 64 → LocalsStand table locals
+  pub local-found : (locals xs : List memory_local.LocalDef) (number : ℕ) (r : Option (Bor memory_local.LocalDef)) → xs ≡ locals → IsItemAt xs number r → length xs < 2 ^ 64 → LocalsFit table locals
       → StartLocalIs table number (map (local_in table) locals) r
   local-found locals xs number None same h small stands = local-past locals number (subst (λ ys. length ys ≤ number) same (found-past xs number h))
   local-found locals xs number (Some local) same h small stands =

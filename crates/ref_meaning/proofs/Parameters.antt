@@ -25,7 +25,7 @@ use Rattle.ref_meaning.specs.declared.run.Halt.{Halt}
 use Rattle.ref_meaning.specs.declared.run.Halt.TheVariants as H
 use Rattle.ref_meaning.specs.declared.run.RefRun.{RefRun}
 use Rattle.ref_meaning.specs.Views.{config_in, around_run, functions_of, table_of, operands_of, operands_after, stack_of, part_in, task_in, frames_in, function_of, newest}
-use Rattle.ref_meaning.specs.Holding.{Holds, NodeStands, TaskFits, ScalarsStand, FramesHold, IsBody}
+use Rattle.ref_meaning.specs.Holding.{IsConsistent, NodeStands, TaskFits, ScalarsStand, FramesHold, IsBody}
 use Rattle.ref_meaning.specs.Doing.{acting}
 use Rattle.ref_meaning.specs.Moving.{Moves, Becomes, Arrives}
 use Rattle.ref_meaning.proofs.Binding.{last-taken, drop-there, get-dropped, get-mapped, bound-types, bound-given}
@@ -111,7 +111,7 @@ body-enters table (N.Designator function) operands body = absurd body
 body-enters table (N.Stmt s) operands body = absurd body
 body-enters table N.Nothing operands body = absurd body
 
-module _ (old : RefRun) (node : memory_node.Node) (count number : ℕ) (is : old.control ≡ record { node = node; task = K.Bind count number }) (holds : Holds old) where
+module _ (old : RefRun) (node : memory_node.Node) (count number : ℕ) (is : old.control ≡ record { node = node; task = K.Bind count number }) (holds : IsConsistent old) where
   abbrev bound : FunctionDef
   bound = function_of (part_in (table_of old) node)
 
@@ -176,7 +176,7 @@ module _ (old : RefRun) (node : memory_node.Node) (count number : ℕ) (is : old
           frames = frames_in (table_of old) old.store.locals.items old.base (sym bind-after i) (stack_of old);
         })
 
-    new-holds : Holds new
+    new-holds : IsConsistent new
     new-holds =
         let came = comes holds.state holds.at in
         alters-holds old new next (stack_of old) alters holds bind-node bind-fits waiting holds.calls came.after
@@ -190,7 +190,7 @@ module _ (old : RefRun) (node : memory_node.Node) (count number : ℕ) (is : old
         (ap give (sym config-bound)) new-holds (comes state at))
 
 -- memory runs out as one gets its value
-pub bind-stays : (old : RefRun) (mid : Store) (eval : Eval Config) (result : Result (Unit {0}) Halt) → IsErrAnd result (λ e. e ≡ H.OutOfMemory) → Holds old → mid.types ≡ old.store.types
+pub bind-stays : (old : RefRun) (mid : Store) (eval : Eval Config) (result : Result (Unit {0}) Halt) → IsErrAnd result (λ e. e ≡ H.OutOfMemory) → IsConsistent old → mid.types ≡ old.store.types
     → mid.locals.items ≡ old.store.locals.items → ((state : State) → At (around_run old) old.store old.base state → At (around_run old) mid old.base state) → Moves old (record old { store = mid }) eval result
 bind-stays old mid eval (Ok done) same holds types locals keeps = absurd same
 bind-stays old mid eval (Err halt) same holds types locals keeps =

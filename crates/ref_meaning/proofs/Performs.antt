@@ -7,7 +7,8 @@ use Rattle.c_typed.specs.declared.statement.ForStart as memory_start
 use Rattle.c_typed.specs.declared.typed.Value as memory_value
 use Rattle.c_typed.specs.Table.{Interned}
 use Rattle.c_typed.specs.Typed.{Stmt}
-use Rattle.c_typed.specs.StatementViews.{stmt_in, StmtStands}
+use Rattle.c_typed.specs.StatementViews.{stmt_in}
+use Rattle.ref_meaning.specs.Trees.{StmtFits}
 use Rattle.ref_semantics.specs.Store.{State, give}
 use Rattle.ref_semantics.specs.Values.{Scalar}
 use Rattle.ref_semantics.specs.Meaning.{is_true}
@@ -24,17 +25,17 @@ use Rattle.ref_meaning.specs.declared.control.Task.TheVariants as K
 use Rattle.ref_meaning.specs.declared.run.Halt.{Halt}
 use Rattle.ref_meaning.specs.declared.run.RefRun.{RefRun}
 use Rattle.ref_meaning.specs.Views.{part_in, given_in, loop_of, case_items_of, behind_body, waiting, table_of, operands_of, around_run, functions_of, config_in}
-use Rattle.ref_meaning.specs.Holding.{Holds, NodeStands, GivenStands, TaskFits, IsLoop, IsSwitch, IsTurning}
+use Rattle.ref_meaning.specs.Holding.{IsConsistent, NodeStands, GivenStands, TaskFits, IsLoop, IsSwitch, IsTurning}
 use Rattle.ref_meaning.specs.Doing.{TakesNone, IsInnermost, popped, taking, turning, beginning_turn}
 use Rattle.ref_meaning.specs.Moving.{Becomes, Moves, Arrives}
 use Rattle.ref_meaning.proofs.Behind.{Behind, popped-behind, pushed-behind, arrives-so, moves-given, moves-enters, WaitsAsLoop, waits-as-loop}
 
-value-behind : (old : RefRun) (top : ℕ) (stmt : Bor memory_stmt.Stmt) → Holds old → TakesNone old.control.task → (on : IsInnermost old top (StmtPart (stmt_in (table_of old) stmt.now)) S.First) → Behind old on.others (popped (config_in old))
+value-behind : (old : RefRun) (top : ℕ) (stmt : Bor memory_stmt.Stmt) → IsConsistent old → TakesNone old.control.task → (on : IsInnermost old top (StmtPart (stmt_in (table_of old) stmt.now)) S.First) → Behind old on.others (popped (config_in old))
 value-behind old top stmt holds free on = popped-behind old (record { node = on.node; stage = S.First }) on.others holds free on.stack tt
 
 pub value-given : (old new : RefRun) (top : ℕ) (stmt : Bor memory_stmt.Stmt) (m : memory_stmt.Stmt) (given : memory_given.Given) (a : Scalar) (result : Result (Unit {0}) Halt) → stmt.now ≡ m
     → (on : IsInnermost old top (StmtPart (stmt_in (table_of old) stmt.now)) S.First) → Becomes old new (record { node = old.control.node; task = K.Give given }) on.others → IsOk result
-    → Holds old → TakesNone old.control.task → GivenStands (table_of old) given
+    → IsConsistent old → TakesNone old.control.task → GivenStands (table_of old) given
     → give (record (popped (config_in old)) { task = steps.Give (given_in (table_of old) given) }) ≡ taking old (waiting (StmtPart (stmt_in (table_of old) m))) (ScalarGiven a)
     → Moves old new (taking old (waiting (StmtPart (stmt_in (table_of old) stmt.now))) (ScalarGiven a)) result
 value-given old new top stmt m given a result is on becomes ok holds free stands so =
@@ -43,7 +44,7 @@ value-given old new top stmt m given a result is on becomes ok holds free stands
 
 pub value-enters : (old new : RefRun) (top : ℕ) (stmt : Bor memory_stmt.Stmt) (m : memory_stmt.Stmt) (node : memory_node.Node) (a : Scalar) (result : Result (Unit {0}) Halt) → stmt.now ≡ m
     → (on : IsInnermost old top (StmtPart (stmt_in (table_of old) stmt.now)) S.First) → Becomes old new (record { node = node; task = K.Enter }) on.others → IsOk result
-    → Holds old → TakesNone old.control.task → NodeStands (table_of old) node → TaskFits (table_of old) node (length (operands_of old)) K.Enter
+    → IsConsistent old → TakesNone old.control.task → NodeStands (table_of old) node → TaskFits (table_of old) node (length (operands_of old)) K.Enter
     → give (record (popped (config_in old)) { task = steps.Enter (part_in (table_of old) node) }) ≡ taking old (waiting (StmtPart (stmt_in (table_of old) m))) (ScalarGiven a)
     → Moves old new (taking old (waiting (StmtPart (stmt_in (table_of old) stmt.now))) (ScalarGiven a)) result
 value-enters old new top stmt m node a result is on becomes ok holds free stands fits so =
@@ -73,7 +74,7 @@ loop-turns old new stmt a result is so moves = subst (λ eval. Moves old new eva
 
 pub loop-ends : (old new : RefRun) (top : ℕ) (stmt : Bor memory_stmt.Stmt) (given : memory_given.Given) (a : Scalar) (result : Result (Unit {0}) Halt) → IsLoop (N.Stmt stmt) → is_true a ≡ false
     → (on : IsInnermost old top (StmtPart (stmt_in (table_of old) stmt.now)) S.First) → Becomes old new (record { node = old.control.node; task = K.Give given }) on.others → IsOk result
-    → Holds old → TakesNone old.control.task → GivenStands (table_of old) given
+    → IsConsistent old → TakesNone old.control.task → GivenStands (table_of old) given
     → give (record (popped (config_in old)) { task = steps.Give (given_in (table_of old) given) }) ≡ give (steps.ask (around_run old) (functions_of old) (loop_of (stmt_in (table_of old) stmt.now)) false (popped (config_in old)))
     → Moves old new (taking old (waiting (StmtPart (stmt_in (table_of old) stmt.now))) (ScalarGiven a)) result
 loop-ends old new top stmt given a result is so on becomes ok holds free stands same =
@@ -88,7 +89,7 @@ chooses old taken otherwise a b so = λ i. give (steps.choose (around_run old) (
 -- a `switch` looks for its label
 pub value-searches : (old mid : RefRun) (top : ℕ) (stmt : Bor memory_stmt.Stmt) (m : memory_stmt.Stmt) (z : ℤ) (a : Scalar) → stmt.now ≡ m
     → (on : IsInnermost old top (StmtPart (stmt_in (table_of old) stmt.now)) S.First) → Becomes old mid old.control (record { node = N.Stmt stmt; stage = S.Turn } ∷ on.others)
-    → Holds old → TakesNone old.control.task → StmtStands (table_of old) stmt.now → IsTurning (N.Stmt (record stmt { now = m })) → IsSwitch (N.Stmt (record stmt { now = m }))
+    → IsConsistent old → TakesNone old.control.task → StmtFits (table_of old) stmt.now → IsTurning (N.Stmt (record stmt { now = m })) → IsSwitch (N.Stmt (record stmt { now = m }))
     → give (record (popped (config_in old)) { task = steps.Search z (case_items_of (stmt_in (table_of old) m)) None; frames = behind_body (StmtPart (stmt_in (table_of old) m)) ∷ (popped (config_in old)).frames })
     ≡ taking old (waiting (StmtPart (stmt_in (table_of old) m))) (ScalarGiven a)
     → (state : State) → At (around_run old) old.store old.base state

@@ -24,11 +24,11 @@ use Rattle.ref_meaning.specs.declared.control.Node as memory_node
 use Rattle.ref_meaning.specs.declared.control.Node.TheVariants as N
 use Rattle.ref_meaning.specs.declared.control.Stage.TheVariants as S
 use Rattle.ref_meaning.specs.declared.control.Task.TheVariants as K
-use Rattle.ref_meaning.specs.declared.control.Way as memory_way
-use Rattle.ref_meaning.specs.declared.control.Way.TheVariants as W
+use Rattle.ref_meaning.specs.declared.control.Completion as memory_completion
+use Rattle.ref_meaning.specs.declared.control.Completion.TheVariants as W
 use Rattle.ref_meaning.specs.declared.run.RefRun.{RefRun}
-use Rattle.ref_meaning.specs.Views.{config_in, around_run, functions_of, table_of, operands_of, part_in, way_in, function_of, own_locals, frames_in}
-use Rattle.ref_meaning.specs.Holding.{Holds, NodeStands, Fits, StageStands, HasRoom, FramesHold, WayStands, IsBody, calls_among}
+use Rattle.ref_meaning.specs.Views.{config_in, around_run, functions_of, table_of, operands_of, part_in, completion_in, function_of, own_locals, frames_in}
+use Rattle.ref_meaning.specs.Holding.{IsConsistent, NodeStands, Fits, StageStands, HasRoom, FramesHold, CompletionStands, IsBody, calls_among}
 use Rattle.ref_meaning.specs.Doing.{TakesNone, IsInnermost, innermost, popped, taking}
 use Rattle.ref_meaning.specs.Moving.{Becomes, Arrives, IsOver}
 use Rattle.ref_meaning.proofs.Moves.{innermost-popped, innermost-hold, innermost-calls, frames-front, same-around}
@@ -37,22 +37,22 @@ use Rattle.ref_meaning.proofs.Turns.{Turns, turns-config, turns-holds}
 -- ---- what is returned
 
 -- what a way gives back
-abbrev pub GivesBack : Interned → memory_way.Way → Option memory_scalar.Scalar → Type 0
-GivesBack table way returned = (given_back (way_in table way) ≡ option_map (scalar_in table) returned) × IfSome returned (ScalarStands table)
+abbrev pub GivesBack : Interned → memory_completion.Completion → Option memory_scalar.Scalar → Type 0
+GivesBack table way returned = (given_back (completion_in table way) ≡ option_map (scalar_in table) returned) × IfSome returned (ScalarStands table)
 
-value-stands : (table : Interned) (value : Option memory_scalar.Scalar) → WayStands table (W.Returned value) → IfSome value (ScalarStands table)
+value-stands : (table : Interned) (value : Option memory_scalar.Scalar) → CompletionStands table (W.Return value) → IfSome value (ScalarStands table)
 value-stands table None stands = tt
 value-stands table (Some a) stands = stands
 
-pub gives-value : (table : Interned) (way : memory_way.Way) (value returned : Option memory_scalar.Scalar) → way ≡ W.Returned value → returned ≡ value → WayStands table way → GivesBack table way returned
+pub gives-value : (table : Interned) (way : memory_completion.Completion) (value returned : Option memory_scalar.Scalar) → way ≡ W.Return value → returned ≡ value → CompletionStands table way → GivesBack table way returned
 gives-value table way value returned is same stands =
-    subst (GivesBack table way) (sym same) (ap (λ w. given_back (way_in table w)) is, value-stands table value (subst (WayStands table) is stands))
+    subst (GivesBack table way) (sym same) (ap (λ w. given_back (completion_in table w)) is, value-stands table value (subst (CompletionStands table) is stands))
 
-pub gives-none : (table : Interned) (way : memory_way.Way) (returned : Option memory_scalar.Scalar) → ((value : Option memory_scalar.Scalar) → way ≡ W.Returned value → ⊥) → returned ≡ None → GivesBack table way returned
-gives-none table W.Onward returned differs same = subst (GivesBack table W.Onward) (sym same) (refl, tt)
-gives-none table W.Broken returned differs same = subst (GivesBack table W.Broken) (sym same) (refl, tt)
-gives-none table W.Continued returned differs same = subst (GivesBack table W.Continued) (sym same) (refl, tt)
-gives-none table (W.Returned value) returned differs same = absurd (differs value refl)
+pub gives-none : (table : Interned) (way : memory_completion.Completion) (returned : Option memory_scalar.Scalar) → ((value : Option memory_scalar.Scalar) → way ≡ W.Return value → ⊥) → returned ≡ None → GivesBack table way returned
+gives-none table W.Normal returned differs same = subst (GivesBack table W.Normal) (sym same) (refl, tt)
+gives-none table W.Break returned differs same = subst (GivesBack table W.Break) (sym same) (refl, tt)
+gives-none table W.Continue returned differs same = subst (GivesBack table W.Continue) (sym same) (refl, tt)
+gives-none table (W.Return value) returned differs same = absurd (differs value refl)
 
 -- what is given back, used as the value of a call of a function with this body
 abbrev pub used_by : Interned → Bool → Pos → memory_node.Node → Option memory_scalar.Scalar → Eval Scalar
@@ -97,7 +97,7 @@ module _ (table : Interned) (is_used : Bool) (here : Pos) (node : memory_node.No
   used-needed other needs = named false other ∙ ap unless_needed needs
 
 -- whether the result is void
-pub is-needed : (run : RefRun) (is_used : Bool) (function : memory_function.FunctionDef) (b : Bool) → Holds run → is_used ≡ true
+pub is-needed : (run : RefRun) (is_used : Bool) (function : memory_function.FunctionDef) (b : Bool) → IsConsistent run → is_used ≡ true
     → b ≡ same_type (type_in run.program.now.types function.returned) (type_in run.program.now.types (record { 0 = 0 })) → needed (table_of run) is_used function ≡ not b
 is-needed run is_used function b holds used same =
     ap (λ u. u && not (is_void (type_in (table_of run) function.returned))) used
@@ -179,10 +179,10 @@ module _ (old : RefRun) (mid : Store) (base : ℕ) (room : base ≤ old.base)
 
 -- ---- a run whose function returns
 
-module _ (old : RefRun) (node : memory_node.Node) (is_used : Bool) (here : Pos) (base : ℕ) (way : memory_way.Way) (top : ℕ) (returned : Option memory_scalar.Scalar) (holds : Holds old) (free : TakesNone old.control.task)
+module _ (old : RefRun) (node : memory_node.Node) (is_used : Bool) (here : Pos) (base : ℕ) (way : memory_completion.Completion) (top : ℕ) (returned : Option memory_scalar.Scalar) (holds : IsConsistent old) (free : TakesNone old.control.task)
     (waits : IsInnermost old top (part_in (table_of old) node) (S.Call is_used here base)) (gives : GivesBack (table_of old) way returned) where
   abbrev returning : Eval Config
-  returning = taking old (innermost old (part_in (table_of old) node) (S.Call is_used here base)) (steps.WayGiven (way_in (table_of old) way))
+  returning = taking old (innermost old (part_in (table_of old) node) (S.Call is_used here base)) (steps.WayGiven (completion_in (table_of old) way))
 
   -- where the value is this
   abbrev by_value : Eval Scalar → Eval Config
@@ -242,7 +242,7 @@ module _ (old : RefRun) (node : memory_node.Node) (is_used : Bool) (here : Pos) 
     new-at : (state : State) → At (around_run old) old.store old.base state → At (around_run old) new.store base (back old base state)
     new-at state at = subst (λ s. At (around_run old) s base (back old base state)) (sym becomes.store) (back-at old mid base room leaves locals state at)
 
-    new-holds : Holds new
+    new-holds : IsConsistent new
     new-holds =
         turns-holds old new _ waits.others (operands_of old) base (old.depth - 1) turns holds holds.node used.1 holds.operands behind.4
         (subst (λ s. base ≤ length s.locals.items) (sym becomes.store) (back-within old mid base room leaves locals holds.within))

@@ -9,7 +9,7 @@ use Rattle.ref_meaning.specs.declared.control.Control.{Control}
 use Rattle.ref_meaning.specs.declared.control.Frame as memory_frame
 use Rattle.ref_meaning.specs.declared.run.RefRun.{RefRun}
 use Rattle.ref_meaning.specs.Views.{config_in, around_run, table_of, operands_of, stack_of, operands_after, part_in, task_in, frames_in}
-use Rattle.ref_meaning.specs.Holding.{Holds, NodeStands, TaskFits, FramesHold, ScalarsStand, calls_among}
+use Rattle.ref_meaning.specs.Holding.{IsConsistent, NodeStands, TaskFits, FramesHold, ScalarsStand, calls_among}
 use Rattle.ref_meaning.specs.Moving.{IsKept, Arrives}
 use Rattle.ref_meaning.proofs.Moves.{kept-holds, same-around, at-new}
 
@@ -35,9 +35,9 @@ module _ (old new : RefRun) (next : Control) (frames : List memory_frame.Frame) 
     depth = greatest_depth - turns.nested i;
   }
 
-  pub turns-holds : Holds old → NodeStands (table_of old) next.node → TaskFits (table_of old) next.node (length operands) next.task → ScalarsStand (table_of old) operands
+  pub turns-holds : IsConsistent old → NodeStands (table_of old) next.node → TaskFits (table_of old) next.node (length operands) next.task → ScalarsStand (table_of old) operands
       → FramesHold (table_of old) base (operands_after next.task operands) frames → base ≤ length new.store.locals.items → depth ≡ calls_among frames → depth ≤ greatest_depth
-      → (state : State) → At (around_run old) new.store base state → Holds new
+      → (state : State) → At (around_run old) new.store base state → IsConsistent new
   turns-holds holds node task scalars waiting within calls shallow state at =
       kept-holds old new turns.kept turns.types holds
       (subst (λ t. NodeStands t.now new.control.node) (sym turns.types) (subst (λ c. NodeStands (table_of old) c.node) (sym turns.control) node))
@@ -57,7 +57,7 @@ module _ (old new : RefRun) (next : Control) (frames : List memory_frame.Frame) 
       (subst (λ around. At around new.store new.base state) (sym (same-around old new turns.kept)) (subst (λ b. At (around_run old) new.store b state) (sym turns.based) at))
 
 -- with the store as it is
-pub still-arrives : (old new : RefRun) (config : Config) → IsKept old new → new.store ≡ old.store → new.base ≡ old.base → config_in new ≡ config → Holds new
+pub still-arrives : (old new : RefRun) (config : Config) → IsKept old new → new.store ≡ old.store → new.base ≡ old.base → config_in new ≡ config → IsConsistent new
     → (state : State) → At (around_run old) old.store old.base state → Arrives new (give config) state
 still-arrives old new config kept store base is holds state at = record {
   after = state;

@@ -5,7 +5,7 @@ use Rattle.c_typed.specs.declared.typed.Value.TheVariants as V
 use Rattle.c_typed.specs.Typed as T
 use Rattle.c_typed.specs.Typed.{Stmt}
 use Rattle.c_typed.specs.Table.{Interned}
-use Rattle.c_typed.specs.Views.{ValueStands}
+use Rattle.ref_meaning.specs.Trees.{ValueFits}
 use Rattle.ref_semantics.specs.Store.{TypeEnvironment, Eval, give}
 use Rattle.ref_steps.specs.Parts as parts
 use Rattle.ref_steps.specs.Parts.{Part, ValuePart, Next, Comes, Enters, Role, entry_of}
@@ -55,7 +55,7 @@ next_in table (X.Enter part role) = Enters (value_of (part_in table part)) (role
 -- what is entered is an expression for its value
 abbrev pub NextStands : Interned → memory_next.Next → Type 0
 NextStands table (X.Given a) = ScalarStands table a
-NextStands table (X.Enter (N.Value v) role) = ValueStands table v.now
+NextStands table (X.Enter (N.Value v) role) = ValueFits table v.now
 NextStands table (X.Enter _ role) = ⊥
 
 abbrev pub IsAssignment : T.Value → Type 0

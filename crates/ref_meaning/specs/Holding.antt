@@ -6,9 +6,7 @@ use Rattle.c_typed.specs.declared.typed.Value as memory_value
 use Rattle.c_typed.specs.declared.statement.Stmt as memory_stmt
 use Rattle.c_typed.specs.declared.statement.Stmt.TheVariants as M
 use Rattle.c_typed.specs.Table.{Interned}
-use Rattle.c_typed.specs.Views.{ValueStands, ObjectStands, DesignatorStands}
-use Rattle.c_typed.specs.StatementViews.{StmtStands}
-use Rattle.c_typed.specs.DefinitionViews.{FunctionStands, ProgramStands}
+use Rattle.ref_meaning.specs.Trees.{ValueFits, ObjectFits, DesignatorFits, StmtFits, FunctionFits, ProgramFits}
 use Rattle.ref_semantics.specs.Meaning.{function_from, greatest_depth}
 use Rattle.ref_semantics.specs.Store.{State}
 use Rattle.ref_store.specs.declared.value.Scalar as memory_scalar
@@ -16,8 +14,8 @@ use Rattle.ref_store.specs.Views.{ScalarStands, PlaceStands}
 use Rattle.ref_store.specs.Holding.{At}
 use Rattle.ref_meaning.specs.declared.control.Node as memory_node
 use Rattle.ref_meaning.specs.declared.control.Node.TheVariants as N
-use Rattle.ref_meaning.specs.declared.control.Way as memory_way
-use Rattle.ref_meaning.specs.declared.control.Way.TheVariants as W
+use Rattle.ref_meaning.specs.declared.control.Completion as memory_completion
+use Rattle.ref_meaning.specs.declared.control.Completion.TheVariants as W
 use Rattle.ref_meaning.specs.declared.control.Given as memory_given
 use Rattle.ref_meaning.specs.declared.control.Given.TheVariants as G
 use Rattle.ref_meaning.specs.declared.control.Stage as memory_stage
@@ -31,21 +29,21 @@ use Rattle.ref_meaning.specs.Views.{table_of, operands_of, stack_of, around_run,
 -- ---- types stand
 
 abbrev pub NodeStands : Interned → memory_node.Node → Type 0
-NodeStands table (N.Value v) = ValueStands table v.now
-NodeStands table (N.Object object) = ObjectStands table object.now
-NodeStands table (N.Address object) = ObjectStands table object.now
-NodeStands table (N.Designator function) = DesignatorStands table function.now
-NodeStands table (N.Stmt s) = StmtStands table s.now
-NodeStands table (N.Body function) = FunctionStands table function.now
+NodeStands table (N.Value v) = ValueFits table v.now
+NodeStands table (N.Object object) = ObjectFits table object.now
+NodeStands table (N.Address object) = ObjectFits table object.now
+NodeStands table (N.Designator function) = DesignatorFits table function.now
+NodeStands table (N.Stmt s) = StmtFits table s.now
+NodeStands table (N.Body function) = FunctionFits table function.now
 NodeStands table N.Nothing = Unit {0}
 
-abbrev pub WayStands : Interned → memory_way.Way → Type 0
-WayStands table (W.Returned (Some value)) = ScalarStands table value
-WayStands table _ = Unit {0}
+abbrev pub CompletionStands : Interned → memory_completion.Completion → Type 0
+CompletionStands table (W.Return (Some value)) = ScalarStands table value
+CompletionStands table _ = Unit {0}
 
 abbrev pub GivenStands : Interned → memory_given.Given → Type 0
 GivenStands table (G.Scalar a) = ScalarStands table a
-GivenStands table (G.Way way) = WayStands table way
+GivenStands table (G.Completion way) = CompletionStands table way
 
 abbrev pub ScalarsStand : Interned → List memory_scalar.Scalar → Type 0
 ScalarsStand table [] = Unit {0}
@@ -174,8 +172,8 @@ TaskFits table node operands (K.Over final) = Unit {0}
 abbrev pub AreNumbered : RefRun → Type 0
 AreNumbered run = (name : List ℕ) → get_by (λ key. bytes_eq name key.now) run.functions ≡ option_map (λ found. found.0) (function_from 0 (functions_of run) name)
 
-pub record Holds (run : RefRun) : Type 0 where
-  pub program : ProgramStands run.program.now
+pub record IsConsistent (run : RefRun) : Type 0 where
+  pub program : ProgramFits run.program.now
   pub types : run.store.types.now ≡ run.program.now.types
   pub numbered : AreNumbered run
   pub main : run.main ≡ option_map (λ found. found.0) (function_from 0 (functions_of run) (codes "main"))

@@ -11,7 +11,8 @@ use Rattle.c_typed.specs.declared.statement.SwitchItem.TheVariants as W
 use Rattle.c_typed.specs.Typed as T
 use Rattle.c_typed.specs.Typed.{Block, SwitchItems, LocalDef, ForStart, Stmt}
 use Rattle.c_typed.specs.Table.{Interned}
-use Rattle.c_typed.specs.StatementViews.{stmt_in, StmtStands, local_in, LocalStands}
+use Rattle.c_typed.specs.StatementViews.{stmt_in, local_in}
+use Rattle.ref_meaning.specs.Trees.{StmtFits, LocalFits}
 use Rattle.ref_semantics.specs.Store.{Eval, give}
 use Rattle.ref_steps.specs.Parts.{Part, StmtPart, BodyPart}
 use Rattle.ref_steps.specs.Steps as steps
@@ -42,13 +43,13 @@ start_of (T.For begin condition step body) = begin
 start_of s = T.StartNothing
 
 abbrev pub ThisItem : Interned → ℕ → Block → memory_item.BlockItem → Type 0
-ThisItem table number items (B.Local local) = (items_from number items ≡ T.Declare (local_in table local) (items_from (suc number) items)) × LocalStands table local
-ThisItem table number items (B.Statement stmt) = (items_from number items ≡ T.Perform (stmt_in table stmt) (items_from (suc number) items)) × StmtStands table stmt
+ThisItem table number items (B.Local local) = (items_from number items ≡ T.Declare (local_in table local) (items_from (suc number) items)) × LocalFits table local
+ThisItem table number items (B.Statement stmt) = (items_from number items ≡ T.Perform (stmt_in table stmt) (items_from (suc number) items)) × StmtFits table stmt
 
 abbrev pub ThisCaseItem : Interned → ℕ → SwitchItems → memory_switch.SwitchItem → Type 0
 ThisCaseItem table number items (W.Case label) = case_items_from number items ≡ T.Case label (case_items_from (suc number) items)
 ThisCaseItem table number items W.Default = case_items_from number items ≡ T.Default (case_items_from (suc number) items)
-ThisCaseItem table number items (W.Statement stmt) = (case_items_from number items ≡ T.SwitchStmt (stmt_in table stmt) (case_items_from (suc number) items)) × StmtStands table stmt
+ThisCaseItem table number items (W.Statement stmt) = (case_items_from number items ≡ T.SwitchStmt (stmt_in table stmt) (case_items_from (suc number) items)) × StmtFits table stmt
 
 -- ---- what is found under a number
 
@@ -62,7 +63,7 @@ CaseItemIs table number items (Some item) = ThisCaseItem table number items item
 
 abbrev pub StartLocalIs : Interned → ℕ → List LocalDef → Option (Bor memory_local.LocalDef) → Type 0
 StartLocalIs table number locals None = drop number locals ≡ []
-StartLocalIs table number locals (Some local) = (drop number locals ≡ local_in table local.now ∷ drop (suc number) locals) × LocalStands table local.now × (suc number < 2 ^ 64)
+StartLocalIs table number locals (Some local) = (drop number locals ≡ local_in table local.now ∷ drop (suc number) locals) × LocalFits table local.now × (suc number < 2 ^ 64)
 
 -- ---- a local begins to live, while this waits
 

@@ -13,7 +13,7 @@ use Rattle.ref_meaning.specs.declared.run.RefRun.{RefRun}
 use Rattle.ref_meaning.specs.declared.run.Halt.{Halt}
 use Rattle.ref_meaning.specs.declared.run.Halt.TheVariants as H
 use Rattle.ref_meaning.specs.Views.{config_in, around_run, stack_of, final_of}
-use Rattle.ref_meaning.specs.Holding.{Holds}
+use Rattle.ref_meaning.specs.Holding.{IsConsistent}
 
 abbrev pub halt_of : Stop → Halt
 halt_of (T.Undefined kind place) = H.Final (F.Undefined kind place)
@@ -52,13 +52,13 @@ pub record Arrives (new : RefRun) (eval : Eval Config) (state : State) : Type 0 
   pub does : EvaluatesTo eval state (config_in new) after
   pub at : At (around_run new) new.store new.base after
   pub quiet : output_of after.trace ≡ output_of state.trace
-  pub holds : Holds new
+  pub holds : IsConsistent new
 
 -- what stands where memory ran out
 pub record Stays (old new : RefRun) : Type 0 where
   pub same : config_in new ≡ config_in old
   pub at : (state : State) → At (around_run old) old.store old.base state → At (around_run new) new.store new.base state
-  pub holds : Holds new
+  pub holds : IsConsistent new
 
 -- A part of a step, that neither reads nor writes, does what an evaluation does; where memory runs out, nothing is done.
 abbrev pub Moves : {A : Type 0} → RefRun → RefRun → Eval Config → Result A Halt → Type 0
@@ -85,7 +85,7 @@ pub record ArrivesTold (new : RefRun) (eval : Eval Config) (base input : List �
   pub does : (units : ℕ) → eval (left units input state) ≡ Then (config_in new) (left units rest after)
   pub at : At (around_run new) new.store new.base after
   pub told : IsTold base rest after is_left written
-  pub holds : Holds new
+  pub holds : IsConsistent new
 
 pub record IsOverTold (eval : Eval Config) (base input : List ℕ) (state : State) (final : Final) (is_left written : Option (List ℕ)) : Type 0 where
   pub there : State

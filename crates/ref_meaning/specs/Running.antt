@@ -18,7 +18,7 @@ use Rattle.ref_meaning.specs.declared.control.Final.TheVariants as F
 use Rattle.ref_meaning.specs.declared.control.Task as memory_task
 use Rattle.ref_meaning.specs.declared.control.Task.TheVariants as K
 use Rattle.ref_meaning.specs.Views.{config_in, around_run, functions_of}
-use Rattle.ref_meaning.specs.Holding.{Holds}
+use Rattle.ref_meaning.specs.Holding.{IsConsistent}
 
 -- where a program stands after so many units, or at its end: its answer, and what it leaves of the input
 pub record Reached : Type 0 where
@@ -46,7 +46,7 @@ answers run state input units = reached (goes_on (around_run run) (functions_of 
 
 -- A run stands for what it will do: with each input and each number of further units it comes to this. So much is written before it.
 pub record StandsFor (run : RefRun) (written : List ℕ) (behaviour : Behaviour) : Type 0 where
-  pub holds : Holds run
+  pub holds : IsConsistent run
   pub state : State
   pub at : At (around_run run) run.store run.base state
   pub front : output_of state.trace ≡ written
@@ -113,8 +113,8 @@ end_in (K.Over final) = Some final
 end_in _ = None
 
 -- It holds, or it is over: of what is done once something is undefined, nothing is known.
-abbrev pub HoldsUnlessOver : RefRun → Type 0
-HoldsUnlessOver run = end_in run.control.task ≡ None → Holds run
+abbrev pub IsConsistentUnlessOver : RefRun → Type 0
+IsConsistentUnlessOver run = end_in run.control.task ≡ None → IsConsistent run
 
 abbrev pub answer_of : memory_final.Final → RefEnd
 answer_of (F.Ended status) = E.Ended status

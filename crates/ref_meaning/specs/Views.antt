@@ -20,8 +20,8 @@ use Rattle.ref_store.specs.Views.{name_of, scalar_in, place_in}
 use Rattle.ref_store.specs.declared.value.Scalar as memory_scalar
 use Rattle.ref_meaning.specs.declared.control.Node as memory_node
 use Rattle.ref_meaning.specs.declared.control.Node.TheVariants as N
-use Rattle.ref_meaning.specs.declared.control.Way as memory_way
-use Rattle.ref_meaning.specs.declared.control.Way.TheVariants as W
+use Rattle.ref_meaning.specs.declared.control.Completion as memory_completion
+use Rattle.ref_meaning.specs.declared.control.Completion.TheVariants as W
 use Rattle.ref_meaning.specs.declared.control.Given as memory_given
 use Rattle.ref_meaning.specs.declared.control.Given.TheVariants as G
 use Rattle.ref_meaning.specs.declared.control.Stage as memory_stage
@@ -58,15 +58,15 @@ entry_in table (E.Enter part true) = Awaits (part_in table part)
 entry_in table (E.Enter part false) = Becomes (part_in table part)
 entry_in table (E.Library groups) = CallsLibrary groups
 
-abbrev pub way_in : Interned → memory_way.Way → Completion
-way_in table W.Onward = Normal
-way_in table W.Broken = Break
-way_in table W.Continued = Continue
-way_in table (W.Returned value) = Return (option_map (scalar_in table) value)
+abbrev pub completion_in : Interned → memory_completion.Completion → Completion
+completion_in table W.Normal = Normal
+completion_in table W.Break = Break
+completion_in table W.Continue = Continue
+completion_in table (W.Return value) = Return (option_map (scalar_in table) value)
 
 abbrev pub given_in : Interned → memory_given.Given → Given
 given_in table (G.Scalar a) = ScalarGiven (scalar_in table a)
-given_in table (G.Way way) = WayGiven (way_in table way)
+given_in table (G.Completion way) = WayGiven (completion_in table way)
 
 abbrev pub final_of : memory_final.Final → Final
 final_of (F.Ended status) = Runs.Ended status

@@ -4,27 +4,29 @@ ghost use Rattle.std.specs.Prelude.{◌≡◌, ◌≢◌, ◌≤◌, ℕ, suc, L
 ghost use Rattle.pcc_outside.specs.Outside.{Rose};
 ghost use Rattle.c_typed.specs.Types.{same_type};
 ghost use Rattle.c_typed.specs.Table.{Interned, Stands, type_in};
-ghost use Rattle.c_typed.specs.Views.{value_in, ValueStands, values_in, ValuesStand};
-ghost use Rattle.c_typed.specs.DefinitionViews.{function_in, FunctionStands};
+ghost use Rattle.c_typed.specs.Views.{value_in, values_in};
+ghost use Rattle.c_typed.specs.DefinitionViews.{function_in};
+ghost use Rattle.ref_meaning.specs.Trees.{ValueFits, ValuesFit, FunctionFits};
 ghost use Rattle.ref_semantics.specs.First.{main_type};
 ghost use Rattle.ref_semantics.specs.Library as rules;
 ghost use Rattle.ref_semantics.specs.Library.{library};
 ghost use Rattle.ref_semantics.specs.Values as values;
 ghost use Rattle.ref_steps.specs.Steps as steps;
 ghost use Rattle.ref_steps.specs.Steps.{ScalarGiven, WayGiven};
+ghost use Rattle.ref_store.specs.Fitting.{IsObjectType};
 ghost use Rattle.ref_store.specs.Views.{scalar_in, ScalarStands};
 ghost use Rattle.ref_meaning.specs.Promises.{part_seen, scalar_seen, newest_seen};
 ghost use Rattle.ref_meaning.specs.declared.control.Frame as memory_frame;
 ghost use Rattle.ref_meaning.specs.declared.control.Stage.TheVariants as S;
 ghost use Rattle.ref_meaning.specs.declared.control.Task.TheVariants as K;
 ghost use Rattle.ref_meaning.specs.declared.run.Halt.TheVariants as Halts;
-ghost use Rattle.ref_meaning.specs.Views.{table_of, part_in, way_in, waiting, arguments_of, arguments_from, newest, operands_of, operands_after, stack_of, around_run, functions_of, function_of, config_in};
-ghost use Rattle.ref_meaning.specs.Holding.{Holds, NodeStands, WayStands, IsCall, IsBody};
+ghost use Rattle.ref_meaning.specs.Views.{table_of, part_in, completion_in, waiting, arguments_of, arguments_from, newest, operands_of, operands_after, stack_of, around_run, functions_of, function_of, config_in};
+ghost use Rattle.ref_meaning.specs.Holding.{IsConsistent, NodeStands, CompletionStands, IsCall, IsBody};
 ghost use Rattle.ref_meaning.specs.Doing.{TakesNone, IsOwnCall, IsInnermost, innermost, taking, acting};
 ghost use Rattle.ref_meaning.specs.Moving.{Moves, Acts, IsKept, Becomes};
 ghost use Rattle.ref_meaning.specs.Calling.{is_own_call, IsArgument, OptionalNode, arguments_in, GoesOn, Evaluates, IsStored, Remains, only_of};
 
-use crate::control::{Control, Final, Frame, Given, Node, Stage, Task, Way};
+use crate::control::{Completion, Control, Final, Frame, Given, Node, Stage, Task};
 use crate::outside::{next_byte, write_byte};
 use crate::run::{GREATEST_DEPTH, Halt, RefRun};
 use c_num::IntType;
@@ -57,7 +59,7 @@ fn argument(call: Node<'_>, number: usize) -> Option<Node<'_>>
 
 fn argument_of(value: &Value, number: usize) -> Option<Node<'_>>
     ensures is { (table : Interned) → IsArgument table (arguments_from number (arguments_of (value_in table value.now))) result }
-    ensures stands { (table : Interned) → ValueStands table value.now → OptionalNode table result }
+    ensures stands { (table : Interned) → ValueFits table value.now → OptionalNode table result }
 {
     match value {
         Value::Call { arguments, .. } => numbered(arguments, number),
@@ -68,7 +70,7 @@ fn argument_of(value: &Value, number: usize) -> Option<Node<'_>>
 
 fn numbered(arguments: &[Value], number: usize) -> Option<Node<'_>>
     ensures is { (table : Interned) → IsArgument table (arguments_from number (values_in table arguments.now)) result }
-    ensures stands { (table : Interned) → ValuesStand table arguments.now → OptionalNode table result }
+    ensures stands { (table : Interned) → ValuesFit table arguments.now → OptionalNode table result }
 {
     match arguments.get(number) {
         Some(argument) => Some(Node::Value(argument)),
@@ -79,7 +81,7 @@ fn numbered(arguments: &[Value], number: usize) -> Option<Node<'_>>
 impl<'a> RefRun<'a> {
     /// Calls `main` (C17 5.1.2.2.1).
     pub(crate) fn start(&mut self) -> Result<(), Halt>
-        requires holds { Holds self.old }
+        requires holds { IsConsistent self.old }
         requires task { self.old.control.task ≡ K.Start }
         ensures moves { Moves self.old self.new (acting self.old) result }
         ensures kept { IsKept self.old self.new }
@@ -114,7 +116,7 @@ impl<'a> RefRun<'a> {
 
     /// The name of a library function, and the parentheses around it, are entered.
     pub(crate) fn library(&mut self, call: Node<'a>, groups: usize) -> Result<(), Halt>
-        requires holds { Holds self.old }
+        requires holds { IsConsistent self.old }
         requires control { self.old.control ≡ record { node = call; task = K.Library groups } }
         ensures moves { Moves self.old self.new (acting self.old) result }
         ensures kept { IsKept self.old self.new }
@@ -149,7 +151,7 @@ impl<'a> RefRun<'a> {
         call: Node<'a>,
         function: Scalar<'a>,
     ) -> Result<(), Halt>
-        requires holds { Holds self.old }
+        requires holds { IsConsistent self.old }
         requires free { TakesNone self.old.control.task }
         requires call { IsOwnCall call }
         requires node { NodeStands (table_of self.old) call }
@@ -171,7 +173,7 @@ impl<'a> RefRun<'a> {
         count: usize,
         argument: Scalar<'a>,
     ) -> Result<(), Halt>
-        requires holds { Holds self.old }
+        requires holds { IsConsistent self.old }
         requires free { TakesNone self.old.control.task }
         requires node { NodeStands (table_of self.old) call }
         requires function { ScalarStands (table_of self.old) function }
@@ -223,9 +225,9 @@ impl<'a> RefRun<'a> {
         input: &mut I,
         out: &mut O,
     ) -> Result<(), Halt>
-        requires holds { Holds self.old }
+        requires holds { IsConsistent self.old }
         requires control { self.old.control ≡ record { node = call; task = K.Apply function count } }
-        ensures holds { OnOk result (Holds self.new) }
+        ensures holds { OnOk result (IsConsistent self.new) }
         ensures acts { Acts self.old self.new (acting self.old) result (I.left input.old) (O.written out.old) (I.left input.new) (O.written out.new) }
         ensures kept { IsKept self.old self.new }
         ensures read_cause { result ≡ Err Halts.ReadFault → Rose (I.faults input.old) (I.faults input.new) }
@@ -267,7 +269,7 @@ impl<'a> RefRun<'a> {
         function: Scalar<'a>,
         count: usize,
     ) -> Result<(), Halt>
-        requires holds { Holds self.old }
+        requires holds { IsConsistent self.old }
         requires task { self.old.control.task ≡ K.Apply function count }
         requires c_type { Stands (table_of self.old) c_type }
         ensures moves { Moves self.old self.new (steps.make_call (around_run self.old) (functions_of self.old) is_used place
@@ -300,8 +302,8 @@ impl<'a> RefRun<'a> {
         function: &'a FunctionDef,
         count: usize,
     ) -> Result<(), Halt>
-        requires holds { Holds self.old }
-        requires function { FunctionStands (table_of self.old) function.now }
+        requires holds { IsConsistent self.old }
+        requires function { FunctionFits (table_of self.old) function.now }
         requires there { count ≤ length (operands_of self.old) }
         requires operands { operands_after self.old.control.task (operands_of self.old) ≡ drop count (operands_of self.old) }
         ensures moves { (number : ℕ) → Moves self.old self.new
@@ -332,7 +334,7 @@ impl<'a> RefRun<'a> {
 
     /// A parameter gets its value (C17 6.9.1 paragraph 10).
     pub(crate) fn bind(&mut self, node: Node<'a>, count: usize, number: usize) -> Result<(), Halt>
-        requires holds { Holds self.old }
+        requires holds { IsConsistent self.old }
         requires control { self.old.control ≡ record { node = node; task = K.Bind count number } }
         ensures moves { Moves self.old self.new (acting self.old) result }
         ensures kept { IsKept self.old self.new }
@@ -360,20 +362,20 @@ impl<'a> RefRun<'a> {
         is_used: bool,
         place: Pos,
         base: usize,
-        way: Way<'a>,
+        way: Completion<'a>,
     ) -> Result<(), Halt>
-        requires holds { Holds self.old }
+        requires holds { IsConsistent self.old }
         requires free { TakesNone self.old.control.task }
         requires node { NodeStands (table_of self.old) node }
         requires body { IsBody node }
-        requires way { WayStands (table_of self.old) way }
+        requires way { CompletionStands (table_of self.old) way }
         requires innermost { (top : ℕ) × IsInnermost self.old top (part_in (table_of self.old) node) (S.Call is_used place base) }
         ensures moves { Moves self.old self.new (taking self.old (innermost self.old (part_seen self.old node.entry) (S.Call is_used place base))
-            (WayGiven (way_in (table_of self.old) way.entry))) result }
+            (WayGiven (completion_in (table_of self.old) way.entry))) result }
         ensures kept { IsKept self.old self.new }
     {
         let returned = match way {
-            Way::Returned(value) => value,
+            Completion::Return(value) => value,
             _ => None,
         };
         let value = match returned {
@@ -406,7 +408,7 @@ impl<'a> RefRun<'a> {
         input: &mut I,
         out: &mut O,
     ) -> Result<Scalar<'a>, Halt>
-        requires holds { Holds self.old }
+        requires holds { IsConsistent self.old }
         requires there { count ≤ length (operands_of self.old) }
         ensures evaluates { Evaluates self.old self.new (library (around_run self.old) function place (newest_seen self.old count)) result (I.left input.old)
             (O.written out.old) (I.left input.new) (O.written out.new) }
@@ -428,7 +430,7 @@ impl<'a> RefRun<'a> {
 
     /// The argument of a call that has no other.
     fn only_argument(&self, count: usize) -> Option<Scalar<'a>>
-        requires holds { Holds self.now }
+        requires holds { IsConsistent self.now }
         requires there { count ≤ length (operands_of self.now) }
         ensures is { option_map (scalar_in (table_of self.now)) result ≡ only_of (newest (table_of self.now) count (operands_of self.now)) }
         ensures stands { IfSome result (ScalarStands (table_of self.now)) }
@@ -519,7 +521,7 @@ fn low_byte(value: Scalar<'_>) -> u8
 fn parameter(body: Node<'_>, number: usize) -> Option<CType>
     ensures is { (table : Interned) → IsBody body.entry → option_map (type_in table) result
         ≡ slice_get (function_of (part_in table body.entry)).parameters number }
-    ensures stands { (table : Interned) → NodeStands table body.entry → IfSome result (Stands table) }
+    ensures stands { (table : Interned) → NodeStands table body.entry → IfSome result (IsObjectType table) }
 {
     match body {
         Node::Body(function) => function.parameters.get(number).copied(),

@@ -5,8 +5,8 @@ ghost use Rattle.c_typed.specs.Table.{Interned};
 ghost use Rattle.ref_semantics.specs.Meaning as meaning;
 ghost use Rattle.ref_steps.specs.Steps as steps;
 ghost use Rattle.ref_store.specs.Views.{scalar_in, ScalarStands};
-ghost use Rattle.ref_meaning.specs.Views.{way_in, given_in};
-ghost use Rattle.ref_meaning.specs.Holding.{WayStands, GivenStands};
+ghost use Rattle.ref_meaning.specs.Views.{completion_in, given_in};
+ghost use Rattle.ref_meaning.specs.Holding.{CompletionStands, GivenStands};
 
 use c_typed::{Designator, FunctionDef, Object, Stmt, Value};
 use ref_store::{Place, Scalar};
@@ -28,23 +28,23 @@ pub(crate) enum Node<'a> {
 
 /// How a statement ends.
 #[derive(Clone, Copy)]
-pub(crate) enum Way<'a> {
-    Onward,
-    Broken,
-    Continued,
-    Returned(Option<Scalar<'a>>),
+pub(crate) enum Completion<'a> {
+    Normal,
+    Break,
+    Continue,
+    Return(Option<Scalar<'a>>),
 }
 
-impl<'a> Way<'a> {
+impl<'a> Completion<'a> {
     /// How a loop ends after its body, unless it goes on.
-    pub(crate) fn after_body(self) -> Option<Way<'a>>
-        ensures means { (table : Interned) → option_map (way_in table) result ≡ meaning.after_body (way_in table self.entry) }
-        ensures stands { (table : Interned) → WayStands table self.entry → IfSome result (WayStands table) }
+    pub(crate) fn after_body(self) -> Option<Completion<'a>>
+        ensures means { (table : Interned) → option_map (completion_in table) result ≡ meaning.after_body (completion_in table self.entry) }
+        ensures stands { (table : Interned) → CompletionStands table self.entry → IfSome result (CompletionStands table) }
     {
         match self {
-            Way::Onward | Way::Continued => None,
-            Way::Broken => Some(Way::Onward),
-            Way::Returned(value) => Some(Way::Returned(value)),
+            Completion::Normal | Completion::Continue => None,
+            Completion::Break => Some(Completion::Normal),
+            Completion::Return(value) => Some(Completion::Return(value)),
         }
     }
 }
@@ -53,7 +53,7 @@ impl<'a> Way<'a> {
 #[derive(Clone, Copy)]
 pub(crate) enum Given<'a> {
     Scalar(Scalar<'a>),
-    Way(Way<'a>),
+    Completion(Completion<'a>),
 }
 
 impl<'a> Given<'a> {
@@ -63,17 +63,17 @@ impl<'a> Given<'a> {
     {
         match self {
             Given::Scalar(value) => value,
-            Given::Way(_) => Scalar::Null,
+            Given::Completion(_) => Scalar::Null,
         }
     }
 
-    pub(crate) fn way(self) -> Way<'a>
-        ensures means { (table : Interned) → way_in table result ≡ steps.way_of (given_in table self.entry) }
-        ensures stands { (table : Interned) → GivenStands table self.entry → WayStands table result }
+    pub(crate) fn way(self) -> Completion<'a>
+        ensures means { (table : Interned) → completion_in table result ≡ steps.way_of (given_in table self.entry) }
+        ensures stands { (table : Interned) → GivenStands table self.entry → CompletionStands table result }
     {
         match self {
-            Given::Scalar(_) => Way::Onward,
-            Given::Way(way) => way,
+            Given::Scalar(_) => Completion::Normal,
+            Given::Completion(way) => way,
         }
     }
 }

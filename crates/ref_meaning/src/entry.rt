@@ -2,7 +2,8 @@
 
 ghost use Rattle.std.specs.Prelude.{◌≡◌, true, false};
 ghost use Rattle.c_typed.specs.Table.{Interned};
-ghost use Rattle.c_typed.specs.Views.{value_in, object_in, designator_in, ValueStands, ObjectStands, DesignatorStands};
+ghost use Rattle.c_typed.specs.Views.{value_in, object_in, designator_in};
+ghost use Rattle.ref_meaning.specs.Trees.{ValueFits, ObjectFits, DesignatorFits};
 ghost use Rattle.ref_steps.specs.Parts as parts;
 ghost use Rattle.ref_meaning.specs.declared.control.Node as memory_node;
 ghost use Rattle.ref_meaning.specs.declared.control.Node.TheVariants as N;
@@ -83,7 +84,7 @@ fn waits(part: Node<'_>) -> Entry<'_>
 
 fn value_entry(value: &Value) -> Entry<'_>
     ensures means { (table : Interned) → entry_in table result ≡ parts.value_entry (value_in table value.now) }
-    ensures stands { (table : Interned) → ValueStands table value.now → EntryStands table (N.Value value.entry) result }
+    ensures stands { (table : Interned) → ValueFits table value.now → EntryStands table (N.Value value.entry) result }
 {
     match value {
         Value::Constant { value, .. } => Entry::Give(Scalar::Integer(*value)),
@@ -104,7 +105,7 @@ fn value_entry(value: &Value) -> Entry<'_>
 fn operand_entry(value: &Value) -> Entry<'_>
     ensures means { (table : Interned) → IsAwaited (parts.value_entry (value_in table value.now))
         → entry_in table result ≡ parts.value_entry (value_in table value.now) }
-    ensures stands { (table : Interned) (node : memory_node.Node) → ValueStands table value.now → EntryStands table node result }
+    ensures stands { (table : Interned) (node : memory_node.Node) → ValueFits table value.now → EntryStands table node result }
 {
     waits(match value {
         Value::Read { object, .. } => Node::Object(&**object),
@@ -137,8 +138,8 @@ fn operand_entry(value: &Value) -> Entry<'_>
 }
 
 fn object_entry(object: &Object) -> Entry<'_>
-    ensures means { (table : Interned) → ObjectStands table object.now → entry_in table result ≡ parts.object_entry (object_in table object.now) }
-    ensures stands { (table : Interned) (node : memory_node.Node) → ObjectStands table object.now → EntryStands table node result }
+    ensures means { (table : Interned) → ObjectFits table object.now → entry_in table result ≡ parts.object_entry (object_in table object.now) }
+    ensures stands { (table : Interned) (node : memory_node.Node) → ObjectFits table object.now → EntryStands table node result }
 {
     match object {
         Object::Local(number) => Entry::Local(*number),
@@ -161,8 +162,8 @@ fn object_entry(object: &Object) -> Entry<'_>
 }
 
 fn address_entry(object: &Object) -> Entry<'_>
-    ensures means { (table : Interned) → ObjectStands table object.now → entry_in table result ≡ parts.address_entry (object_in table object.now) }
-    ensures stands { (table : Interned) (node : memory_node.Node) → ObjectStands table object.now → EntryStands table node result }
+    ensures means { (table : Interned) → ObjectFits table object.now → entry_in table result ≡ parts.address_entry (object_in table object.now) }
+    ensures stands { (table : Interned) (node : memory_node.Node) → ObjectFits table object.now → EntryStands table node result }
 {
     match object {
         Object::Pointed { pointer, .. } => into(Node::Value(&**pointer)),
@@ -173,7 +174,7 @@ fn address_entry(object: &Object) -> Entry<'_>
 
 fn designator_entry(designator: &Designator) -> Entry<'_>
     ensures means { (table : Interned) → entry_in table result ≡ parts.designator_entry (designator_in table designator.now) }
-    ensures stands { (table : Interned) (node : memory_node.Node) → DesignatorStands table designator.now → EntryStands table node result }
+    ensures stands { (table : Interned) (node : memory_node.Node) → DesignatorFits table designator.now → EntryStands table node result }
 {
     match designator {
         Designator::Named(name) => Entry::Give(Scalar::Function(name.as_slice())),

@@ -1,14 +1,17 @@
 // What an expression does once its first operand is known.
 
-ghost use Rattle.std.specs.Prelude.{◌≡◌, ℕ, if◌then◌else◌, IfOk, pos, neg_ℤ};
+ghost use Rattle.std.specs.Prelude.{◌≡◌, ℕ, if◌then◌else◌, IfOk, IfErr, pos, neg_ℤ};
 ghost use Rattle.c_typed.specs.Table.{Interned};
-ghost use Rattle.c_typed.specs.Views.{value_in, object_in, ValueStands, ObjectStands};
-ghost use Rattle.ref_semantics.specs.Store.{TypeEnvironment};
+ghost use Rattle.c_typed.specs.Views.{value_in, object_in};
+ghost use Rattle.ref_meaning.specs.Trees.{ValueFits, ObjectFits};
+ghost use Rattle.ref_semantics.specs.Store as meaning_store;
+ghost use Rattle.ref_semantics.specs.Store.{TypeEnvironment, member_at};
 ghost use Rattle.ref_semantics.specs.Meaning as meaning;
 ghost use Rattle.ref_steps.specs.Parts as parts;
 ghost use Rattle.ref_store.specs.Views.{place_in, scalar_in, ScalarStands, PlaceStands};
 ghost use Rattle.ref_store.specs.Holding.{IsStore, CallGives};
-ghost use Rattle.ref_store.specs.Promises.{place_seen, value_seen, GivesScalar};
+ghost use Rattle.ref_store.specs.declared.value.Stop.TheVariants as Stops;
+ghost use Rattle.ref_store.specs.Promises.{place_seen, value_seen, ForTypes, GivesScalar};
 ghost use Rattle.ref_meaning.specs.Promises.{part_stored, GivesNext};
 ghost use Rattle.ref_meaning.specs.Views.{part_in};
 ghost use Rattle.ref_meaning.specs.Holding.{NodeStands};
@@ -70,7 +73,7 @@ fn after_value<'a>(
     first: Scalar<'a>,
 ) -> Result<Next<'a>, Stop>
     requires store { IsStore store.old }
-    requires value { ValueStands store.old.types.now value.now }
+    requires value { ValueFits store.old.types.now value.now }
     requires first { ScalarStands store.old.types.now first }
     ensures gives { GivesNext store.old store.new (λ around.
         parts.value_next around (value_in store.old.types.now value.now) (value_seen store.old first.entry)) result }
@@ -80,7 +83,7 @@ fn after_value<'a>(
 {
     match value {
         Value::Read { place, .. } => given(store.read(*place, first.place())),
-        Value::Decay { .. } => pointed(store.decayed(first.place())),
+        Value::Decay { .. } => pointed(decayed(store, first.place())),
         Value::Converted { int_type, .. } => Ok(Next::Given(converted(*int_type, first))),
         Value::Repointed { place, target, .. } => given(store.repointed(*place, *target, first)),
         Value::MadeNull { .. } => Ok(Next::Given(Scalar::Null)),
@@ -167,7 +170,7 @@ fn pointed<'a>(found: Result<Place<'a>, Stop>) -> Result<Next<'a>, Stop>
 
 fn enters(part: &Value, role: Role) -> Next<'_>
     ensures means { (table : Interned) → next_in table result ≡ parts.Enters (value_in table part.now) (role_of role) }
-    ensures stands { (table : Interned) → ValueStands table part.now → NextStands table result }
+    ensures stands { (table : Interned) → ValueFits table part.now → NextStands table result }
 {
     Next::Enter {
         part: Node::Value(part),
@@ -182,7 +185,7 @@ fn after_object<'a>(
     first: Scalar<'a>,
 ) -> Result<Next<'a>, Stop>
     requires store { IsStore store.old }
-    requires object { ObjectStands store.old.types.now object.now }
+    requires object { ObjectFits store.old.types.now object.now }
     requires first { ScalarStands store.old.types.now first }
     ensures gives { GivesNext store.old store.new (λ around.
         parts.object_next around (object_in store.old.types.now object.now) (value_seen store.old first.entry)) result }
@@ -194,13 +197,41 @@ fn after_object<'a>(
         Object::Pointed { place, .. } => pointed(store.accessed(*place, first)),
         Object::Element { number, .. } => Ok(enters(number, Role::Second)),
         Object::ElementOf { pointer, .. } => Ok(enters(pointer, Role::Second)),
-        Object::MemberOf { number, .. } => pointed(store.member_at(first.place(), *number)),
+        Object::MemberOf { number, .. } => pointed(member_of(store, first.place(), *number)),
         Object::PointedMember { place, number, .. } => {
             let found = store.accessed(*place, first)?;
-            pointed(store.member_at(found, *number))
+            pointed(Ok(store.member_at(found, *number)))
         }
         _ => Ok(Next::Given(first)),
     }
+}
+
+/// A member of an element. What an expression finds as an object is no end of a row.
+fn member_of<'a>(store: &Store<'a>, place: Place<'a>, number: u32) -> Result<Place<'a>, Stop>
+    requires { PlaceStands store.now.types.now place }
+    ensures found { ForTypes store.now.types.now (λ around.
+        IfOk result (λ member. place_seen store.now member ≡ member_at around (place_seen store.now place.entry) number)) }
+    ensures stands { IfOk result (PlaceStands store.now.types.now) }
+    ensures only { IfErr result (λ e. e ≡ Stops.OutOfMemory) }
+{
+    if place.is_end() {
+        return Err(Stop::OutOfMemory);
+    }
+    Ok(store.member_at(place, number))
+}
+
+/// The first element of an array.
+fn decayed<'a>(store: &Store<'a>, place: Place<'a>) -> Result<Place<'a>, Stop>
+    requires { PlaceStands store.now.types.now place }
+    ensures found { ForTypes store.now.types.now (λ around.
+        IfOk result (λ first. place_seen store.now first ≡ meaning_store.decayed around (place_seen store.now place.entry))) }
+    ensures stands { IfOk result (PlaceStands store.now.types.now) }
+    ensures only { IfErr result (λ e. e ≡ Stops.OutOfMemory) }
+{
+    if place.is_end() {
+        return Err(Stop::OutOfMemory);
+    }
+    Ok(store.decayed(place))
 }
 
 /// The operator of `++` or `--`.

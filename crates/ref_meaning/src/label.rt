@@ -2,21 +2,22 @@
 
 ghost use Rattle.std.specs.Prelude.{◌≡◌};
 ghost use Rattle.c_typed.specs.Table.{Interned};
-ghost use Rattle.c_typed.specs.StatementViews.{stmt_in, StmtStands};
+ghost use Rattle.c_typed.specs.StatementViews.{stmt_in};
+ghost use Rattle.ref_meaning.specs.Trees.{StmtFits};
 ghost use Rattle.ref_meaning.specs.declared.control.Task.TheVariants as K;
 ghost use Rattle.ref_meaning.specs.Views.{part_in, stmt_of, case_items_of};
-ghost use Rattle.ref_meaning.specs.Holding.{Holds, NodeStands};
+ghost use Rattle.ref_meaning.specs.Holding.{IsConsistent, NodeStands};
 ghost use Rattle.ref_meaning.specs.Items.{CaseItemIs};
 ghost use Rattle.ref_meaning.specs.Doing.{acting};
 ghost use Rattle.ref_meaning.specs.Moving.{Moves, IsKept};
 
-use crate::control::{Node, Stage, Task, Way};
+use crate::control::{Completion, Node, Stage, Task};
 use crate::run::{Halt, RefRun};
 use c_typed::{Stmt, SwitchItem};
 
 /// An item of a `switch`, by its number.
 pub(crate) fn case_item(stmt: &Stmt, number: usize) -> Option<&SwitchItem>
-    ensures { (table : Interned) → StmtStands table stmt.now → CaseItemIs table number (case_items_of (stmt_in table stmt.now)) result }
+    ensures { (table : Interned) → StmtFits table stmt.now → CaseItemIs table number (case_items_of (stmt_in table stmt.now)) result }
 {
     match stmt {
         Stmt::Switch { items, .. } => items.get(number),
@@ -42,21 +43,21 @@ impl<'a> RefRun<'a> {
         number: usize,
         default: Option<usize>,
     ) -> Result<(), Halt>
-        requires holds { Holds self.old }
+        requires holds { IsConsistent self.old }
         requires control { self.old.control ≡ record { node = switch; task = K.Label value number default } }
         ensures moves { Moves self.old self.new (acting self.old) result }
         ensures kept { IsKept self.old self.new }
     {
         let Some(item) = switch_item(switch, number) else {
             return match default {
-                Some(number) => self.part(switch, Stage::Item(number), Way::Onward),
-                None => self.go(Way::Onward),
+                Some(number) => self.part(switch, Stage::Item(number), Completion::Normal),
+                None => self.go(Completion::Normal),
             };
         };
         let default = match item {
             SwitchItem::Case(label) => {
                 if *label == value {
-                    return self.part(switch, Stage::Item(number), Way::Onward);
+                    return self.part(switch, Stage::Item(number), Completion::Normal);
                 }
                 default
             }

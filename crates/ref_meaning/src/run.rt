@@ -5,6 +5,8 @@ ghost use Rattle.pcc_outside.specs.Outside.{Rose};
 ghost use Rattle.c_typed.specs.Table.{Interned};
 ghost use Rattle.c_typed.specs.Typed.{SwitchItems};
 ghost use Rattle.c_typed.specs.DefinitionViews.{program_of, ProgramStands};
+ghost use Rattle.c_well_typed.specs.Programs.{IsWellTyped};
+ghost use Rattle.c_well_typed.specs.Sizes.{HasSmallTypes};
 ghost use Rattle.ref_steps.specs.Steps.{ScalarGiven, Search, First};
 ghost use Rattle.ref_steps.specs.Units.{takes_unit};
 ghost use Rattle.ref_store.specs.Views.{scalar_in, ScalarStands};
@@ -15,14 +17,14 @@ ghost use Rattle.ref_meaning.specs.declared.control.Stage.TheVariants as S;
 ghost use Rattle.ref_meaning.specs.declared.control.Task.TheVariants as K;
 ghost use Rattle.ref_meaning.specs.declared.run.Halt.TheVariants as Halts;
 ghost use Rattle.ref_meaning.specs.Views.{table_of, part_in, given_in, final_of, waiting, stack_of, stmt_of, case_items_of, case_items_from};
-ghost use Rattle.ref_meaning.specs.Holding.{Holds, NodeStands, GivenStands, StageStands, Waits, Fits};
+ghost use Rattle.ref_meaning.specs.Holding.{IsConsistent, NodeStands, GivenStands, StageStands, Waits, Fits};
 ghost use Rattle.ref_meaning.specs.Doing.{TakesNone, IsInnermost, IsExpression, innermost, takes, taking, acting, evaluating};
 ghost use Rattle.ref_meaning.specs.Moving.{Becomes, IsSame, IsKept, Moves, Acts};
 ghost use Rattle.ref_meaning.specs.Numbers.{HasNumbers};
-ghost use Rattle.ref_meaning.specs.Running.{Behaviour, behaviour_of, StandsFor, RunAnswers, SpendsNeeded, HoldsUnlessOver, end_in, answer_of, halted, spent_at, IsHalted};
+ghost use Rattle.ref_meaning.specs.Running.{Behaviour, behaviour_of, StandsFor, RunAnswers, SpendsNeeded, IsConsistentUnlessOver, end_in, answer_of, halted, spent_at, IsHalted};
 
 use crate::call::is_call;
-use crate::control::{Control, Final, Frame, Given, Node, Stage, Task, Way};
+use crate::control::{Completion, Control, Final, Frame, Given, Node, Stage, Task};
 use crate::entry::{Entry, beginning, spends};
 use crate::first::{Next, Role, after_first};
 use crate::label::case_item;
@@ -119,7 +121,9 @@ pub struct RefRun<'a> {
 impl<'a> RefRun<'a> {
     /// A run before its first unit.
     pub fn new(alloc: Global, program: &'a Program) -> Result<RefRun<'a>, AllocError>
-        requires { ProgramStands program.now }
+        requires stand { ProgramStands program.now }
+        requires well_typed { IsWellTyped (program_of program.now) }
+        requires small { HasSmallTypes (program_of program.now) }
         ensures stands { IfOk result (λ run. StandsFor run [] (behaviour_of (program_of program.now))) }
         ensures spent { IfOk result (λ run. run.spent ≡ 0) }
     {
@@ -144,12 +148,12 @@ impl<'a> RefRun<'a> {
 
     /// Goes on with so many units. A run that is over answers its end again.
     pub fn run<I: Source, O: Sink>(&mut self, input: &mut I, out: &mut O, steps: u64) -> RefEnd
-        requires holds { HoldsUnlessOver self.old }
+        requires holds { IsConsistentUnlessOver self.old }
         requires counted { self.old.spent + steps < 2 ^ 64 }
         ensures answers { (written : List ℕ) (behaviour : Behaviour) (base left : List ℕ) → StandsFor self.old written behaviour
             → I.left input.old ≡ Some left → O.written out.old ≡ Some (base ++ written)
             → RunAnswers self.old self.new behaviour base left steps result (I.left input.new) (O.written out.new) }
-        ensures holds { HoldsUnlessOver self.new }
+        ensures holds { IsConsistentUnlessOver self.new }
         ensures read_cause { result ≡ RefEnd.ReadFault → Rose (I.faults input.old) (I.faults input.new) }
         ensures write_cause { result ≡ RefEnd.WriteFault → Rose (O.faults out.old) (O.faults out.new) }
         ensures memory_cause { result ≡ RefEnd.OutOfMemory → (I.faults input.new ≡ I.faults input.old) × (O.faults out.new ≡ O.faults out.old) }
@@ -172,12 +176,12 @@ impl<'a> RefRun<'a> {
 
     /// Goes on, unit by unit.
     fn go_on<I: Source, O: Sink>(&mut self, input: &mut I, out: &mut O, steps: u64) -> RefEnd
-        requires holds { HoldsUnlessOver self.old }
+        requires holds { IsConsistentUnlessOver self.old }
         requires counted { self.old.spent + steps < 2 ^ 64 }
         ensures answers { (written : List ℕ) (behaviour : Behaviour) (base left : List ℕ) → StandsFor self.old written behaviour
             → I.left input.old ≡ Some left → O.written out.old ≡ Some (base ++ written)
             → RunAnswers self.old self.new behaviour base left steps result (I.left input.new) (O.written out.new) }
-        ensures holds { HoldsUnlessOver self.new }
+        ensures holds { IsConsistentUnlessOver self.new }
         ensures read_cause { result ≡ RefEnd.ReadFault → Rose (I.faults input.old) (I.faults input.new) }
         ensures write_cause { result ≡ RefEnd.WriteFault → Rose (O.faults out.old) (O.faults out.new) }
         ensures read_faultless { result ≢ RefEnd.ReadFault → I.faults input.new ≡ I.faults input.old }
@@ -243,7 +247,7 @@ impl<'a> RefRun<'a> {
 
     /// Whether a unit is spent on what is done next.
     fn takes_unit(&self) -> bool
-        requires { Holds self.now }
+        requires { IsConsistent self.now }
         ensures { result ≡ takes_unit (takes self.now) }
     {
         match self.control.task {
@@ -256,8 +260,8 @@ impl<'a> RefRun<'a> {
 
     /// Does what is next.
     fn act<I: Source, O: Sink>(&mut self, input: &mut I, out: &mut O) -> Result<(), Halt>
-        requires { Holds self.old }
-        ensures holds { OnOk result (Holds self.new) }
+        requires { IsConsistent self.old }
+        ensures holds { OnOk result (IsConsistent self.new) }
         ensures acts { Acts self.old self.new (acting self.old) result (I.left input.old) (O.written out.old) (I.left input.new) (O.written out.new) }
         ensures kept { IsKept self.old self.new }
         ensures read_cause { result ≡ Err Halts.ReadFault → Rose (I.faults input.old) (I.faults input.new) }
@@ -272,7 +276,7 @@ impl<'a> RefRun<'a> {
             Task::Start => self.start(),
             Task::Enter => match node {
                 Node::Stmt(stmt) => self.perform(stmt),
-                Node::Body(_) => self.part(node, Stage::Item(0), Way::Onward),
+                Node::Body(_) => self.part(node, Stage::Item(0), Completion::Normal),
                 _ => self.evaluate(node),
             },
             Task::Library(groups) => self.library(node, groups),
@@ -310,11 +314,11 @@ impl<'a> RefRun<'a> {
     }
 
     /// A statement ends so.
-    pub(crate) fn go(&mut self, way: Way<'a>) -> Result<(), Halt>
-        ensures becomes { Becomes self.old self.new (record { node = self.old.control.node; task = K.Give (G.Way way.entry) }) (stack_of self.old) }
+    pub(crate) fn go(&mut self, way: Completion<'a>) -> Result<(), Halt>
+        ensures becomes { Becomes self.old self.new (record { node = self.old.control.node; task = K.Give (G.Completion way.entry) }) (stack_of self.old) }
         ensures ok { IsOk result }
     {
-        self.came_to(Given::Way(way))
+        self.came_to(Given::Completion(way))
     }
 
     /// Waits at a stage while a part is entered.
@@ -340,9 +344,9 @@ impl<'a> RefRun<'a> {
         &mut self,
         node: Node<'a>,
         stage: Stage<'a>,
-        way: Way<'a>,
+        way: Completion<'a>,
     ) -> Result<(), Halt>
-        ensures waits { OnOk result (Becomes self.old self.new (record { node = self.old.control.node; task = K.Give (G.Way way.entry) })
+        ensures waits { OnOk result (Becomes self.old self.new (record { node = self.old.control.node; task = K.Give (G.Completion way.entry) })
             (record { node = node.entry; stage = stage.entry } ∷ stack_of self.old)) }
         ensures same { OnErr result (IsSame self.old self.new) }
         ensures only { IfErr result (λ e. e ≡ Halts.OutOfMemory) }
@@ -382,7 +386,7 @@ impl<'a> RefRun<'a> {
 
     /// Begins to evaluate an expression.
     fn evaluate(&mut self, node: Node<'a>) -> Result<(), Halt>
-        requires holds { Holds self.old }
+        requires holds { IsConsistent self.old }
         requires free { TakesNone self.old.control.task }
         requires node { NodeStands (table_of self.old) node }
         requires expression { IsExpression node }
@@ -418,7 +422,7 @@ impl<'a> RefRun<'a> {
 
     /// Hands on what a part of the program came to.
     fn give(&mut self, given: Given<'a>) -> Result<(), Halt>
-        requires holds { Holds self.old }
+        requires holds { IsConsistent self.old }
         requires task { self.old.control.task ≡ K.Give given }
         ensures moves { Moves self.old self.new (acting self.old) result }
         ensures kept { IsKept self.old self.new }
@@ -440,7 +444,7 @@ impl<'a> RefRun<'a> {
         stage: Stage<'a>,
         given: Given<'a>,
     ) -> Result<(), Halt>
-        requires holds { Holds self.old }
+        requires holds { IsConsistent self.old }
         requires free { TakesNone self.old.control.task }
         requires node { NodeStands (table_of self.old) node }
         requires fits { Fits node stage }
@@ -472,7 +476,7 @@ impl<'a> RefRun<'a> {
 
     /// Hands on the first operand.
     fn give_first(&mut self, top: usize, node: Node<'a>, first: Scalar<'a>) -> Result<(), Halt>
-        requires holds { Holds self.old }
+        requires holds { IsConsistent self.old }
         requires free { TakesNone self.old.control.task }
         requires node { NodeStands (table_of self.old) node }
         requires waits { Waits node }
@@ -497,7 +501,7 @@ impl<'a> RefRun<'a> {
 
     /// Hands on the first operand of an expression that is no call.
     fn give_operand(&mut self, top: usize, node: Node<'a>, first: Scalar<'a>) -> Result<(), Halt>
-        requires holds { Holds self.old }
+        requires holds { IsConsistent self.old }
         requires free { TakesNone self.old.control.task }
         requires node { NodeStands (table_of self.old) node }
         requires waits { Waits node }

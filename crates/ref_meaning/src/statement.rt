@@ -3,8 +3,9 @@
 ghost use Rattle.std.specs.Prelude.{◌≡◌, ◌∷◌, ℕ, suc, ◌+◌, ◌<◌, ◌≤◌, ◌^◌, List, length, OnOk, OnErr, IsOk, IfErr};
 ghost use Rattle.std.specs.Vec.{vec_len, vec_capacity};
 ghost use Rattle.c_typed.specs.Table.{Interned};
-ghost use Rattle.c_typed.specs.Views.{value_in, ValueStands};
-ghost use Rattle.c_typed.specs.StatementViews.{stmt_in, StmtStands, local_in, LocalStands};
+ghost use Rattle.c_typed.specs.Views.{value_in};
+ghost use Rattle.c_typed.specs.StatementViews.{stmt_in, local_in};
+ghost use Rattle.ref_meaning.specs.Trees.{ValueFits, StmtFits, LocalFits};
 ghost use Rattle.ref_semantics.specs.Meaning as rules;
 ghost use Rattle.ref_semantics.specs.Meaning.{Normal};
 ghost use Rattle.ref_steps.specs.Parts.{StmtPart};
@@ -16,13 +17,13 @@ ghost use Rattle.ref_meaning.specs.declared.control.Node.TheVariants as N;
 ghost use Rattle.ref_meaning.specs.declared.control.Stage.TheVariants as S;
 ghost use Rattle.ref_meaning.specs.declared.control.Task.TheVariants as K;
 ghost use Rattle.ref_meaning.specs.declared.run.Halt.TheVariants as Halts;
-ghost use Rattle.ref_meaning.specs.Views.{table_of, part_in, way_in, given_in, waiting, at_item, behind_body, case_items_of, locals_of, stack_of, stmt_of, loop_of};
-ghost use Rattle.ref_meaning.specs.Holding.{Holds, NodeStands, GivenStands, WayStands, Fits, HasItems, IsSwitch, IsLoop, IsTurning};
+ghost use Rattle.ref_meaning.specs.Views.{table_of, part_in, completion_in, given_in, waiting, at_item, behind_body, case_items_of, locals_of, stack_of, stmt_of, loop_of};
+ghost use Rattle.ref_meaning.specs.Holding.{IsConsistent, NodeStands, GivenStands, CompletionStands, Fits, HasItems, IsSwitch, IsLoop, IsTurning};
 ghost use Rattle.ref_meaning.specs.Doing.{TakesNone, IsInnermost, IsOnTop, IsOfStatement, innermost, taking, performing, turning, beginning_turn, asking, body_in};
 ghost use Rattle.ref_meaning.specs.Items.{IsBlock, block_of, start_of, ItemIs, CaseItemIs, StartLocalIs, declaring, ending_turn};
 ghost use Rattle.ref_meaning.specs.Moving.{Moves, IsKept, IsSame, Becomes};
 
-use crate::control::{Control, Frame, Given, Node, Stage, Task, Way};
+use crate::control::{Completion, Control, Frame, Given, Node, Stage, Task};
 use crate::label::case_item;
 use crate::run::{Halt, RefRun};
 use c_typed::{BlockItem, ForStart, LocalDef, Stmt, SwitchItem, Value};
@@ -41,7 +42,7 @@ fn block_item(block: Node<'_>, number: usize) -> Option<&BlockItem>
 }
 
 fn inner_item(stmt: &Stmt, number: usize) -> Option<&BlockItem>
-    ensures { (table : Interned) → StmtStands table stmt.now → ItemIs table number (block_of (StmtPart (stmt_in table stmt.now))) result }
+    ensures { (table : Interned) → StmtFits table stmt.now → ItemIs table number (block_of (StmtPart (stmt_in table stmt.now))) result }
 {
     match stmt {
         Stmt::Block(items) => items.get(number),
@@ -51,7 +52,7 @@ fn inner_item(stmt: &Stmt, number: usize) -> Option<&BlockItem>
 
 /// A local that a `for` begins with, by its number.
 fn start_local(stmt: &Stmt, number: usize) -> Option<&LocalDef>
-    ensures { (table : Interned) → StmtStands table stmt.now → StartLocalIs table number (locals_of (start_of (stmt_in table stmt.now))) result }
+    ensures { (table : Interned) → StmtFits table stmt.now → StartLocalIs table number (locals_of (start_of (stmt_in table stmt.now))) result }
 {
     match stmt {
         Stmt::For { start, .. } => match start {
@@ -63,12 +64,12 @@ fn start_local(stmt: &Stmt, number: usize) -> Option<&LocalDef>
 }
 
 /// How a `switch` ends whose items end so.
-fn broken_out(way: Way<'_>) -> Way<'_>
-    ensures means { (table : Interned) → way_in table result ≡ rules.broken_out (way_in table way.entry) }
-    ensures stands { (table : Interned) → WayStands table way.entry → WayStands table result }
+fn broken_out(way: Completion<'_>) -> Completion<'_>
+    ensures means { (table : Interned) → completion_in table result ≡ rules.broken_out (completion_in table way.entry) }
+    ensures stands { (table : Interned) → CompletionStands table way.entry → CompletionStands table result }
 {
     match way {
-        Way::Broken => Way::Onward,
+        Completion::Break => Completion::Normal,
         way => way,
     }
 }
@@ -77,7 +78,7 @@ fn broken_out(way: Way<'_>) -> Way<'_>
 fn body_of(stmt: &Stmt) -> Node<'_>
     requires { IsLoop (N.Stmt stmt) }
     ensures is { (table : Interned) → part_in table result ≡ StmtPart (body_in (loop_of (stmt_in table stmt.now))) }
-    ensures stands { (table : Interned) → StmtStands table stmt.now → NodeStands table result }
+    ensures stands { (table : Interned) → StmtFits table stmt.now → NodeStands table result }
 {
     Node::Stmt(match stmt {
         Stmt::While { body, .. } => &**body,
@@ -90,9 +91,9 @@ fn body_of(stmt: &Stmt) -> Node<'_>
 impl<'a> RefRun<'a> {
     /// Begins a statement.
     pub(crate) fn perform(&mut self, stmt: &'a Stmt) -> Result<(), Halt>
-        requires holds { Holds self.old }
+        requires holds { IsConsistent self.old }
         requires free { TakesNone self.old.control.task }
-        requires stands { StmtStands (table_of self.old) stmt.now }
+        requires stands { StmtFits (table_of self.old) stmt.now }
         ensures moves { Moves self.old self.new (performing self.old (stmt_in (table_of self.old) stmt.now)) result }
         ensures kept { IsKept self.old self.new }
     {
@@ -100,9 +101,9 @@ impl<'a> RefRun<'a> {
         match stmt {
             Stmt::Block(_) => {
                 self.open_scope(node, Stage::Item(0))?;
-                self.go(Way::Onward)
+                self.go(Completion::Normal)
             }
-            Stmt::Empty => self.go(Way::Onward),
+            Stmt::Empty => self.go(Completion::Normal),
             Stmt::Expression(value) => self.wait(node, Stage::First, Node::Value(value)),
             Stmt::If { condition, .. } => self.wait(node, Stage::First, Node::Value(condition)),
             Stmt::IfElse { condition, .. } => {
@@ -117,7 +118,7 @@ impl<'a> RefRun<'a> {
                 ..
             } => {
                 self.open_scope(node, Stage::Begin)?;
-                self.go(Way::Onward)
+                self.go(Completion::Normal)
             }
             Stmt::For {
                 start: ForStart::Value(value),
@@ -131,12 +132,12 @@ impl<'a> RefRun<'a> {
                 ..
             } => {
                 self.open_scope(node, Stage::Item(0))?;
-                self.go(Way::Onward)
+                self.go(Completion::Normal)
             }
             Stmt::Switch { value, .. } => self.wait(node, Stage::First, Node::Value(value)),
-            Stmt::Break => self.go(Way::Broken),
-            Stmt::Continue => self.go(Way::Continued),
-            Stmt::Return(None) => self.go(Way::Returned(None)),
+            Stmt::Break => self.go(Completion::Break),
+            Stmt::Continue => self.go(Completion::Continue),
+            Stmt::Return(None) => self.go(Completion::Return(None)),
             Stmt::Return(Some(value)) => self.wait(node, Stage::First, Node::Value(value)),
         }
     }
@@ -165,9 +166,9 @@ impl<'a> RefRun<'a> {
         stmt: &'a Stmt,
         value: Scalar<'a>,
     ) -> Result<(), Halt>
-        requires holds { Holds self.old }
+        requires holds { IsConsistent self.old }
         requires free { TakesNone self.old.control.task }
-        requires stands { StmtStands (table_of self.old) stmt.now }
+        requires stands { StmtFits (table_of self.old) stmt.now }
         requires value { ScalarStands (table_of self.old) value }
         requires innermost { IsInnermost self.old top (StmtPart (stmt_in (table_of self.old) stmt.now)) S.First }
         ensures moves { Moves self.old self.new (taking self.old (waiting (StmtPart (stmt_in (table_of self.old) stmt.now)))
@@ -180,7 +181,7 @@ impl<'a> RefRun<'a> {
                 if value.is_true() {
                     self.enter(Node::Stmt(&**then))
                 } else {
-                    self.go(Way::Onward)
+                    self.go(Completion::Normal)
                 }
             }
             Stmt::IfElse {
@@ -199,7 +200,7 @@ impl<'a> RefRun<'a> {
                 if value.is_true() {
                     self.turn(top, stmt)
                 } else {
-                    self.done(Given::Way(Way::Onward))
+                    self.done(Given::Completion(Completion::Normal))
                 }
             }
             Stmt::Switch { .. } => {
@@ -214,8 +215,8 @@ impl<'a> RefRun<'a> {
                 };
                 Ok(())
             }
-            Stmt::Return(_) => self.done(Given::Way(Way::Returned(Some(value)))),
-            _ => self.done(Given::Way(Way::Onward)),
+            Stmt::Return(_) => self.done(Given::Completion(Completion::Return(Some(value)))),
+            _ => self.done(Given::Completion(Completion::Normal)),
         }
     }
 
@@ -227,7 +228,7 @@ impl<'a> RefRun<'a> {
         stage: Stage<'a>,
         given: Given<'a>,
     ) -> Result<(), Halt>
-        requires holds { Holds self.old }
+        requires holds { IsConsistent self.old }
         requires free { TakesNone self.old.control.task }
         requires node { NodeStands (table_of self.old) node }
         requires stage { IsOfStatement stage }
@@ -242,11 +243,11 @@ impl<'a> RefRun<'a> {
             Stage::Local(place) => {
                 let here = Pos { line: 1, column: 1 };
                 self.store.write(here, place, given.scalar())?;
-                self.done(Given::Way(Way::Onward))
+                self.done(Given::Completion(Completion::Normal))
             }
             Stage::Scope(height) => {
                 self.store.leave(height);
-                self.done(Given::Way(given.way()))
+                self.done(Given::Completion(given.way()))
             }
             Stage::Item(number) => self.next_item(top, node, number, given.way()),
             Stage::Begin | Stage::Step => self.begin_turn(top, node),
@@ -261,16 +262,16 @@ impl<'a> RefRun<'a> {
         top: usize,
         node: Node<'a>,
         number: usize,
-        way: Way<'a>,
+        way: Completion<'a>,
     ) -> Result<(), Halt>
-        requires holds { Holds self.old }
+        requires holds { IsConsistent self.old }
         requires free { TakesNone self.old.control.task }
         requires node { NodeStands (table_of self.old) node }
         requires items { HasItems node }
-        requires way { WayStands (table_of self.old) way }
+        requires way { CompletionStands (table_of self.old) way }
         requires innermost { IsInnermost self.old top (part_in (table_of self.old) node) (S.Item number) }
         ensures moves { Moves self.old self.new (taking self.old (at_item (part_seen self.old node.entry) number)
-            (WayGiven (way_in (table_of self.old) way.entry))) result }
+            (WayGiven (completion_in (table_of self.old) way.entry))) result }
         ensures kept { IsKept self.old self.new }
     {
         match node {
@@ -280,8 +281,8 @@ impl<'a> RefRun<'a> {
                     None => self.begin_turn(top, node),
                 },
                 Stmt::Switch { .. } => match way {
-                    Way::Onward => self.next_case_item(top, stmt, number),
-                    way => self.done(Given::Way(way)),
+                    Completion::Normal => self.next_case_item(top, stmt, number),
+                    way => self.done(Given::Completion(way)),
                 },
                 _ => self.next_block_item(top, node, number, way),
             },
@@ -290,9 +291,9 @@ impl<'a> RefRun<'a> {
     }
 
     fn next_case_item(&mut self, top: usize, stmt: &'a Stmt, number: usize) -> Result<(), Halt>
-        requires holds { Holds self.old }
+        requires holds { IsConsistent self.old }
         requires free { TakesNone self.old.control.task }
-        requires stands { StmtStands (table_of self.old) stmt.now }
+        requires stands { StmtFits (table_of self.old) stmt.now }
         requires items { IsSwitch (N.Stmt stmt) }
         requires innermost { IsInnermost self.old top (StmtPart (stmt_in (table_of self.old) stmt.now)) (S.Item number) }
         ensures moves { Moves self.old self.new (taking self.old (at_item (StmtPart (stmt_in (table_of self.old) stmt.now)) number) (WayGiven Normal)) result }
@@ -303,10 +304,10 @@ impl<'a> RefRun<'a> {
                 self.at_stage(top, Node::Stmt(stmt), Stage::Item(number + 1));
                 match item {
                     SwitchItem::Statement(inner) => self.enter(Node::Stmt(inner)),
-                    _ => self.go(Way::Onward),
+                    _ => self.go(Completion::Normal),
                 }
             }
-            None => self.done(Given::Way(Way::Onward)),
+            None => self.done(Given::Completion(Completion::Normal)),
         }
     }
 
@@ -315,20 +316,20 @@ impl<'a> RefRun<'a> {
         top: usize,
         node: Node<'a>,
         number: usize,
-        way: Way<'a>,
+        way: Completion<'a>,
     ) -> Result<(), Halt>
-        requires holds { Holds self.old }
+        requires holds { IsConsistent self.old }
         requires free { TakesNone self.old.control.task }
         requires node { NodeStands (table_of self.old) node }
         requires items { IsBlock node }
-        requires way { WayStands (table_of self.old) way }
+        requires way { CompletionStands (table_of self.old) way }
         requires innermost { IsInnermost self.old top (part_in (table_of self.old) node) (S.Item number) }
         ensures moves { Moves self.old self.new (taking self.old (at_item (part_seen self.old node.entry) number)
-            (WayGiven (way_in (table_of self.old) way.entry))) result }
+            (WayGiven (completion_in (table_of self.old) way.entry))) result }
         ensures kept { IsKept self.old self.new }
     {
         match way {
-            Way::Onward => match block_item(node, number) {
+            Completion::Normal => match block_item(node, number) {
                 Some(item) => match item {
                     BlockItem::Local(local) => self.declare(top, node, number, local),
                     BlockItem::Statement(stmt) => {
@@ -336,9 +337,9 @@ impl<'a> RefRun<'a> {
                         self.enter(Node::Stmt(stmt))
                     }
                 },
-                None => self.done(Given::Way(Way::Onward)),
+                None => self.done(Given::Completion(Completion::Normal)),
             },
-            way => self.done(Given::Way(way)),
+            way => self.done(Given::Completion(way)),
         }
     }
 
@@ -350,11 +351,11 @@ impl<'a> RefRun<'a> {
         number: usize,
         local: &'a LocalDef,
     ) -> Result<(), Halt>
-        requires holds { Holds self.old }
+        requires holds { IsConsistent self.old }
         requires free { TakesNone self.old.control.task }
         requires node { NodeStands (table_of self.old) node }
         requires items { HasItems node }
-        requires local { LocalStands (table_of self.old) local.now }
+        requires local { LocalFits (table_of self.old) local.now }
         requires number { suc number < 2 ^ 64 }
         requires innermost { IsInnermost self.old top (part_in (table_of self.old) node) (S.Item number) }
         ensures moves { Moves self.old self.new (declaring self.old (local_in (table_of self.old) local.now)
@@ -368,7 +369,7 @@ impl<'a> RefRun<'a> {
             Some(value) => self.begin_local(top, node, stage, place, value),
             None => {
                 self.at_stage(top, node, stage);
-                self.go(Way::Onward)
+                self.go(Completion::Normal)
             }
         }
     }
@@ -399,9 +400,9 @@ impl<'a> RefRun<'a> {
 
     /// A loop's body is performed.
     fn turn(&mut self, top: usize, stmt: &'a Stmt) -> Result<(), Halt>
-        requires holds { Holds self.old }
+        requires holds { IsConsistent self.old }
         requires free { TakesNone self.old.control.task }
-        requires stands { StmtStands (table_of self.old) stmt.now }
+        requires stands { StmtFits (table_of self.old) stmt.now }
         requires is_loop { IsLoop (N.Stmt stmt) }
         requires top { IsOnTop self.old top (StmtPart (stmt_in (table_of self.old) stmt.now)) }
         ensures moves { Moves self.old self.new (turning self.old (stmt_in (table_of self.old) stmt.now)) result }
@@ -413,7 +414,7 @@ impl<'a> RefRun<'a> {
 
     /// A turn begins with the condition, where there is one before the body.
     fn begin_turn(&mut self, top: usize, node: Node<'a>) -> Result<(), Halt>
-        requires holds { Holds self.old }
+        requires holds { IsConsistent self.old }
         requires free { TakesNone self.old.control.task }
         requires node { NodeStands (table_of self.old) node }
         requires is_loop { IsLoop node }
@@ -422,7 +423,7 @@ impl<'a> RefRun<'a> {
         ensures kept { IsKept self.old self.new }
     {
         let Node::Stmt(stmt) = node else {
-            return self.done(Given::Way(Way::Onward));
+            return self.done(Given::Completion(Completion::Normal));
         };
         match stmt {
             Stmt::While { condition, .. } => self.ask(top, node, condition),
@@ -436,12 +437,12 @@ impl<'a> RefRun<'a> {
 
     /// A loop's condition is evaluated.
     fn ask(&mut self, top: usize, node: Node<'a>, condition: &'a Value) -> Result<(), Halt>
-        requires holds { Holds self.old }
+        requires holds { IsConsistent self.old }
         requires free { TakesNone self.old.control.task }
         requires node { NodeStands (table_of self.old) node }
         requires is_loop { IsLoop node }
         requires top { IsOnTop self.old top (part_in (table_of self.old) node) }
-        requires condition { ValueStands (table_of self.old) condition.now }
+        requires condition { ValueFits (table_of self.old) condition.now }
         ensures moves { Moves self.old self.new (asking self.old (stmt_of (part_seen self.old node.entry))
             (value_in (table_of self.old) condition.now)) result }
         ensures kept { IsKept self.old self.new }
@@ -451,34 +452,34 @@ impl<'a> RefRun<'a> {
     }
 
     /// What follows a loop's body, or the items of a `switch`.
-    fn after_turn(&mut self, top: usize, node: Node<'a>, way: Way<'a>) -> Result<(), Halt>
-        requires holds { Holds self.old }
+    fn after_turn(&mut self, top: usize, node: Node<'a>, way: Completion<'a>) -> Result<(), Halt>
+        requires holds { IsConsistent self.old }
         requires free { TakesNone self.old.control.task }
         requires node { NodeStands (table_of self.old) node }
         requires turns { IsTurning node }
-        requires way { WayStands (table_of self.old) way }
+        requires way { CompletionStands (table_of self.old) way }
         requires innermost { IsInnermost self.old top (part_in (table_of self.old) node) S.Turn }
         ensures moves { Moves self.old self.new (taking self.old (behind_body (part_seen self.old node.entry))
-            (WayGiven (way_in (table_of self.old) way.entry))) result }
+            (WayGiven (completion_in (table_of self.old) way.entry))) result }
         ensures kept { IsKept self.old self.new }
     {
         let Node::Stmt(stmt) = node else {
-            return self.done(Given::Way(way));
+            return self.done(Given::Completion(way));
         };
         if let Stmt::Switch { .. } = stmt {
-            return self.done(Given::Way(broken_out(way)));
+            return self.done(Given::Completion(broken_out(way)));
         }
         match way.after_body() {
-            Some(way) => self.done(Given::Way(way)),
+            Some(way) => self.done(Given::Completion(way)),
             None => self.end_turn(top, stmt),
         }
     }
 
     /// What follows the body of a turn that goes on.
     fn end_turn(&mut self, top: usize, stmt: &'a Stmt) -> Result<(), Halt>
-        requires holds { Holds self.old }
+        requires holds { IsConsistent self.old }
         requires free { TakesNone self.old.control.task }
-        requires stands { StmtStands (table_of self.old) stmt.now }
+        requires stands { StmtFits (table_of self.old) stmt.now }
         requires is_loop { IsLoop (N.Stmt stmt) }
         requires innermost { IsInnermost self.old top (StmtPart (stmt_in (table_of self.old) stmt.now)) S.Turn }
         ensures moves { Moves self.old self.new (ending_turn self.old (stmt_in (table_of self.old) stmt.now)) result }

@@ -4,4 +4,6 @@
 #[cfg(test)]
 mod runs;
 #[cfg(test)]
+mod sources;
+#[cfg(test)]
 mod stores;

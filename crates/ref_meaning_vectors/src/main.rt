@@ -4,7 +4,9 @@
 #![tactic(auto)]
 
 ghost use Rattle.std.specs.Prelude.{◌≤◌, length};
-ghost use Rattle.c_typed.specs.DefinitionViews.{ProgramStands};
+ghost use Rattle.c_typed.specs.DefinitionViews.{program_of, ProgramStands};
+ghost use Rattle.c_well_typed.specs.Programs.{IsWellTyped};
+ghost use Rattle.c_well_typed.specs.Sizes.{HasSmallTypes};
 
 use c_lexer::{LexErr, tokens};
 use c_reader::{SyntaxErr, read};
@@ -31,7 +33,9 @@ struct Ran {
 
 // Runs a program on no input.
 fn run(alloc: Global, program: &c_typed::Program) -> Result<Ran, AllocError>
-    requires { ProgramStands program.now }
+    requires stands { ProgramStands program.now }
+    requires well_typed { IsWellTyped (program_of program.now) }
+    requires small { HasSmallTypes (program_of program.now) }
 {
     let mut run = RefRun::new(alloc, program)?;
     let mut input = MemSource::new(Vec::new(alloc), Vec::new(alloc), 1);
@@ -73,7 +77,9 @@ fn answer_program<W: Write>(
     program: &c_typed::Program,
     out: &mut W,
 ) -> io::Result<()>
-    requires { ProgramStands program.now }
+    requires stands { ProgramStands program.now }
+    requires well_typed { IsWellTyped (program_of program.now) }
+    requires small { HasSmallTypes (program_of program.now) }
 {
     let ran = run(alloc, program)?;
     write_end(ran.end, out)?;

@@ -5,7 +5,7 @@ use Rattle.indexmap.specs.IndexMap.{IndexMap, get, get_by}
 use Rattle.text_place.specs.declared.place.Pos.{Pos}
 use Rattle.run_theory.specs.declared.ends.UbKind.TheVariants as Ub
 use Rattle.c_typed.specs.Types.{CType, same_type, is_like_void}
-use Rattle.c_typed.specs.Table.{Interned, Stands, type_in}
+use Rattle.c_typed.specs.Table.{Interned, type_in}
 use Rattle.c_typed.proofs.Same.{same_type-true}
 use Rattle.ref_semantics.specs.Values.{Heap, Scalar, PointerValue, Place, Content, Dead, Raw, Elements, whole_row, first_of_row}
 use Rattle.ref_semantics.specs.Store.{TypeEnvironment, State, Eval, give, with_objects, with_content, store_content, premise, unless, is_dead_pointer, size_of}
@@ -14,6 +14,7 @@ use Rattle.ref_store.specs.declared.value.Name as memory_name
 use Rattle.ref_store.specs.declared.object.Content as memory_content
 use Rattle.ref_store.specs.declared.object.Content.TheVariants as C
 use Rattle.ref_store.specs.declared.object.Elements as memory_elements
+use Rattle.ref_store.specs.Fitting.{ElementsStand}
 use Rattle.ref_store.specs.Views.{same_memory}
 use Rattle.ref_store.specs.declared.store.Store.{Store}
 use Rattle.ref_store.specs.declared.value.Stop.{Stop}
@@ -39,7 +40,7 @@ abbrev pub Told : Interned → Option memory_content.Content → Content → Typ
 Told table None content = content ≡ Dead
 Told table (Some (C.Raw size)) content = content ≡ Raw size
 Told table (Some (C.Elements some)) content =
-    (held : ℕ → Option Scalar) × (content ≡ Elements some.is_static (type_in table some.c_type) some.count held) × Stands table some.c_type
+    (held : ℕ → Option Scalar) × (content ≡ Elements some.is_static (type_in table some.c_type) some.count held) × ElementsStand table some.c_type some.count
 
 told : (table : Interned) (memory : Option memory_content.Content) (content : Content) → ContentIs table memory content → Told table memory content
 told table memory content dead = refl
@@ -51,7 +52,7 @@ pub found_told : {S : Type 0} (table : Interned) (m : IndexMap memory_name.Name 
 found_told table m name found content e holds = told table found content (subst (λ memory. ContentIs table memory content) (sym (e ∙ get_name m name)) holds)
 
 -- an allocation that gets a type
-pub fresh : (table : Interned) (c_type : CType) (count : ℕ) (made : memory_elements.Elements) → made.is_static ≡ false → type_in table made.c_type ≡ c_type → made.count ≡ count → Stands table made.c_type
+pub fresh : (table : Interned) (c_type : CType) (count : ℕ) (made : memory_elements.Elements) → made.is_static ≡ false → type_in table made.c_type ≡ c_type → made.count ≡ count → ElementsStand table made.c_type made.count
     → AllHeld table made.held (λ offset. None) → ContentIs table (Some (C.Elements made)) (Elements false c_type count (λ offset. None))
 fresh table c_type count made is_static is_type is_count stands none =
     subst (λ content. ContentIs table (Some (C.Elements made)) content) (λ i. Elements (is_static i) (is_type i) (is_count i) (λ offset. None))

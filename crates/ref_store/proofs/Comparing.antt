@@ -1,5 +1,5 @@
 -- What comparisons and differences of pointers come to.
-use Rattle.std.specs.Prelude.{not, ◌||◌}
+use Rattle.std.specs.Prelude.{not, ◌||◌, ◌&&◌, ◌==◌}
 use Rattle.std.proofs.Common.{◌≡◌, ℕ, ◌<◌, ◌^◌, Bool, true, false, if◌then◌else◌, List, [], ◌∷◌, refl, sym, ap, subst, ◌∙◌, ℤ, pos, ◌-ℤ◌, to_z, of_z, arith}
 use lib.Signed.{mag}
 use mir.Syntax.{w128}
@@ -15,9 +15,9 @@ use Rattle.c_num.specs.contracts.Relation.{the_type}
 use Rattle.c_num.specs.declared.IntType.TheVariants as I
 use Rattle.c_num.specs.Types.{is_value}
 use Rattle.c_num.specs.Arith.{compare_of}
-use Rattle.ref_semantics.specs.Values.{Scalar, IntegerValue}
-use Rattle.ref_semantics.specs.Store.{TypeEnvironment, State, Premise, Eval, premise, give, is_dead_pointer}
-use Rattle.ref_semantics.specs.Pointers.{truth, is_end_beside, is_equality, truth_of_equality, are_in_one_row, index_of, are_equal, compared_pointers, difference}
+use Rattle.ref_semantics.specs.Values.{Scalar, IntegerValue, place_of}
+use Rattle.ref_semantics.specs.Store.{TypeEnvironment, State, Premise, Eval, premise, give, is_dead_pointer, offset_of}
+use Rattle.ref_semantics.specs.Pointers.{truth, is_end_beside, is_equality, truth_of_equality, are_in_one_row, index_of, are_equal, is_into_object, same_object, same_function, compared_pointers, difference}
 use Rattle.ref_store.specs.declared.store.Store.{Store}
 use Rattle.ref_store.specs.Holding.{At, left, IsUndefined, Comes}
 use Rattle.ref_store.proofs.Giving.{unless-fails, unless-holds, undefined-here, comes-same}
@@ -180,3 +180,17 @@ pub subtracted-as : (m n : ℕ) (x y : ℤ) → mag x < 2 ^ 127 → mag y < 2 ^ 
 subtracted-as m n x y fits_x fits_y p q =
     sym (to_z-of_z w128 (pos m -ℤ pos n) (between-fits m n (subst (λ z. mag z < 2 ^ 127) (sym p) fits_x) (subst (λ z. mag z < 2 ^ 127) (sym q) fits_y)))
     ∙ (λ k. to_z w128 (of_z w128 ((p ∙ widened x fits_x) k -ℤ (q ∙ widened y fits_y) k)))
+
+-- ---- equality
+
+pub both-true : (a b value told : Bool) → true ≡ a → value ≡ told → told ≡ b → value ≡ true → a && b ≡ true
+both-true true b value told e f g h = sym g ∙ sym f ∙ h
+both-true false b value told e f g h = absurd (false≢true (sym e))
+
+pub not-flipped : (a : Bool) → false ≡ not a → a ≡ true
+not-flipped true e = refl
+not-flipped false e = absurd (false≢true e)
+
+pub equal-told : (around : TypeEnvironment) (a b : Scalar) (m n : ℕ) → is_into_object a && is_into_object b ≡ true → same_object a b ≡ true → m ≡ offset_of around (place_of a) → n ≡ offset_of around (place_of b)
+    → (m == n) ≡ are_equal around a b
+equal-told around a b m n into same first second = sym (λ i. if into i then same i && (sym first i == sym second i) else same_function a b)

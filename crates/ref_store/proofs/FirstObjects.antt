@@ -6,17 +6,19 @@ use Rattle.c_typed.specs.declared.definition.GlobalDef as memory_global
 use Rattle.c_typed.specs.declared.definition.LiteralDef as memory_literal
 use Rattle.c_typed.specs.Types.{CType, Void, literal_type}
 use Rattle.c_typed.specs.Typed.{GlobalDef, LiteralDef, Program}
-use Rattle.c_typed.specs.Table.{Interned, Stands, type_in}
-use Rattle.c_typed.specs.DefinitionViews.{global_in, literal_of, all_first, GlobalsStand, LiteralStands, LiteralsStand}
+use Rattle.c_typed.specs.Table.{Interned, type_in}
+use Rattle.c_typed.specs.DefinitionViews.{global_in, literal_of, all_first, LiteralStands, LiteralsStand}
 use Rattle.c_typed.specs.Places.{is_same_place}
 use Rattle.ref_semantics.specs.Values.{Name, Heap, GlobalObject, LiteralObject, LocalObject, Row, Scalar, Content, Dead, Raw, Elements, same_name, whole_row}
 use Rattle.ref_semantics.specs.Store.{Objects, is_dead, row_of, with_content}
 use Rattle.ref_semantics.specs.First.{type_of_global, static_type, literal_at, literal_content, characters, or_void, option_type, first_held, global_content, first_objects}
 use Rattle.ref_store.specs.declared.object.Content.TheVariants as C
 use Rattle.ref_store.specs.declared.object.Elements as memory_elements
+use Rattle.ref_store.specs.Fitting.{ElementsStand}
+use Rattle.ref_store.proofs.Fitting.{literal_elements}
 use Rattle.ref_store.specs.Holding.{AllHeld, ContentIs, elements}
 use Rattle.ref_store.specs.Beginning.{unfilled, unfilled_objects}
-use Rattle.ref_store.specs.Firsts.{unfilled_of, or_content, with_new, IsFirst, AreFirsts, AreCharacters, filled}
+use Rattle.ref_store.specs.Firsts.{unfilled_of, or_content, with_new, IsFirst, AreFirsts, AreCharacters, GlobalFits, GlobalsFit, filled}
 use Rattle.ref_store.proofs.Names.{same_name-true}
 
 -- ---- what is there, and what isn't
@@ -127,21 +129,21 @@ row_of_static program (LocalObject number) = refl
 
 -- elements stand for a row
 pub elements_content : (table : Interned) (made : memory_elements.Elements) (is_static : Bool) (c_type : CType) (count : ℕ) (held : ℕ → Option Scalar) → made.is_static ≡ is_static → type_in table made.c_type ≡ c_type → made.count ≡ count
-    → Stands table made.c_type → AllHeld table made.held held → ContentIs table (Some (C.Elements made)) (Elements is_static c_type count held)
+    → ElementsStand table made.c_type made.count → AllHeld table made.held held → ContentIs table (Some (C.Elements made)) (Elements is_static c_type count held)
 elements_content table made is_static c_type count held s t n stands all =
     subst (λ content. ContentIs table (Some (C.Elements made)) content) (λ i. Elements (s i) (t i) (n i) held) (elements made held stands all)
 
-pub first_content : (program : Program) (table : Interned) (global : memory_global.GlobalDef) (made : memory_elements.Elements) → Stands table global.c_type → IsFirst program table global made
+pub first_content : (program : Program) (table : Interned) (global : memory_global.GlobalDef) (made : memory_elements.Elements) → ElementsStand table global.c_type 1 → IsFirst program table global made
     → ContentIs table (Some (C.Elements made)) (Elements true (type_in table global.c_type) 1 (first_held program (type_in table global.c_type) (all_first global.first.items)))
 first_content program table global made stands is =
     elements_content table made true (type_in table global.c_type) 1 (first_held program (type_in table global.c_type) (all_first global.first.items)) is.is_static (ap (type_in table) is.c_type) is.count
-    (subst (Stands table) (sym is.c_type) stands) is.held
+    (subst (ElementsStand table made.c_type) (sym is.count) (subst (λ t. ElementsStand table t 1) (sym is.c_type) stands)) is.held
 
 pub literal_made : (table : Interned) (literal : memory_literal.LiteralDef) (made : memory_elements.Elements) → LiteralStands table literal → AreCharacters table literal made
     → ContentIs table (Some (C.Elements made)) (literal_content (Some (literal_of literal)))
 literal_made table literal made stands are =
     elements_content table made true (literal_type literal.bytes) 1 (characters literal.bytes) are.is_static (ap (type_in table) are.c_type ∙ stands.1) are.count
-    (subst (Stands table) (sym are.c_type) stands.0) are.held
+    (subst (ElementsStand table made.c_type) (sym are.count) (subst (λ t. ElementsStand table t 1) (sym are.c_type) (literal_elements table literal.c_type literal.bytes stands.0 stands.1))) are.held
 
 module _ (program : Program) (table : Interned) where
   pub firsts_push : (globals : List memory_global.GlobalDef) (made : List memory_elements.Elements) (global : memory_global.GlobalDef) (last : memory_elements.Elements) → length made < length globals
@@ -159,10 +161,11 @@ module _ (program : Program) (table : Interned) where
   firsts_pop (g ∷ globals) (first ∷ others) global last at all = let rest = firsts_pop globals others global last at all.1 in ((all.0, rest.0), rest.1)
 
 -- each of the variables stands
-pub global_stands : (table : Interned) (globals : List memory_global.GlobalDef) (n : ℕ) (global : memory_global.GlobalDef) → GlobalsStand table globals → n < length globals → global ≡ get_or globals n global → Stands table global.c_type
-global_stands table [] n global all lt at = absurd (omega arith)
-global_stands table (g ∷ globals) zero global all lt at = subst (λ (x : memory_global.GlobalDef). Stands table x.c_type) (sym at) all.0
-global_stands table (g ∷ globals) (suc n) global all lt at = global_stands table globals n global all.1 (omega arith) at
+pub global_fits : (program : Program) (table : Interned) (globals : List memory_global.GlobalDef) (n : ℕ) (global : memory_global.GlobalDef) → GlobalsFit program table globals → n < length globals → global ≡ get_or globals n global
+    → GlobalFits program table global
+global_fits program table [] n global all lt at = absurd (omega arith)
+global_fits program table (g ∷ globals) zero global all lt at = subst (GlobalFits program table) (sym at) all.0
+global_fits program table (g ∷ globals) (suc n) global all lt at = global_fits program table globals n global all.1 (omega arith) at
 
 -- and each of the literals
 pub literal_stands : (table : Interned) (literals : List memory_literal.LiteralDef) (n : ℕ) (literal : memory_literal.LiteralDef) → LiteralsStand table literals → n < length literals → literal ≡ get_or literals n literal

@@ -16,3 +16,7 @@ pub mod FirstStore
 pub mod FirstTags
 pub mod Comparing
 pub mod Wanting
+pub mod Fitting
+pub mod Ways
+pub mod SmallTypes
+pub mod FirstTyped

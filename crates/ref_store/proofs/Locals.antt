@@ -3,7 +3,7 @@ use Rattle.std.proofs.Common.{◌≡◌, ℕ, suc, ◌≤◌, false, List, [], �
 use Rattle.std.proofs.lemmas.List.{drop-append-le, reverse-append}
 use Rattle.run_theory.specs.Runs.{Trace}
 use Rattle.c_typed.specs.Types.{CType}
-use Rattle.c_typed.specs.Table.{Stands, type_in}
+use Rattle.c_typed.specs.Table.{type_in}
 use Rattle.c_typed.specs.declared.c_type.CType as memory_type
 use Rattle.ref_semantics.specs.Values.{LocalObject, Scalar, Elements}
 use Rattle.ref_semantics.specs.Store.{TypeEnvironment, State, with_content}
@@ -11,6 +11,7 @@ use Rattle.ref_store.specs.declared.value.Name.TheVariants as N
 use Rattle.ref_store.specs.declared.object.Content.TheVariants as C
 use Rattle.ref_store.specs.declared.object.Elements as memory_elements
 use Rattle.ref_store.specs.declared.store.Store.{Store}
+use Rattle.ref_store.specs.Fitting.{ElementsStand}
 use Rattle.ref_store.specs.Holding.{At, AllHeld, ContentIs, elements}
 use Rattle.ref_store.proofs.Updating.{Changes, all_changed}
 
@@ -28,7 +29,7 @@ living state number c_type held trace =
     record state { objects = with_content (LocalObject number) (Elements false c_type 1 held) state.objects; locals = number ∷ state.locals; next_local = suc number; trace = trace }
 
 pub at_living : (around : TypeEnvironment) (store new : Store) (base : ℕ) (state : State) (row : memory_elements.Elements) (c_type : memory_type.CType) (held : ℕ → Option Scalar) (trace : Trace) → base ≤ length store.locals.items
-    → row.is_static ≡ false → row.c_type ≡ c_type → row.count ≡ 1 → Stands store.types.now c_type → AllHeld store.types.now row.held held
+    → row.is_static ≡ false → row.c_type ≡ c_type → row.count ≡ 1 → ElementsStand store.types.now c_type 1 → AllHeld store.types.now row.held held
     → new.next_local ≡ suc store.next_local → new.locals.items ≡ store.locals.items ++ (store.next_local ∷ []) → Changes (N.Own store.next_local) (Some (C.Elements row)) store.objects new.objects
     → At around store base state → At around (record store { objects = new.objects; locals = new.locals; next_local = new.next_local }) base (living state store.next_local (type_in store.types.now c_type) held trace)
 at_living around store new base state row c_type held trace within is_static typed one stands all next locals changes at = record {
@@ -42,4 +43,4 @@ at_living around store new base state row c_type held trace within is_static typ
   where
     content : ContentIs store.types.now (Some (C.Elements row)) (Elements false (type_in store.types.now c_type) 1 held)
     content = subst (ContentIs store.types.now (Some (C.Elements row))) (λ i. Elements (is_static i) (type_in store.types.now (typed i)) (one i) held)
-        (elements row held (subst (Stands store.types.now) (sym typed) stands) all)
+        (elements row held (subst (ElementsStand store.types.now row.c_type) (sym one) (subst (λ t. ElementsStand store.types.now t 1) (sym typed) stands)) all)

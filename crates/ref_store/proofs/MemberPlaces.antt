@@ -30,6 +30,10 @@ module _ (table : Interned) (known : Option number.CType) (t : number.CType) whe
     subst (Stands table) (sym same) (void_stands table),
   )
 
+pub known-type : (table : Interned) (known : Option number.CType) → KnownStands table known → (t : number.CType) × MemberType table known t
+known-type table (Some t) stands = (t, member-typed table (Some t) t t refl refl stands)
+known-type table None stands = (void, member-untyped table None void refl refl)
+
 -- ---- its row
 
 members-same : (around : TypeEnvironment) (structs : List StructDef) (c_type : CType) → around.structs ≡ structs → members_of around c_type ≡ t.members_of structs c_type

@@ -1,5 +1,5 @@
 -- What operators do with pointers, as what their tests find says.
-use Rattle.std.proofs.Common.{◌≡◌, ℕ, ◌<◌, ◌^◌, Bool, true, false, not, ◌||◌, ◌&&◌, nat_lt, [], ◌∷◌, Option, Some, None, ℤ, pos, negsuc, ◌+ℤ◌, ◌<ℤ◌, ◌≤ℤ◌, nat_abs, int_lt, int_le, Fits, FitsSigned, T, w64, to_z, of_z, to_z-of_z, ⊎_elim, refl, sym, ap, subst, ◌∙◌, arith, lt-ltb, le-ltb}
+use Rattle.std.proofs.Common.{◌≡◌, ℕ, ◌<◌, ◌≤◌, ◌^◌, Bool, true, false, not, ◌||◌, ◌&&◌, nat_lt, [], ◌∷◌, Option, Some, None, ℤ, pos, negsuc, ◌+ℤ◌, ◌<ℤ◌, ◌≤ℤ◌, nat_abs, int_lt, int_le, Fits, FitsSigned, T, w64, to_z, of_z, to_z-of_z, ⊎_elim, refl, sym, ap, subst, ◌∙◌, arith, lt-ltb, le-ltb}
 use Rattle.std.specs.Int.{w128}
 use Rattle.std.specs.Int.Signed.{non_neg}
 use Rattle.std.proofs.lemmas.Int.{ints}
@@ -112,6 +112,21 @@ module _ (m : ℤ) (count : ℕ) (fits : FitsSigned w128 m) (least : pos 0 ≤�
     where
       by : (x : ℤ) → pos 0 ≤ℤ x → x ≤ℤ pos count → T (non_neg x) × Fits w64 (nat_abs x)
       by (pos n) h k = (tt, record { fits = omega (arith, ints) })
+      by (negsuc n) h k = absurd (omega (arith, ints))
+
+module _ (m : ℤ) (count : ℕ) (fits : FitsSigned w128 m) (least : pos 0 ≤ℤ m) where
+  pub cast-le : m ≤ℤ pos count → nat_abs (to_z w128 (of_z w128 m)) ≤ count
+  cast-le most = subst (λ x. nat_abs x ≤ count) (sym (to_z-of_z fits)) (by m least most)
+    where
+      by : (x : ℤ) → pos 0 ≤ℤ x → x ≤ℤ pos count → nat_abs x ≤ count
+      by (pos n) h k = omega (arith, ints)
+      by (negsuc n) h k = absurd (omega (arith, ints))
+
+  pub cast-lt : m <ℤ pos count → nat_abs (to_z w128 (of_z w128 m)) < count
+  cast-lt most = subst (λ x. nat_abs x < count) (sym (to_z-of_z fits)) (by m least most)
+    where
+      by : (x : ℤ) → pos 0 ≤ℤ x → x <ℤ pos count → nat_abs x < count
+      by (pos n) h k = omega (arith, ints)
       by (negsuc n) h k = absurd (omega (arith, ints))
 
 -- ---- adding

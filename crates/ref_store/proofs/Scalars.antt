@@ -14,7 +14,9 @@ use Rattle.ref_store.specs.declared.value.Scalar as memory_scalar
 use Rattle.ref_store.specs.declared.value.Scalar.TheVariants as M
 use Rattle.ref_store.specs.declared.value.Name.TheVariants as N
 use Rattle.ref_store.specs.Views.{row_in, place_in, scalar_in}
-use Rattle.ref_store.specs.Holding.{ContentIs, raw}
+use Rattle.ref_store.specs.declared.object.Elements as memory_elements
+use Rattle.ref_store.specs.Fitting.{ElementsStand}
+use Rattle.ref_store.specs.Holding.{ContentIs, raw, elements}
 
 abbrev pub void : number.CType
 void = record { 0 = 0 }
@@ -52,3 +54,6 @@ no_place table (M.Function name) not_pointer not_raw = ap (first_of_row (Heap 0)
 
 pub raw_row : (table : Interned) (content : Content) (size : ℕ) → ContentIs table (Some (C.Raw size)) content → row_in table nothing ≡ row_of content
 raw_row table content size (raw bytes) = nothing_means table
+
+pub elements_stand : (table : Interned) (content : Content) (made : memory_elements.Elements) → ContentIs table (Some (C.Elements made)) content → ElementsStand table made.c_type made.count
+elements_stand table content made (elements _ held stands all) = stands

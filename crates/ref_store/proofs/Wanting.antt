@@ -1,11 +1,11 @@
 -- Where memory runs out.
-use Rattle.std.proofs.Common.{◌≡◌, ℕ, Result, Ok, Err, IfErr, IsErrAnd, refl, sym, subst, arith}
-use Rattle.c_typed.specs.Types.{CType, Void, Integer, Pointer, Array, Struct, Function}
-use Rattle.ref_semantics.specs.Values.{Heap, Place, Scalar, RawPointer}
-use Rattle.ref_semantics.specs.Store.{TypeEnvironment, Objects, offset_of, inner_row, decayed}
+use Rattle.std.proofs.Common.{◌≡◌, ℕ, Result, Ok, Err, IfErr, IsErrAnd, sym, subst}
+use Rattle.c_typed.specs.Types.{CType}
+use Rattle.ref_semantics.specs.Values.{Heap, Scalar, RawPointer}
+use Rattle.ref_semantics.specs.Store.{TypeEnvironment, Objects}
 use Rattle.ref_store.specs.declared.value.Stop.{Stop}
 use Rattle.ref_store.specs.declared.value.Stop.TheVariants as T
-use Rattle.ref_store.specs.Wanting.{OutOnly, Overflows, GetsType, PointsUntyped}
+use Rattle.ref_store.specs.Wanting.{OutOnly, GetsType, PointsUntyped}
 
 pub out_where : (P : Type 0) (stop : Stop) → P → OutOnly P stop
 out_where P (T.Undefined kind place) p = tt
@@ -27,17 +27,6 @@ handed_on P stop (Err other) p is = subst P (sym is) p
 pub errors : {A : Type 0} (P : Stop → Type 0) (result : Result A Stop) → ((stop : Stop) → P stop) → IfErr result P
 errors P (Ok value) all = tt
 errors P (Err stop) all = all stop
-
-inner_start : (offset : ℕ) (c_type : CType) → (inner_row offset c_type).start ≡ offset
-inner_start offset Void = refl
-inner_start offset (Integer int_type) = refl
-inner_start offset (Pointer target) = refl
-inner_start offset (Array element length) = refl
-inner_start offset (Struct tag) = refl
-inner_start offset (Function result parameters) = refl
-
-pub decayed_overflows : (around : TypeEnvironment) (place : Place) → Overflows around place → Overflows around (decayed around place)
-decayed_overflows around place over = omega (arith, over, inner_start (offset_of around place) place.row.c_type)
 
 pub points_untyped : (around : TypeEnvironment) (target : CType) (objects : Objects) (value : Scalar) (number : ℕ) → value ≡ RawPointer number → GetsType around target (objects (Heap number)) → PointsUntyped around target objects value
 points_untyped around target objects value number is gets = subst (PointsUntyped around target objects) (sym is) gets

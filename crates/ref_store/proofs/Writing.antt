@@ -2,7 +2,7 @@
 use Rattle.std.proofs.Common.{◌≡◌, ℕ, Bool, true, false, ◌==◌, if◌then◌else◌, nat_eq, [], ◌∷◌, Option, Some, refl, sym, subst}
 use Rattle.indexmap.specs.IndexMap.{IndexMap, get}
 use Rattle.run_theory.specs.Runs.{Event, output_of}
-use Rattle.c_typed.specs.Table.{Interned, Stands, type_in}
+use Rattle.c_typed.specs.Table.{Interned, type_in}
 use Rattle.ref_semantics.specs.Values.{Name, Heap, GlobalObject, LiteralObject, LocalObject}
 use Rattle.ref_semantics.specs.Values as V
 use Rattle.ref_semantics.specs.Store.{holding, with_scalar}
@@ -11,6 +11,7 @@ use Rattle.ref_store.specs.declared.value.Scalar.{Scalar}
 use Rattle.ref_store.specs.declared.object.Content as memory_content
 use Rattle.ref_store.specs.declared.object.Content.TheVariants as C
 use Rattle.ref_store.specs.declared.object.Elements as memory_elements
+use Rattle.ref_store.specs.Fitting.{ElementsStand}
 use Rattle.ref_store.specs.Views.{scalar_in, ScalarStands}
 use Rattle.ref_store.specs.Holding.{HeldIs, AllHeld, IsUndisturbed, ContentIs, raw, elements}
 
@@ -30,10 +31,10 @@ all_held table old new offset value held stands stored all = λ other.
     by true had there is = (refl, stands)
     by false had there is = is
 
-renewed : (table : Interned) (old new : memory_elements.Elements) (held : ℕ → Option V.Scalar) → IsUndisturbed old new → Stands table old.c_type → AllHeld table new.held held
+renewed : (table : Interned) (old new : memory_elements.Elements) (held : ℕ → Option V.Scalar) → IsUndisturbed old new → ElementsStand table old.c_type old.count → AllHeld table new.held held
     → ContentIs table (Some (C.Elements new)) (V.Elements old.is_static (type_in table old.c_type) old.count held)
 renewed table old new held same stands all =
-    subst (ContentIs table (Some (C.Elements new))) (λ i. V.Elements (same.is_static i) (type_in table (same.c_type i)) (same.count i) held) (elements new held (subst (Stands table) (sym same.c_type) stands) all)
+    subst (ContentIs table (Some (C.Elements new))) (λ i. V.Elements (same.is_static i) (type_in table (same.c_type i)) (same.count i) held) (elements new held (subst (ElementsStand table new.c_type) (sym same.count) (subst (λ t. ElementsStand table t old.count) (sym same.c_type) stands)) all)
 
 -- where memory ran out, the elements are what they were
 pub elements_kept : (table : Interned) (old new : memory_elements.Elements) (content : V.Content) → IsUndisturbed old new → ((other : ℕ) → get nat_eq new.held other ≡ get nat_eq old.held other)

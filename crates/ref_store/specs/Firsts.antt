@@ -1,7 +1,9 @@
 -- What the functions that make the store before a program runs leave.
-use Rattle.std.specs.Prelude.{◌≡◌, ℕ, suc, true, if◌then◌else◌, ◌==◌, List, [], ◌∷◌, Option, Some, None, pos}
+use Rattle.std.specs.Prelude.{◌≡◌, ℕ, suc, ◌≤◌, ◌<◌, true, if◌then◌else◌, ◌==◌, List, [], ◌∷◌, Option, Some, None, pos}
 use Rattle.c_num.specs.declared.IntType.{IntType}
 use Rattle.c_num.specs.Conversion.{convert_to}
+use Rattle.c_typed.specs.declared.part.Part.{Part}
+use Rattle.c_typed.specs.declared.part.Part.TheVariants as P
 use Rattle.c_typed.specs.declared.definition.GlobalDef as memory_global
 use Rattle.c_typed.specs.declared.definition.LiteralDef as memory_literal
 use Rattle.c_typed.specs.Types.{CType}
@@ -9,9 +11,11 @@ use Rattle.c_typed.specs.Values as values
 use Rattle.c_typed.specs.Typed.{GlobalDef, LiteralDef, Program}
 use Rattle.c_typed.specs.Table.{Interned, type_in}
 use Rattle.c_typed.specs.DefinitionViews.{all_first}
-use Rattle.ref_semantics.specs.Values.{Name, GlobalObject, LiteralObject, Place, Scalar, IntegerValue, Content, Dead, Elements, same_name, at_index}
+use Rattle.ref_semantics.specs.Values.{Name, Heap, GlobalObject, LiteralObject, Place, Scalar, IntegerValue, Content, Dead, Elements, same_name, at_index, object_place}
 use Rattle.ref_semantics.specs.Store.{TypeEnvironment, Objects, offset_of, with_content}
-use Rattle.ref_semantics.specs.First.{around_of, type_of_global, literal_at, literal_content, characters, first_held, first_state}
+use Rattle.ref_semantics.specs.First as rules
+use Rattle.ref_semantics.specs.First.{around_of, type_of_global, literal_at, literal_content, characters, first_held, first_state, stepped, static_type}
+use Rattle.ref_store.specs.Fitting.{IsObjectType}
 use Rattle.ref_store.specs.declared.object.Elements as memory_elements
 use Rattle.ref_store.specs.declared.store.Store.{Store}
 use Rattle.ref_store.specs.Holding.{At, AllHeld}
@@ -85,3 +89,37 @@ pub record AreCharacters (table : Interned) (literal : memory_literal.LiteralDef
   pub c_type : elements.c_type ≡ literal.c_type
   pub count : elements.count ≡ 1
   pub held : AllHeld table elements.held (characters literal.bytes)
+
+-- ---- where first values stand
+
+abbrev pub part_index : Part → ℕ
+part_index (P.Member index number) = index
+part_index (P.Elements index) = index
+
+-- steps lead from elements to elements, and to an element of their last row, or to its end
+abbrev pub StepsLead : TypeEnvironment → Place → List Part → ℕ → Type 0
+StepsLead around place [] index = index ≤ place.row.count
+StepsLead around place (step ∷ steps) index = (part_index step < place.row.count) × StepsLead around (stepped around place step) steps index
+
+abbrev pub PlaceLeads : Program → values.FirstPlace → Type 0
+PlaceLeads program place = StepsLead (around_of program) (object_place (rules.name_of place.root) (static_type program (rules.name_of place.root))) place.steps place.index
+
+-- a pointer leads to an element or an end
+abbrev pub ValueLeads : Program → values.FirstScalar → Type 0
+ValueLeads program (values.PointerValue place) = PlaceLeads program place
+ValueLeads program _ = Unit {0}
+
+abbrev pub HeldLeads : Program → CType → values.Held → Type 0
+HeldLeads program c_type held = StepsLead (around_of program) (object_place (Heap 0) c_type) held.leaf.steps held.leaf.index × ValueLeads program held.value
+
+abbrev pub AllLead : Program → CType → List values.Held → Type 0
+AllLead program c_type [] = Unit {0}
+AllLead program c_type (held ∷ others) = HeldLeads program c_type held × AllLead program c_type others
+
+-- a variable of an object type, whose first values stand in it
+abbrev pub GlobalFits : Program → Interned → memory_global.GlobalDef → Type 0
+GlobalFits program table global = IsObjectType table global.c_type × AllLead program (type_in table global.c_type) (all_first global.first.items)
+
+abbrev pub GlobalsFit : Program → Interned → List memory_global.GlobalDef → Type 0
+GlobalsFit program table [] = Unit {0}
+GlobalsFit program table (first ∷ others) = GlobalFits program table first × GlobalsFit program table others

@@ -5,7 +5,7 @@ use Rattle.indexmap.specs.IndexMap.{IndexMap, get, get_by}
 use Rattle.run_theory.specs.declared.ends.UbKind.{UbKind}
 use Rattle.text_place.specs.declared.place.Pos.{Pos}
 use Rattle.run_theory.specs.Runs.{output_of}
-use Rattle.c_typed.specs.Table.{Interned, Stands, type_in, structs_in}
+use Rattle.c_typed.specs.Table.{Interned, type_in, structs_in}
 use Rattle.c_typed.specs.Names.{contains}
 use Rattle.ref_semantics.specs.Values.{Content, Dead, Raw, Elements, Scalar}
 use Rattle.ref_semantics.specs.Store.{TypeEnvironment, State, Then, Eval, ◌>>=◌, undefined}
@@ -19,6 +19,7 @@ use Rattle.ref_store.specs.declared.object.Content as memory_content
 use Rattle.ref_store.specs.declared.object.Content.TheVariants as C
 use Rattle.ref_store.specs.declared.object.Elements as memory_elements
 use Rattle.ref_store.specs.declared.store.Store.{Store}
+use Rattle.ref_store.specs.Fitting.{ElementsStand}
 use Rattle.ref_store.specs.Views.{name_of, same_memory, scalar_in, ScalarStands}
 
 -- ---- objects
@@ -41,7 +42,7 @@ pub record IsUndisturbed (old new : memory_elements.Elements) : Type 0 where
 pub data ContentIs (table : Interned) : Option memory_content.Content → Content → Type 0 where
   dead : ContentIs table None Dead
   raw : (size : ℕ) → ContentIs table (Some (C.Raw size)) (Raw size)
-  elements : (elements : memory_elements.Elements) (held : ℕ → Option Scalar) → Stands table elements.c_type → AllHeld table elements.held held
+  elements : (elements : memory_elements.Elements) (held : ℕ → Option Scalar) → ElementsStand table elements.c_type elements.count → AllHeld table elements.held held
       → ContentIs table (Some (C.Elements elements)) (Elements elements.is_static (type_in table elements.c_type) elements.count held)
 
 -- ---- stores

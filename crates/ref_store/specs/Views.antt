@@ -1,6 +1,6 @@
 -- The values, places and contents that those in memory stand for, in a table of types.
-use Rattle.std.specs.Prelude.{Bool}
-use Rattle.c_typed.specs.Table.{Interned, Stands, type_in}
+use Rattle.std.specs.Prelude.{Bool, ◌≤◌}
+use Rattle.c_typed.specs.Table.{Interned, Stands, type_in, structs_in}
 use Rattle.ref_semantics.specs.Values as V
 use Rattle.ref_store.specs.declared.value.Name as memory_name
 use Rattle.ref_store.specs.declared.value.Name.TheVariants as N
@@ -8,6 +8,7 @@ use Rattle.ref_store.specs.declared.value.Row as memory_row
 use Rattle.ref_store.specs.declared.value.Place as memory_place
 use Rattle.ref_store.specs.declared.value.Scalar as memory_scalar
 use Rattle.ref_store.specs.declared.value.Scalar.TheVariants as M
+use Rattle.ref_store.specs.Fitting.{Fits, HasRoom}
 
 abbrev pub name_of : memory_name.Name → V.Name
 name_of (N.Heap number) = V.Heap number
@@ -28,9 +29,15 @@ scalar_in table (M.Function name) = V.FunctionValue name.now
 scalar_in table (M.Pointer place) = V.PointerValue (place_in table place)
 scalar_in table (M.Raw number) = V.RawPointer number
 
--- each of the types in it stands for one
-abbrev pub PlaceStands : Interned → memory_place.Place → Type 0
-PlaceStands table place = Stands table place.row.c_type
+-- Its type stands for one, its row ends within 64 bits, and it is in the row or at its end.
+pub record PlaceStands (table : Interned) (place : memory_place.Place) : Type 0 where
+  pub c_type : Stands table place.row.c_type
+  pub fits : Fits (structs_in table) (row_in table place.row)
+  pub within : place.index ≤ place.row.count
+
+-- it is an element, of which there are members and elements
+abbrev pub IsElement : Interned → memory_place.Place → Type 0
+IsElement table place = HasRoom (structs_in table) (row_in table place.row) place.index
 
 abbrev pub ScalarStands : Interned → memory_scalar.Scalar → Type 0
 ScalarStands table (M.Pointer place) = PlaceStands table place

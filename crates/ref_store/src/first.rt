@@ -1,9 +1,11 @@
 // The store before a program runs (C17 5.1.2, 6.7.9 paragraph 10).
 
-ghost use Rattle.std.specs.Prelude.{◌≡◌, ℕ, List, [], Option, Some, length, IfOk, IfErr, OnOk};
+ghost use Rattle.std.specs.Prelude.{◌≡◌, ℕ, ◌<◌, ◌≤◌, true, List, [], Option, Some, length, IfOk, OnOk};
 ghost use Rattle.c_typed.specs.Types as types;
-ghost use Rattle.c_typed.specs.Table.{Stands, type_in, structs_in};
-ghost use Rattle.c_typed.specs.DefinitionViews.{program_of, first_of, literal_of, scalar_of, static_of, ProgramStands, GlobalsStand, LiteralStands, LiteralsStand};
+ghost use Rattle.c_typed.specs.Table.{type_in, structs_in};
+ghost use Rattle.c_typed.specs.DefinitionViews.{program_of, first_of, literal_of, scalar_of, static_of, ProgramStands, LiteralStands, LiteralsStand};
+ghost use Rattle.c_well_typed.specs.Programs.{IsWellTyped};
+ghost use Rattle.c_well_typed.specs.Sizes.{HasSmallTypes};
 ghost use Rattle.ref_semantics.specs.Values as meaning;
 ghost use Rattle.ref_semantics.specs.Values.{object_place};
 ghost use Rattle.ref_semantics.specs.Store.{TypeEnvironment, State, with_content};
@@ -11,15 +13,15 @@ ghost use Rattle.ref_semantics.specs.First as rules;
 ghost use Rattle.ref_semantics.specs.First.{around_of, first_state};
 ghost use Rattle.ref_store.specs.Promises.{ForTypes, place_seen, type_seen, value_seen};
 ghost use Rattle.ref_store.specs.declared.object.Content.TheVariants as C;
+ghost use Rattle.ref_store.specs.Fitting.{IsObjectType};
 ghost use Rattle.ref_store.specs.Views.{name_of, place_in, scalar_in, PlaceStands, ScalarStands};
 ghost use Rattle.ref_store.specs.Holding.{At, AllHeld, ContentIs, IsUndisturbed};
-ghost use Rattle.ref_store.specs.Wanting.{Overflows, WalkOverflows, IsUnfound, PointsUnfound, OutOnly};
 ghost use Rattle.ref_store.specs.Beginning.{IsUnfilled, unfilled, unfilled_objects};
-ghost use Rattle.ref_store.specs.Firsts.{Has, unfilled_of, with_new, with_first, with_text, with_given, IsFirst, AreFirsts, AreCharacters};
+ghost use Rattle.ref_store.specs.Firsts.{Has, unfilled_of, with_new, with_first, with_text, with_given, IsFirst, AreFirsts, AreCharacters, part_index, StepsLead, PlaceLeads, ValueLeads, AllLead, GlobalFits, GlobalsFit};
 
 use crate::object::{Content, Elements};
 use crate::store::Store;
-use crate::value::{Name, Place, Row, Scalar, Stop};
+use crate::value::{Name, Place, Row, Scalar};
 use c_num::{IntType, convert};
 use c_typed as typed;
 use c_typed::{CType, First, Part, Program, Static};
@@ -37,10 +39,11 @@ fn static_name(root: &Static) -> Name<'_>
 }
 
 impl<'a> Store<'a> {
-    /// The store before a program runs: its variables outside functions, and its literals. Memory also runs out where an
-    /// offset in a first value does not fit in 64 bits.
+    /// The store before a program runs: its variables outside functions, and its literals.
     pub fn new(alloc: Global, program: &'a Program) -> Result<Store<'a>, AllocError>
-        requires { ProgramStands program.now }
+        requires stand { ProgramStands program.now }
+        requires well_typed { IsWellTyped (program_of program.now) }
+        requires small { HasSmallTypes (program_of program.now) }
         ensures stands { (input : List ℕ) (units : ℕ) → IfOk result (λ store.
             At (around_of (program_of program.now)) store 0 (first_state (program_of program.now) input units)) }
         ensures types { IfOk result (λ store. store.types.now ≡ program.now.types) }
@@ -48,9 +51,7 @@ impl<'a> Store<'a> {
         let mut store = Store::empty(alloc, program)?;
         store.add_globals(program)?;
         store.add_literals(program)?;
-        let Ok(firsts) = store.first_values(program) else {
-            return Err(AllocError);
-        };
+        let firsts = store.first_values(program)?;
         store.hold_firsts(program, firsts)?;
         Ok(store)
     }
@@ -77,7 +78,7 @@ impl<'a> Store<'a> {
 
     /// Variables outside functions, without first values. Of several of one name the first counts.
     fn add_globals(&mut self, program: &'a Program) -> Result<(), AllocError>
-        requires stand { GlobalsStand program.now.types program.now.globals.items }
+        requires fit { GlobalsFit (program_of program.now) program.now.types program.now.globals.items }
         requires types { self.old.types.now ≡ program.now.types }
         requires had { Has (program_of program.now) self.old (unfilled_of [] []) }
         ensures added { OnOk result (Has (program_of program.now) self.new (unfilled_of (program_of program.now).globals [])) }
@@ -91,7 +92,7 @@ impl<'a> Store<'a> {
 
     /// A variable without first values, where there is none of its name.
     fn add_global(&mut self, global: &'a typed::GlobalDef) -> Result<(), AllocError>
-        requires { Stands self.old.types.now global.now.c_type }
+        requires { IsObjectType self.old.types.now global.now.c_type }
         ensures added { (around : TypeEnvironment) (base : ℕ) (state : State) → At around self.old base state
             → OnOk result (At around self.new base
             (record state {
@@ -158,8 +159,8 @@ impl<'a> Store<'a> {
     }
 
     /// The variables outside functions with their first values, in their order.
-    fn first_values(&self, program: &'a Program) -> Result<Vec<Elements<'a>>, Stop>
-        requires stand { GlobalsStand program.now.types program.now.globals.items }
+    fn first_values(&self, program: &'a Program) -> Result<Vec<Elements<'a>>, AllocError>
+        requires fit { GlobalsFit (program_of program.now) program.now.types program.now.globals.items }
         requires types { self.now.types.now ≡ program.now.types }
         requires unfilled { IsUnfilled (program_of program.now) self.now }
         ensures firsts { IfOk result (λ firsts. AreFirsts (program_of program.now) self.now.types.now program.now.globals.items firsts.items) }
@@ -179,7 +180,7 @@ impl<'a> Store<'a> {
         program: &'a Program,
         mut firsts: Vec<Elements<'a>>,
     ) -> Result<(), AllocError>
-        requires stand { GlobalsStand program.now.types program.now.globals.items }
+        requires fit { GlobalsFit (program_of program.now) program.now.types program.now.globals.items }
         requires types { self.old.types.now ≡ program.now.types }
         requires unfilled { IsUnfilled (program_of program.now) self.old }
         requires firsts { AreFirsts (program_of program.now) self.old.types.now program.now.globals.items firsts.items }
@@ -188,10 +189,7 @@ impl<'a> Store<'a> {
         ensures types { self.new.types ≡ self.old.types }
     {
         while let Some(elements) = firsts.pop() {
-            let Some(global) = program.globals.get(firsts.len()) else {
-                return Err(AllocError);
-            };
-            self.hold_global(global, elements)?;
+            self.hold_global(&program.globals[firsts.len()], elements)?;
         }
         Ok(())
     }
@@ -217,8 +215,8 @@ impl<'a> Store<'a> {
         &self,
         program: &'a Program,
         global: &'a typed::GlobalDef,
-    ) -> Result<Elements<'a>, Stop>
-        requires stands { Stands program.now.types global.now.c_type }
+    ) -> Result<Elements<'a>, AllocError>
+        requires fits { GlobalFits (program_of program.now) program.now.types global.now }
         requires types { self.now.types.now ≡ program.now.types }
         requires unfilled { IsUnfilled (program_of program.now) self.now }
         ensures { IfOk result (IsFirst (program_of program.now) self.now.types.now global.now) }
@@ -238,9 +236,11 @@ impl<'a> Store<'a> {
         elements: &mut Elements<'a>,
         root: Place<'a>,
         first: &'a First,
-    ) -> Result<(), Stop>
+    ) -> Result<(), AllocError>
         requires unfilled { IsUnfilled (program_of program.now) self.now }
         requires root { PlaceStands self.now.types.now root }
+        requires leads { (c_type : types.CType) × (place_seen self.now root ≡ object_place (meaning.Heap 0) c_type)
+            × AllLead (program_of program.now) c_type (first_of first.now) }
         ensures same { IsUndisturbed elements.old elements.new }
         ensures held { (c_type : types.CType) (held : ℕ → Option meaning.Scalar) → place_seen self.now root.entry ≡ object_place (meaning.Heap 0) c_type
             → AllHeld self.now.types.now elements.old.held held
@@ -248,8 +248,8 @@ impl<'a> Store<'a> {
     {
         match first {
             First::Scalar(held) => {
-                let place = self.walked(root, held.parts.as_slice(), held.index)?;
-                let value = self.first_scalar(program, &held.value)?;
+                let place = self.walked(root, held.parts.as_slice(), held.index);
+                let value = self.first_scalar(program, &held.value);
                 self.hold_first(elements, place, value)
             }
             First::Text {
@@ -257,8 +257,12 @@ impl<'a> Store<'a> {
                 int_type,
                 bytes,
             } => {
-                let place = self.walked(root, parts.as_slice(), 0)?;
-                self.hold_text(elements, place, *int_type, bytes.as_slice())
+                let bytes = bytes.as_slice();
+                if bytes.is_empty() {
+                    return Ok(());
+                }
+                let place = self.walked(root, parts.as_slice(), 0);
+                self.hold_text(elements, place, *int_type, bytes)
             }
         }
     }
@@ -270,8 +274,9 @@ impl<'a> Store<'a> {
         place: Place<'a>,
         int_type: IntType,
         bytes: &[u8],
-    ) -> Result<(), Stop>
-        requires { PlaceStands self.now.types.now place }
+    ) -> Result<(), AllocError>
+        requires place { PlaceStands self.now.types.now place }
+        requires room { (index : ℕ) → index < length bytes.now → index ≤ place.row.count }
         ensures same { IsUndisturbed elements.old elements.new }
         ensures held { (around : TypeEnvironment) (held : ℕ → Option meaning.Scalar) → around.structs ≡ structs_in self.now.types.now
             → AllHeld self.now.types.now elements.old.held held
@@ -293,7 +298,7 @@ impl<'a> Store<'a> {
         elements: &mut Elements<'a>,
         place: Place<'a>,
         value: Scalar<'a>,
-    ) -> Result<(), Stop>
+    ) -> Result<(), AllocError>
         requires place { PlaceStands self.now.types.now place }
         requires value { ScalarStands self.now.types.now value }
         ensures same { IsUndisturbed elements.old elements.new }
@@ -302,7 +307,7 @@ impl<'a> Store<'a> {
             → OnOk result (AllHeld self.now.types.now elements.new.held
             (with_first around (place_seen self.now place.entry) (value_seen self.now value.entry) held)) }
     {
-        let offset = self.offset(place)?;
+        let offset = self.offset(place);
         if elements.held(offset).is_none() {
             elements.hold(offset, value)?;
         }
@@ -310,23 +315,18 @@ impl<'a> Store<'a> {
     }
 
     /// A first value.
-    fn first_scalar(
-        &self,
-        program: &'a Program,
-        value: &'a typed::Scalar,
-    ) -> Result<Scalar<'a>, Stop>
-        requires { IsUnfilled (program_of program.now) self.now }
-        ensures means { IfOk result (λ scalar. value_seen self.now scalar ≡ rules.first_scalar (program_of program.now) (scalar_of value.now)) }
-        ensures stands { IfOk result (ScalarStands self.now.types.now) }
-        ensures want { IfErr result (OutOnly (PointsUnfound (program_of program.now) (scalar_of value.now))) }
+    fn first_scalar(&self, program: &'a Program, value: &'a typed::Scalar) -> Scalar<'a>
+        requires unfilled { IsUnfilled (program_of program.now) self.now }
+        requires leads { ValueLeads (program_of program.now) (scalar_of value.now) }
+        ensures means { value_seen self.now result ≡ rules.first_scalar (program_of program.now) (scalar_of value.now) }
+        ensures stands { ScalarStands self.now.types.now result }
     {
         match value {
-            typed::Scalar::Integer(value) => Ok(Scalar::Integer(*value)),
-            typed::Scalar::Null => Ok(Scalar::Null),
-            typed::Scalar::Function(name) => Ok(Scalar::Function(name.as_slice())),
+            typed::Scalar::Integer(value) => Scalar::Integer(*value),
+            typed::Scalar::Null => Scalar::Null,
+            typed::Scalar::Function(name) => Scalar::Function(name.as_slice()),
             typed::Scalar::Pointer { root, parts, index } => {
-                let place = self.first_place(program, root, parts.as_slice(), *index)?;
-                Ok(Scalar::Pointer(place))
+                Scalar::Pointer(self.first_place(program, root, parts.as_slice(), *index))
             }
         }
     }
@@ -338,12 +338,12 @@ impl<'a> Store<'a> {
         root: &'a Static,
         parts: &[Part],
         index: u64,
-    ) -> Result<Place<'a>, Stop>
-        requires { IsUnfilled (program_of program.now) self.now }
-        ensures means { IfOk result (λ place. place_seen self.now place
-            ≡ rules.first_place (program_of program.now) (record { root = static_of root.now; steps = parts.now; index = index })) }
-        ensures stands { IfOk result (PlaceStands self.now.types.now) }
-        ensures want { IfErr result (OutOnly (IsUnfound (program_of program.now) (record { root = static_of root.now; steps = parts.now; index = index }))) }
+    ) -> Place<'a>
+        requires unfilled { IsUnfilled (program_of program.now) self.now }
+        requires leads { PlaceLeads (program_of program.now) (record { root = static_of root.now; steps = parts.now; index = index }) }
+        ensures means { place_seen self.now result
+            ≡ rules.first_place (program_of program.now) (record { root = static_of root.now; steps = parts.now; index = index }) }
+        ensures stands { PlaceStands self.now.types.now result }
     {
         let place = self.root(program, static_name(root));
         self.walked(place, parts, index)
@@ -369,28 +369,25 @@ impl<'a> Store<'a> {
     }
 
     /// The element with an index of the row to which steps lead.
-    fn walked(&self, place: Place<'a>, parts: &[Part], index: u64) -> Result<Place<'a>, Stop>
-        requires { PlaceStands self.now.types.now place }
-        ensures found { ForTypes self.now.types.now (λ around.
-            IfOk result (λ found. place_seen self.now found ≡ rules.walked around (place_seen self.now place.entry) parts.now index)) }
-        ensures stands { IfOk result (PlaceStands self.now.types.now) }
-        ensures want { ForTypes self.now.types.now (λ around. IfErr result (OutOnly (WalkOverflows around (place_seen self.now place.entry) parts.now))) }
+    fn walked(&self, place: Place<'a>, parts: &[Part], index: u64) -> Place<'a>
+        requires place { PlaceStands self.now.types.now place }
+        requires leads { ForTypes self.now.types.now (λ around. StepsLead around (place_seen self.now place) parts.now index) }
+        ensures found { ForTypes self.now.types.now (λ around. place_seen self.now result ≡ rules.walked around (place_seen self.now place.entry) parts.now index) }
+        ensures stands { PlaceStands self.now.types.now result }
     {
         let mut reached = place;
         for part in parts {
-            reached = self.stepped(reached, *part)?;
+            reached = self.stepped(reached, *part);
         }
-        Ok(Place { index, ..reached })
+        Place { index, ..reached }
     }
 
     /// The first element of the row to which a step leads.
-    fn stepped(&self, place: Place<'a>, part: Part) -> Result<Place<'a>, Stop>
-        requires { PlaceStands self.now.types.now place }
-        ensures found { ForTypes self.now.types.now (λ around.
-            IfOk result (λ found. place_seen self.now found ≡ rules.stepped around (place_seen self.now place.entry) part)) }
-        ensures stands { IfOk result (PlaceStands self.now.types.now) }
-        ensures want { ForTypes self.now.types.now (λ around.
-            IfErr result (OutOnly (Overflows around (rules.stepped around (place_seen self.now place.entry) part)))) }
+    fn stepped(&self, place: Place<'a>, part: Part) -> Place<'a>
+        requires place { PlaceStands self.now.types.now place }
+        requires below { part_index part < place.row.count }
+        ensures found { ForTypes self.now.types.now (λ around. place_seen self.now result ≡ rules.stepped around (place_seen self.now place.entry) part) }
+        ensures stands { PlaceStands self.now.types.now result }
     {
         match part {
             Part::Member { index, number } => self.member_at(Place { index, ..place }, number),

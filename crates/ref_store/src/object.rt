@@ -2,10 +2,11 @@
 
 ghost use Rattle.std.specs.Prelude.{◌≡◌, ℕ, Some, None, IfOk, OnOk, OnErr, nat_eq, if◌then◌else◌, ◌==◌};
 ghost use Rattle.indexmap.specs.IndexMap.{get};
-ghost use Rattle.c_typed.specs.Table.{Interned, Stands};
+ghost use Rattle.c_typed.specs.Table.{Interned, Stands, structs_in};
 ghost use Rattle.ref_semantics.specs.Values as meaning;
 ghost use Rattle.ref_semantics.specs.Store as meaning_store;
 ghost use Rattle.ref_semantics.specs.Pointers as pointers;
+ghost use Rattle.ref_store.specs.Fitting.{Fits, HasRoom};
 ghost use Rattle.ref_store.specs.Views.{row_in, scalar_in, ScalarStands};
 ghost use Rattle.ref_store.specs.Holding.{ContentIs, IsUndisturbed};
 
@@ -89,6 +90,8 @@ impl<'a> Content<'a> {
         ensures means { (table : Interned) (content : meaning.Content) → ContentIs table (Some self.now) content
             → row_in table result ≡ meaning_store.row_of content }
         ensures stands { (table : Interned) (content : meaning.Content) → ContentIs table (Some self.now) content → Stands table result.c_type }
+        ensures fits { (table : Interned) (content : meaning.Content) → ContentIs table (Some self.now) content
+            → Fits (structs_in table) (row_in table result) × HasRoom (structs_in table) (row_in table result) 0 }
     {
         match self {
             Content::Raw(_) => Row::NOTHING,

@@ -1,6 +1,6 @@
 // What operators do with pointers (C17 6.3.2.3, 6.5.2, 6.5.3, 6.5.6, 6.5.8, 6.5.9).
 
-ghost use Rattle.std.specs.Prelude.{◌≡◌, ℕ, ◌/◌, ◌%◌, true, false, ◌==◌, if◌then◌else◌, neg_ℤ, Some, None, IfOk, IfErr};
+ghost use Rattle.std.specs.Prelude.{◌≡◌, ℕ, ◌/◌, ◌%◌, false, ◌==◌, if◌then◌else◌, neg_ℤ, Some, None, IfOk, IfErr};
 ghost use Rattle.c_num.specs.declared.IntType.TheVariants as int_types;
 ghost use Rattle.c_num.specs.Types.{is_value};
 ghost use Rattle.c_typed.specs.Table.{Interned, Stands, type_in, structs_in};
@@ -10,9 +10,10 @@ ghost use Rattle.ref_semantics.specs.Values.{Heap};
 ghost use Rattle.ref_semantics.specs.Pointers as meaning;
 ghost use Rattle.ref_semantics.specs.Store.{TypeEnvironment, State, is_dead_pointer, with_objects};
 ghost use Rattle.ref_store.specs.Promises.{ForTypes, GivesPlace, GivesScalar, InEach, type_seen, value_seen};
-ghost use Rattle.ref_store.specs.Views.{row_in, place_in, scalar_in, PlaceStands, ScalarStands};
+ghost use Rattle.ref_store.specs.Fitting.{IsObjectType};
+ghost use Rattle.ref_store.specs.Views.{row_in, place_in, scalar_in, IsElement, PlaceStands, ScalarStands};
 ghost use Rattle.ref_store.specs.Holding.{At, IsStore, CallGives, IsMoved};
-ghost use Rattle.ref_store.specs.Wanting.{EitherOverflows, GetsType, PointsUntyped, OutOnly};
+ghost use Rattle.ref_store.specs.Wanting.{GetsType, PointsUntyped, OutOnly};
 
 use crate::object::{Content, Elements};
 use crate::store::Store;
@@ -46,6 +47,13 @@ fn is_past(value: Scalar<'_>) -> bool
         Scalar::Pointer(place) => place.is_end(),
         _ => false,
     }
+}
+
+/// Whether two pointers point into one object.
+fn is_one_object(a: Scalar<'_>, b: Scalar<'_>) -> bool
+    ensures { (table : Interned) → result ≡ meaning.same_object (scalar_in table a.entry) (scalar_in table b.entry) }
+{
+    a.place().name == b.place().name
 }
 
 /// Whether one is an end where the other points into another object.
@@ -117,6 +125,7 @@ impl<'a> Store<'a> {
     pub fn accessed(&self, here: Pos, pointer: Scalar<'a>) -> Result<Place<'a>, Stop>
         ensures gives { GivesPlace self.now self.now (λ around. meaning.accessed here (value_seen self.now pointer.entry)) result }
         ensures stands { ScalarStands self.now.types.now pointer.entry → IfOk result (PlaceStands self.now.types.now) }
+        ensures element { ScalarStands self.now.types.now pointer.entry → IfOk result (IsElement self.now.types.now) }
         ensures want { IfErr result (OutOnly ⊥) }
     {
         if self.is_dead_pointer(pointer) {
@@ -166,6 +175,7 @@ impl<'a> Store<'a> {
     pub fn element(&self, here: Pos, pointer: Scalar<'a>, number: i128) -> Result<Place<'a>, Stop>
         ensures gives { GivesPlace self.now self.now (λ around. meaning.element here (value_seen self.now pointer.entry) number) result }
         ensures stands { ScalarStands self.now.types.now pointer.entry → IfOk result (PlaceStands self.now.types.now) }
+        ensures element { ScalarStands self.now.types.now pointer.entry → IfOk result (IsElement self.now.types.now) }
         ensures want { IfErr result (OutOnly ⊥) }
     {
         if self.is_dead_pointer(pointer) {
@@ -203,7 +213,7 @@ impl<'a> Store<'a> {
     /// An allocation gets a type, if it has none.
     fn of_allocation(&mut self, here: Pos, target: CType, number: u64) -> Result<Scalar<'a>, Stop>
         requires store { IsStore self.old }
-        requires target { Stands self.old.types.now target }
+        requires target { IsObjectType self.old.types.now target }
         ensures gives { GivesScalar self.old self.new (λ around.
             with_objects (λ objects. meaning.of_allocation around here (type_seen self.old target) number (objects (Heap number)))) result }
         ensures stands { IfOk result (ScalarStands self.old.types.now) }
@@ -249,7 +259,7 @@ impl<'a> Store<'a> {
         value: Scalar<'a>,
     ) -> Result<Scalar<'a>, Stop>
         requires store { IsStore self.old }
-        requires target { Stands self.old.types.now target }
+        requires target { IsObjectType self.old.types.now target }
         requires value { ScalarStands self.old.types.now value }
         ensures gives { GivesScalar self.old self.new (λ around.
             meaning.repointed around here (type_seen self.old target) (value_seen self.old value.entry)) result }
@@ -290,22 +300,18 @@ impl<'a> Store<'a> {
     }
 
     /// Whether two pointers are equal (C17 6.5.9 paragraph 6).
-    fn are_equal(&self, a: Scalar<'a>, b: Scalar<'a>) -> Result<bool, Stop>
+    fn are_equal(&self, a: Scalar<'a>, b: Scalar<'a>) -> bool
         requires a { ScalarStands self.now.types.now a }
         requires b { ScalarStands self.now.types.now b }
-        ensures found { ForTypes self.now.types.now (λ around.
-            IfOk result (λ same. same ≡ meaning.are_equal around (value_seen self.now a.entry) (value_seen self.now b.entry))) }
-        ensures only { IfErr result (λ e. e ≡ Stop.OutOfMemory) }
-        ensures want { ForTypes self.now.types.now (λ around.
-            IfErr result (λ e. EitherOverflows around (value_seen self.now a.entry) (value_seen self.now b.entry))) }
+        ensures { ForTypes self.now.types.now (λ around. result ≡ meaning.are_equal around (value_seen self.now a.entry) (value_seen self.now b.entry)) }
     {
         if !(a.is_into_object() && b.is_into_object()) {
-            return Ok(same_function(a, b));
+            return same_function(a, b);
         }
-        if a.place().name != b.place().name {
-            return Ok(false);
+        if !is_one_object(a, b) {
+            return false;
         }
-        Ok(self.offset(a.place())? == self.offset(b.place())?)
+        self.offset(a.place()) == self.offset(b.place())
     }
 
     /// A comparison of pointers (C17 6.5.8 paragraph 5, 6.5.9 paragraph 6).
@@ -321,9 +327,7 @@ impl<'a> Store<'a> {
         ensures gives { GivesScalar self.now self.now (λ around.
             meaning.compared_pointers around relation here (value_seen self.now a.entry) (value_seen self.now b.entry)) result }
         ensures stands { IfOk result (ScalarStands self.now.types.now) }
-        ensures want { InEach self.now (λ around state. IfErr result (OutOnly ((is_dead_pointer state.objects (value_seen self.now a.entry) ≡ false)
-            × (is_dead_pointer state.objects (value_seen self.now b.entry) ≡ false) × (meaning.is_equality relation ≡ true)
-            × EitherOverflows around (value_seen self.now a.entry) (value_seen self.now b.entry)))) }
+        ensures want { IfErr result (OutOnly ⊥) }
     {
         if self.is_dead_pointer(a) || self.is_dead_pointer(b) {
             return Err(Stop::Undefined(UbKind::U06, here));
@@ -332,7 +336,7 @@ impl<'a> Store<'a> {
             if is_end_beside(a, b) {
                 return Err(Stop::Undefined(UbKind::U09, here));
             }
-            let same = self.are_equal(a, b)?;
+            let same = self.are_equal(a, b);
             return Ok(Scalar::truth(if relation == Relation::Ne {
                 !same
             } else {

@@ -9,10 +9,10 @@ ghost use Rattle.ref_semantics.specs.Pointers as pointers;
 ghost use Rattle.ref_semantics.specs.Library as library;
 ghost use Rattle.ref_semantics.specs.Meaning as rules;
 ghost use Rattle.ref_store.specs.Promises.{ForTypes, GivesPlace, GivesScalar, InEach, place_seen, type_seen, value_seen};
-ghost use Rattle.ref_store.specs.declared.value.Stop.TheVariants as Stops;
-ghost use Rattle.ref_store.specs.Views.{name_of, place_in, scalar_in, PlaceStands, ScalarStands};
+ghost use Rattle.ref_store.specs.Fitting.{IsObjectType};
+ghost use Rattle.ref_store.specs.Views.{name_of, place_in, scalar_in, IsElement, PlaceStands, ScalarStands};
 ghost use Rattle.ref_store.specs.Holding.{ContentIs, HeldIs, At, CallGives, Comes, new_local_of};
-ghost use Rattle.ref_store.specs.Wanting.{HasOffsets, Overflows, OutOnly};
+ghost use Rattle.ref_store.specs.Wanting.{OutOnly};
 
 use crate::object::{Content, Elements};
 use crate::value::{Name, Place, Row, Scalar, Stop};
@@ -55,6 +55,7 @@ impl<'a> Store<'a> {
     pub fn named(&self, name: Name<'a>) -> Place<'a>
         ensures gives { GivesPlace self.now self.now (λ around. rules.named (name_of name.entry)) (Ok result) }
         ensures stands { InEach self.now (λ around state. PlaceStands self.now.types.now result) }
+        ensures element { InEach self.now (λ around state. IsElement self.now.types.now result) }
     {
         match self.objects.get(&name) {
             Some(content) => Place::first(name, content.row()),
@@ -67,6 +68,7 @@ impl<'a> Store<'a> {
         ensures gives { (around : TypeEnvironment)
             → CallGives around self.now self.now base (place_in self.now.types.now) (rules.local_place number) (Ok result) }
         ensures stands { (around : TypeEnvironment) (state : State) → At around self.now base state → PlaceStands self.now.types.now result }
+        ensures element { (around : TypeEnvironment) (state : State) → At around self.now base state → IsElement self.now.types.now result }
     {
         let index = base.saturating_add(number);
         if index < self.height() {
@@ -77,60 +79,43 @@ impl<'a> Store<'a> {
     }
 
     /// How many bytes an element lies behind the beginning of its object.
-    pub fn offset(&self, place: Place<'a>) -> Result<u64, Stop>
+    pub fn offset(&self, place: Place<'a>) -> u64
         requires { PlaceStands self.now.types.now place }
-        ensures found { ForTypes self.now.types.now (λ around. IfOk result (λ offset. offset ≡ meaning.offset_of around (place_seen self.now place.entry))) }
-        ensures only { IfErr result (λ e. e ≡ Stop.OutOfMemory) }
-        ensures want { ForTypes self.now.types.now (λ around. IfErr result (λ e. Overflows around (place_seen self.now place.entry))) }
+        ensures { ForTypes self.now.types.now (λ around. result ≡ meaning.offset_of around (place_seen self.now place.entry)) }
     {
-        let size = self.types.size_of(place.row.c_type);
-        let Some(within) = place.index.checked_mul(size) else {
-            return Err(Stop::OutOfMemory);
-        };
-        match place.row.start.checked_add(within) {
-            Some(offset) => Ok(offset),
-            None => Err(Stop::OutOfMemory),
-        }
+        place.row.start + place.index * self.types.size_of(place.row.c_type)
     }
 
     /// A member of an element, by how many stand before it (C17 6.5.2.3).
-    pub fn member_at(&self, place: Place<'a>, number: u32) -> Result<Place<'a>, Stop>
-        requires { PlaceStands self.now.types.now place }
-        ensures found { ForTypes self.now.types.now (λ around.
-            IfOk result (λ member. place_seen self.now member ≡ meaning.member_at around (place_seen self.now place.entry) number)) }
-        ensures stands { IfOk result (PlaceStands self.now.types.now) }
-        ensures only { IfErr result (λ e. e ≡ Stop.OutOfMemory) }
-        ensures want { ForTypes self.now.types.now (λ around.
-            IfErr result (λ e. Overflows around (meaning.member_at around (place_seen self.now place.entry) number))) }
+    pub fn member_at(&self, place: Place<'a>, number: u32) -> Place<'a>
+        requires place { PlaceStands self.now.types.now place }
+        requires element { IsElement self.now.types.now place }
+        ensures found { ForTypes self.now.types.now (λ around. place_seen self.now result ≡ meaning.member_at around (place_seen self.now place.entry) number) }
+        ensures stands { PlaceStands self.now.types.now result }
+        ensures element { IsElement self.now.types.now result }
     {
         let Some(member) = self.types.member_place(place.row.c_type, number as usize) else {
-            return Ok(Place::first(place.name, Row::NOTHING));
-        };
-        let offset = self.offset(place)?;
-        let Some(start) = offset.checked_add(member.offset) else {
-            return Err(Stop::OutOfMemory);
+            return Place::first(place.name, Row::NOTHING);
         };
         let row = Row {
-            start,
+            start: self.offset(place) + member.offset,
             c_type: match member.c_type {
                 Some(c_type) => c_type,
                 None => CType::VOID,
             },
             count: 1,
         };
-        Ok(Place::first(place.name, row))
+        Place::first(place.name, row)
     }
 
     /// The first element of an array (C17 6.3.2.1 paragraph 3).
-    pub fn decayed(&self, place: Place<'a>) -> Result<Place<'a>, Stop>
-        requires { PlaceStands self.now.types.now place }
-        ensures found { ForTypes self.now.types.now (λ around.
-            IfOk result (λ first. place_seen self.now first ≡ meaning.decayed around (place_seen self.now place.entry))) }
-        ensures stands { IfOk result (PlaceStands self.now.types.now) }
-        ensures only { IfErr result (λ e. e ≡ Stop.OutOfMemory) }
-        ensures want { ForTypes self.now.types.now (λ around. IfErr result (λ e. Overflows around (place_seen self.now place.entry))) }
+    pub fn decayed(&self, place: Place<'a>) -> Place<'a>
+        requires place { PlaceStands self.now.types.now place }
+        requires element { IsElement self.now.types.now place }
+        ensures found { ForTypes self.now.types.now (λ around. place_seen self.now result ≡ meaning.decayed around (place_seen self.now place.entry)) }
+        ensures stands { PlaceStands self.now.types.now result }
     {
-        let start = self.offset(place)?;
+        let start = self.offset(place);
         let row = match self.types.shape(place.row.c_type) {
             Shape::Array { element, length } => Row {
                 start,
@@ -143,7 +128,7 @@ impl<'a> Store<'a> {
                 count: 1,
             },
         };
-        Ok(Place::first(place.name, row))
+        Place::first(place.name, row)
     }
 
     /// Zero or null (C17 6.7.9 paragraph 10).
@@ -159,25 +144,22 @@ impl<'a> Store<'a> {
     }
 
     /// The scalar at a place, unless it is indeterminate.
-    fn scalar_in(&self, content: &Content<'a>, place: Place<'a>) -> Result<Option<Scalar<'a>>, Stop>
+    fn scalar_in(&self, content: &Content<'a>, place: Place<'a>) -> Option<Scalar<'a>>
         requires { PlaceStands self.now.types.now place }
-        ensures found { (around : TypeEnvironment) (held : values.Content) → around.structs ≡ structs_in self.now.types.now
+        ensures { (around : TypeEnvironment) (held : values.Content) → around.structs ≡ structs_in self.now.types.now
             → ContentIs self.now.types.now (Some content.now) held
-            → IfOk result (λ value. HeldIs self.now.types.now value (meaning.scalar_at around held (place_seen self.now place.entry))) }
-        ensures only { IfErr result (λ e. e ≡ Stop.OutOfMemory) }
-        ensures want { (around : TypeEnvironment) (held : values.Content) → around.structs ≡ structs_in self.now.types.now
-            → ContentIs self.now.types.now (Some content.now) held → IfErr result (λ e. HasOffsets held × Overflows around (place_seen self.now place.entry)) }
+            → HeldIs self.now.types.now result (meaning.scalar_at around held (place_seen self.now place.entry)) }
     {
         let Content::Elements(elements) = content else {
-            return Ok(None);
+            return None;
         };
-        match elements.held(self.offset(place)?) {
-            Some(value) => Ok(Some(value)),
+        match elements.held(self.offset(place)) {
+            Some(value) => Some(value),
             None => {
                 if elements.is_static {
-                    Ok(Some(self.cleared(place.row.c_type)))
+                    Some(self.cleared(place.row.c_type))
                 } else {
-                    Ok(None)
+                    None
                 }
             }
         }
@@ -188,13 +170,12 @@ impl<'a> Store<'a> {
         requires { PlaceStands self.now.types.now place }
         ensures gives { GivesScalar self.now self.now (λ around. pointers.read around here (place_seen self.now place.entry)) result }
         ensures stands { InEach self.now (λ around state. IfOk result (ScalarStands self.now.types.now)) }
-        ensures want { InEach self.now (λ around state. IfErr result (OutOnly (HasOffsets (state.objects (name_of place.entry.name))
-            × Overflows around (place_seen self.now place.entry)))) }
+        ensures want { IfErr result (OutOnly ⊥) }
     {
         let Some(content) = self.objects.get(&place.name) else {
             return Err(Stop::Undefined(UbKind::U06, here));
         };
-        match self.scalar_in(content, place)? {
+        match self.scalar_in(content, place) {
             Some(value) => Ok(value),
             None => Err(Stop::Undefined(UbKind::U04, here)),
         }
@@ -214,7 +195,7 @@ impl<'a> Store<'a> {
         if self.is_dead(place.name) {
             return Err(Stop::Undefined(UbKind::U06, here));
         }
-        let offset = self.offset(place)?;
+        let offset = self.offset(place);
         if let Some(content) = self.objects.get_mut(&place.name) {
             content.hold(offset, value)?;
         }
@@ -223,7 +204,7 @@ impl<'a> Store<'a> {
 
     /// A local begins to live (C17 6.2.4 paragraph 6).
     pub fn new_local(&mut self, c_type: CType) -> Result<Place<'a>, AllocError>
-        requires { Stands self.old.types.now c_type }
+        requires { IsObjectType self.old.types.now c_type }
         ensures made { (around : TypeEnvironment) (base : ℕ) (state : State) → base ≤ length self.old.locals.items → At around self.old base state
             → IfOk result (λ place. Comes around self.new base (rules.new_local (type_seen self.old c_type)) state (place_seen self.old place)) }
         ensures stands { IfOk result (PlaceStands self.old.types.now) }
@@ -248,7 +229,7 @@ impl<'a> Store<'a> {
 
     /// A local that holds a value from its beginning (C17 6.9.1 paragraph 10).
     pub fn new_holding(&mut self, c_type: CType, value: Scalar<'a>) -> Result<(), AllocError>
-        requires c_type { Stands self.old.types.now c_type }
+        requires c_type { IsObjectType self.old.types.now c_type }
         requires value { ScalarStands self.old.types.now value }
         ensures made { (around : TypeEnvironment) (base : ℕ) (state : State) → base ≤ length self.old.locals.items → At around self.old base state
             → IfOk result (λ done.
@@ -314,26 +295,19 @@ impl<'a> Store<'a> {
     }
 
     /// Whether a pointer does not point to the first byte of a living allocation.
-    fn is_unfreeable(&self, value: Scalar<'a>) -> Result<bool, Stop>
+    fn is_unfreeable(&self, value: Scalar<'a>) -> bool
         requires { ScalarStands self.now.types.now value }
-        ensures found { InEach self.now (λ around state. IfOk result (λ is.
-            is ≡ library.is_unfreeable around state.objects (value_seen self.now value.entry))) }
-        ensures only { IfErr result (λ e. e ≡ Stop.OutOfMemory) }
-        ensures want { InEach self.now (λ around state. IfErr result (λ e. (meaning.is_dead_pointer state.objects (value_seen self.now value.entry) ≡ false)
-            × Overflows around (values.place_of (value_seen self.now value.entry)))) }
+        ensures { InEach self.now (λ around state. result ≡ library.is_unfreeable around state.objects (value_seen self.now value.entry)) }
     {
         match value {
-            Scalar::Raw(number) => Ok(self.is_dead(Name::Heap(number))),
+            Scalar::Raw(number) => self.is_dead(Name::Heap(number)),
             Scalar::Pointer(place) => {
                 let Name::Heap(_) = place.name else {
-                    return Ok(true);
+                    return true;
                 };
-                if self.is_dead(place.name) {
-                    return Ok(true);
-                }
-                Ok(self.offset(place)? != 0)
+                self.is_dead(place.name) || self.offset(place) != 0
             }
-            _ => Ok(true),
+            _ => true,
         }
     }
 
@@ -344,13 +318,12 @@ impl<'a> Store<'a> {
             → CallGives around self.old self.new base (λ done. values.NullValue) (library.freed around here (value_seen self.old value.entry)) result }
         ensures types { self.new.types ≡ self.old.types }
         ensures locals { self.new.locals ≡ self.old.locals }
-        ensures want { InEach self.old (λ around state. IfErr result (OutOnly ((meaning.is_dead_pointer state.objects (value_seen self.old value.entry)
-            ≡ false) × Overflows around (values.place_of (value_seen self.old value.entry))))) }
+        ensures want { IfErr result (OutOnly ⊥) }
     {
         if value.is_null() {
             return Ok(());
         }
-        if self.is_unfreeable(value)? {
+        if self.is_unfreeable(value) {
             return Err(Stop::Undefined(UbKind::U11, here));
         }
         self.objects.swap_remove(&value.place().name);

@@ -31,12 +31,12 @@ use Rattle.ref_typing.proofs.Pointing.{member_row_is}
 
 -- ---- tests that hold
 
-if_some : {A : Type 0} (b : Bool) (known : Option A) (a : A) → (if b then known else None) ≡ Some a → (b ≡ true) × (known ≡ Some a)
+pub if_some : {A : Type 0} (b : Bool) (known : Option A) (a : A) → (if b then known else None) ≡ Some a → (b ≡ true) × (known ≡ Some a)
 if_some true known a is = (refl, is)
 if_some false known a is = absurd (none-some a is)
 
 -- where a step leads
-member_within : (structs : List StructDef) (element : CType) (count index number : ℕ) (inner : RowType)
+pub member_within : (structs : List StructDef) (element : CType) (count index number : ℕ) (inner : RowType)
     → row_within structs (record { element = element; count = count }) (P.Member index number) ≡ Some inner
     → (nat_lt index count ≡ true) × ((t : CType) × (member_of structs number element ≡ Some t) × (one_of t ≡ inner))
 member_within structs Void count index number inner is = absurd (none-some inner (if_some (nat_lt index count) None inner is).1)
@@ -52,7 +52,7 @@ member_within structs (Struct tag) count index number inner is =
     by (Some t) is = (t, refl, same_Some (one_of t) inner is)
     by None is = absurd (none-some inner is)
 
-elements_within : (structs : List StructDef) (element : CType) (count index : ℕ) (inner : RowType)
+pub elements_within : (structs : List StructDef) (element : CType) (count index : ℕ) (inner : RowType)
     → row_within structs (record { element = element; count = count }) (P.Elements index) ≡ Some inner
     → (nat_lt index count ≡ true) × (element ≡ Array inner.element inner.count)
 elements_within structs Void count index inner is = absurd (none-some inner (if_some (nat_lt index count) None inner is).1)
@@ -68,12 +68,12 @@ elements_within structs (Array element n) count index inner is =
 -- ---- places in an object
 
 -- a place in an object alone of a type, in a row of this type
-record StandsAs (structs : List StructDef) (root : CType) (name : Name) (row : RowType) (index : ℕ) (place : Place) : Type 0 where
-  named : place.name ≡ name
-  is_row : RowOf structs root 1 place.row
-  is_type : place.row.c_type ≡ row.element
-  is_count : place.row.count ≡ row.count
-  is_index : place.index ≡ index
+pub record StandsAs (structs : List StructDef) (root : CType) (name : Name) (row : RowType) (index : ℕ) (place : Place) : Type 0 where
+  pub named : place.name ≡ name
+  pub is_row : RowOf structs root 1 place.row
+  pub is_type : place.row.c_type ≡ row.element
+  pub is_count : place.row.count ≡ row.count
+  pub is_index : place.index ≡ index
 
 module _ (program : Program) (state : State) (root : CType) (name : Name) where
   stepped_member : (place : Place) (row : RowType) (k index number : ℕ) (t : CType) → StandsAs program.structs root name row k place → index < row.count
@@ -103,7 +103,7 @@ module _ (program : Program) (state : State) (root : CType) (name : Name) where
         is_index = refl;
       })
 
-  stepped_stands : (place : Place) (row inner : RowType) (k : ℕ) (step : Part) → StandsAs program.structs root name row k place → row_within program.structs row step ≡ Some inner
+  pub stepped_stands : (place : Place) (row inner : RowType) (k : ℕ) (step : Part) → StandsAs program.structs root name row k place → row_within program.structs row step ≡ Some inner
       → StandsAs program.structs root name inner 0 (stepped (around_of program) place step)
   stepped_stands place row inner k (P.Member index number) stands is =
       let parts = member_within program.structs row.element row.count index number inner is in
@@ -180,7 +180,7 @@ module _ (program : Program) (well : IsWellTyped program) (small : HasSmallTypes
   -- ---- first values
 
   -- the object of a root has the type that its steps begin with
-  root_static : (root : first.Static) (t : CType) → rules.static_type program root ≡ Some t
+  pub root_static : (root : first.Static) (t : CType) → rules.static_type program root ≡ Some t
       → (static_type program (name_of root) ≡ t) × IsStatic (first_state program input units) (name_of root) t × WasGiven (first_state program input units) (name_of root)
   root_static (first.StaticVariable name) t is = (ap or_void (same_globals program.globals name ∙ is), globals_stand name t is, tt)
   root_static (first.StaticLiteral place) t is = by (literal_bytes program.literals place) refl is

@@ -5,7 +5,7 @@ use Rattle.std.proofs.lemmas.Bool.{false≢true, true≢false}
 use Rattle.std.specs.Prelude.{is_some}
 use Rattle.c_typed.specs.Types.{CType, CTypes, Pointer, Function}
 use Rattle.c_typed.specs.Typed.{Program}
-use Rattle.c_well_typed.specs.Context.{Context, function_type}
+use Rattle.c_well_typed.specs.Context.{function_type}
 use Rattle.c_well_typed.specs.Expressions.{is_scalar}
 use Rattle.c_well_typed.specs.Programs.{IsWellTyped}
 use Rattle.ref_semantics.specs.Values.{Place, Scalar, IntegerValue, NullValue, FunctionValue, PointerValue, RawPointer, Content, Dead, Raw, Elements}

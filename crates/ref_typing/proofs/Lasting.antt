@@ -11,7 +11,7 @@ use Rattle.ref_semantics.specs.Store.{State, Outcome, Then, Stopped, Eval, ◌>>
 use Rattle.ref_semantics.specs.Meaning.{Completion, Normal, Break, Continue, Return}
 use Rattle.ref_typing.specs.Rows.{RowOf}
 use Rattle.ref_typing.specs.Sound.{PointsTo, HasType, HaveTypes, StandsIn, IsPlace, WasGiven, IsSoundContent, AreLocals, IsStatic, Sound, Later, MayBecome, LivesOn, IsOfHeap, EndsTyped}
-use Rattle.ref_typing.specs.Keeping.{Keeps, Gives, IsElement}
+use Rattle.ref_typing.specs.Keeping.{Keeps, Yields, IsElement}
 
 -- ---- later states
 
@@ -193,7 +193,7 @@ keeps_trans one two = record { sound = two.sound; later = later_trans one.later 
 pub record Leads {A : Type 0} (post : State → A → Type 0) (outcome : Outcome A) : Type 0 where
   pub leads : (a : A) (after : State) → outcome ≡ Then a after → post after a
 
--- `Gives around kind eval` is this from each sound state
+-- `Yields around kind eval` is this from each sound state
 pub record GivesAt {A : Type 0} (around : Context) (kind : State → A → Type 0) (eval : Eval A) (before : State) : Type 0 where
   pub gives : (a : A) (after : State) → eval before ≡ Then a after → Keeps around before after × kind after a
 
@@ -334,9 +334,9 @@ guarded here premises rest is one = record { gives = λ a after run. (unless_giv
 
 -- from each sound state, and back
 pub gives_each : {A : Type 0} {around : Context} {kind : State → A → Type 0} (eval : Eval A) → ((before : State) → Sound around before → GivesAt around kind eval before)
-    → Gives around kind eval
+    → Yields around kind eval
 gives_each eval one before sound = (one before sound).gives
 
-pub each_gives : {A : Type 0} {around : Context} {kind : State → A → Type 0} {eval : Eval A} → Gives around kind eval → (before : State) → Sound around before
+pub each_gives : {A : Type 0} {around : Context} {kind : State → A → Type 0} {eval : Eval A} → Yields around kind eval → (before : State) → Sound around before
     → GivesAt around kind eval before
 each_gives one before sound = record { gives = one before sound }

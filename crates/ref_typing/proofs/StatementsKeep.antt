@@ -18,7 +18,7 @@ use Rattle.ref_semantics.specs.Values.{Place, Scalar, integer_of}
 use Rattle.ref_semantics.specs.Store.{State, Outcome, Then, Eval, ◌>>=◌, give}
 use Rattle.ref_semantics.specs.Meaning.{Calls, is_true, Completion, Normal, Break, Continue, Return, way_or, turns, loop, after_body, optional_value, holds, scoped, Entry, NoEntry, At, default_at, case_at, entry_or, broken_out, block_rest, do_condition, for_step, value, declare, declare_all, start, stmt, block, switch_from}
 use Rattle.ref_typing.specs.Sound.{HasType, Sound, EndsTyped}
-use Rattle.ref_typing.specs.Keeping.{Keeps, Gives, CallsKeep}
+use Rattle.ref_typing.specs.Keeping.{Keeps, Yields, CallsKeep}
 use Rattle.ref_typing.proofs.Lasting.{later_trans, element_lasts, ends_goes, keeps_refl, Leads, GivesAt, then_value, then_state, leads_then, gives_then, gives_as, give_gives, tick_gives, if_gives}
 use Rattle.ref_typing.proofs.Storing.{newer_from, newer_append, Opens, left, left_goes, left_keeps, Begins, new_local_keeps, IsFirst, stored_first_keeps}
 use Rattle.ref_typing.proofs.ValuesKeep.{value_keeps}
@@ -468,5 +468,5 @@ module _ (program : Program) (well : IsWellTyped program) (calls : Calls) (keep 
 
   -- from each sound state
   pub stmt_keeps : (locals : List CType) (within : Within) (s : Stmt) → is_stmt (record { program = program; locals = locals }) within s ≡ true → stmt_has_small program.structs s ≡ true
-      → Gives (record { program = program; locals = locals }) (λ after way. EndsTyped program after within.result way) (stmt (around_of program) calls s)
+      → Yields (record { program = program; locals = locals }) (λ after way. EndsTyped program after within.result way) (stmt (around_of program) calls s)
   stmt_keeps locals within s typed small before sound = (stmt_gives locals within s typed small before sound).gives

@@ -22,7 +22,7 @@ use Rattle.ref_semantics.specs.Store.{State, member_at}
 use Rattle.ref_semantics.specs.Pointers.{truth}
 use Rattle.ref_semantics.specs.Meaning.{Calls, is_true, converted, step_operator, step_amount, value, values, find, address, designated}
 use Rattle.ref_typing.specs.Sound.{HaveTypes, Sound}
-use Rattle.ref_typing.specs.Keeping.{Gives, GivesValue, GivesElement, IsElement, CallsKeep}
+use Rattle.ref_typing.specs.Keeping.{Yields, GivesValue, GivesElement, IsElement, CallsKeep}
 use Rattle.ref_typing.proofs.Lasting.{GivesAt, give_gives, gives_then, gives_as, tick_gives, ticks_gives, if_gives, gives_each, type_lasts, element_lasts}
 use Rattle.ref_typing.proofs.Pointing.{truth_typed, accessed_keeps, added_keeps, element_keeps, repointed_keeps, tested_keeps, compared_keeps, difference_keeps, global_keeps, local_keeps, literal_element, global_complete, local_complete}
 use Rattle.ref_typing.proofs.Storing.{read_keeps, write_keeps, library_keeps}
@@ -339,7 +339,7 @@ module _ (program : Program) (well : IsWellTyped program) (calls : Calls) (keep 
   value_keeps v small t typed = gives_each (value (around_of program) calls v) (value_at v small t typed)
 
   pub values_keep : (vs : Values) → all_have_small program.structs vs ≡ true → (ts : CTypes) → types_of (record { program = program; locals = locals }) vs ≡ Some ts
-      → Gives (record { program = program; locals = locals }) (λ after given. HaveTypes program after ts given) (values (around_of program) calls vs)
+      → Yields (record { program = program; locals = locals }) (λ after given. HaveTypes program after ts given) (values (around_of program) calls vs)
   values_keep vs small ts typed = gives_each (values (around_of program) calls vs) (values_at vs small ts typed)
 
   pub find_keeps : (o : Object) → object_has_small program.structs o ≡ true → (t : CType) → type_of_object (record { program = program; locals = locals }) o ≡ Some t

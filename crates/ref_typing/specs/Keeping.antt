@@ -16,12 +16,12 @@ pub record Keeps (around : Context) (before after : State) : Type 0 where
   pub locals : after.locals ≡ before.locals
 
 -- an evaluation that keeps what is sound, and gives something of a kind
-abbrev pub Gives : {A : Type 0} → Context → (State → A → Type 0) → Eval A → Type 0
-Gives {A} around kind eval = (before : State) → Sound around before → (a : A) (after : State) → eval before ≡ Then a after → Keeps around before after × kind after a
+abbrev pub Yields : {A : Type 0} → Context → (State → A → Type 0) → Eval A → Type 0
+Yields {A} around kind eval = (before : State) → Sound around before → (a : A) (after : State) → eval before ≡ Then a after → Keeps around before after × kind after a
 
 -- a value of a type
 abbrev pub GivesValue : Context → CType → Eval Scalar → Type 0
-GivesValue around c_type eval = Gives around (λ after value. HasType around.program after c_type value) eval
+GivesValue around c_type eval = Yields around (λ after value. HasType around.program after c_type value) eval
 
 -- an element of a row of a type, which is not the row's end
 pub record IsElement (program : Program) (state : State) (c_type : CType) (place : Place) : Type 0 where
@@ -30,7 +30,7 @@ pub record IsElement (program : Program) (state : State) (c_type : CType) (place
   pub is_own : place.row.c_type ≡ c_type
 
 abbrev pub GivesElement : Context → CType → Eval Place → Type 0
-GivesElement around c_type eval = Gives around (λ after place. IsElement around.program after c_type place) eval
+GivesElement around c_type eval = Yields around (λ after place. IsElement around.program after c_type place) eval
 
 -- calls of functions with arguments of their types keep what is sound, and give values of the results' types where these are used
 abbrev pub CallsKeep : Program → Calls → Type 0

@@ -1,6 +1,8 @@
 use Rattle.std.proofs.Common.{sym, subst}
-use Rattle.c_typed.specs.Views.{value_in, ValueStands, values_in, ValuesStand}
-use Rattle.c_typed.proofs.TypedStays.{row_in-vec, ValuesStand-vec}
+use Rattle.c_typed.specs.Views.{value_in, values_in}
+use Rattle.ref_meaning.specs.Trees.{ValueFits, ValuesFit}
+use Rattle.c_typed.proofs.TypedStays.{row_in-vec}
+use Rattle.ref_meaning.proofs.TreeRows.{ValuesFit-vec}
 use Rattle.ref_meaning.specs.Views.{arguments_of, arguments_from}
 use Rattle.ref_meaning.specs.Calling.{IsArgument}
 use Rattle.ref_meaning.proofs.call.argument_of.Goals as goal
@@ -15,7 +17,7 @@ returns-in-Call-clause-is c = λ table.
 
 pub returns-in-Call-clause-stands : goal.returns-in-Call-clause-stands
 returns-in-Call-clause-stands c = λ table stands.
-    c.numbered.ensures.stands table (subst (ValuesStand table) (sym c.deref.ensures.value) (ValuesStand-vec table c.in-Call.arguments (subst (ValueStands table) c.in-Call.is stands).2))
+    c.numbered.ensures.stands table (subst (ValuesFit table) (sym c.deref.ensures.value) (ValuesFit-vec table c.in-Call.arguments (subst (ValueFits table) c.in-Call.is stands).2))
 
 pub returns-in-LibraryCall-clause-is : goal.returns-in-LibraryCall-clause-is
 returns-in-LibraryCall-clause-is c = λ table.
@@ -27,4 +29,4 @@ returns-in-LibraryCall-clause-is c = λ table.
 
 pub returns-in-LibraryCall-clause-stands : goal.returns-in-LibraryCall-clause-stands
 returns-in-LibraryCall-clause-stands c = λ table stands.
-    c.numbered-in-LibraryCall.ensures.stands table (subst (ValuesStand table) (sym c.deref-in-LibraryCall.ensures.value) (ValuesStand-vec table c.in-LibraryCall.arguments (subst (ValueStands table) c.in-LibraryCall.is stands)))
+    c.numbered-in-LibraryCall.ensures.stands table (subst (ValuesFit table) (sym c.deref-in-LibraryCall.ensures.value) (ValuesFit-vec table c.in-LibraryCall.arguments (subst (ValueFits table) c.in-LibraryCall.is stands)))

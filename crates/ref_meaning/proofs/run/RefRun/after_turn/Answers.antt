@@ -4,7 +4,7 @@ use Rattle.ref_steps.specs.Steps as steps
 use Rattle.ref_steps.specs.Steps.{WayGiven}
 use Rattle.ref_meaning.specs.declared.control.Given.TheVariants as G
 use Rattle.ref_meaning.specs.declared.control.Stage.TheVariants as S
-use Rattle.ref_meaning.specs.Views.{config_in, around_run, functions_of, table_of, part_in, way_in, behind_body}
+use Rattle.ref_meaning.specs.Views.{config_in, around_run, functions_of, table_of, part_in, completion_in, behind_body}
 use Rattle.ref_meaning.specs.Holding.{IsTurning}
 use Rattle.ref_meaning.specs.Doing.{taking, popped}
 use Rattle.ref_meaning.specs.Moving.{Moves}
@@ -18,10 +18,10 @@ returns-in-Switch-clause-moves c =
     let s = c.in-Stmt.stmt in
     let waits = c.requires.innermost in
     subst (λ e. Moves old c.done-in-Switch.new.self e c.done-in-Switch.result)
-    (sym (ap (λ n. taking old (behind_body (part_in table n)) (WayGiven (way_in table c.args.way))) c.in-Stmt.is
-    ∙ (switch-turns old s (way_in table c.args.way) (switch-is s c.in-Switch.value c.in-Switch.items c.in-Switch.is)
+    (sym (ap (λ n. taking old (behind_body (part_in table n)) (WayGiven (completion_in table c.args.way))) c.in-Stmt.is
+    ∙ (switch-turns old s (completion_in table c.args.way) (switch-is s c.in-Switch.value c.in-Switch.items c.in-Switch.is)
     ∙ ap (λ w. give (steps.came (around_run old) (functions_of old) (WayGiven w) (popped (config_in old)))) (sym (c.broken_out.ensures.means table)))))
-    (done-moves old c.done-in-Switch.new.self c.args.top (part_in table c.args.node) S.Turn waits (G.Way c.broken_out.result) c.done-in-Switch.result tt c.done-in-Switch.ensures.ok c.requires.holds c.requires.free (c.broken_out.ensures.stands table c.requires.way)
+    (done-moves old c.done-in-Switch.new.self c.args.top (part_in table c.args.node) S.Turn waits (G.Completion c.broken_out.result) c.done-in-Switch.result tt c.done-in-Switch.ensures.ok c.requires.holds c.requires.free (c.broken_out.ensures.stands table c.requires.way)
     (c.done-in-Switch.ensures.becomes (record { node = waits.node; stage = S.Turn }) waits.others waits.stack))
 
 pub returns-in-Some : goal.returns-in-Some
@@ -34,9 +34,9 @@ returns-in-Some c =
     let becomes = c.done-in-Some.ensures.becomes (record { node = waits.node; stage = S.Turn }) waits.others waits.stack in
     record {
       moves = subst (λ e. Moves old c.done-in-Some.new.self e c.done-in-Some.result)
-          (sym (ap (λ n. taking old (behind_body (part_in table n)) (WayGiven (way_in table c.args.way))) c.in-Stmt.is
-          ∙ turn-breaks old s.now (way_in table c.args.way) (way_in table c.in-Some.way) loop.1 (c.in-Some.ensures.means table)))
-          (done-moves old c.done-in-Some.new.self c.args.top (part_in table c.args.node) S.Turn waits (G.Way c.in-Some.way) c.done-in-Some.result tt c.done-in-Some.ensures.ok c.requires.holds c.requires.free
+          (sym (ap (λ n. taking old (behind_body (part_in table n)) (WayGiven (completion_in table c.args.way))) c.in-Stmt.is
+          ∙ turn-breaks old s.now (completion_in table c.args.way) (completion_in table c.in-Some.way) loop.1 (c.in-Some.ensures.means table)))
+          (done-moves old c.done-in-Some.new.self c.args.top (part_in table c.args.node) S.Turn waits (G.Completion c.in-Some.way) c.done-in-Some.result tt c.done-in-Some.ensures.ok c.requires.holds c.requires.free
           (c.in-Some.ensures.stands table c.requires.way) becomes);
       kept = becomes.kept;
     }
@@ -49,8 +49,8 @@ returns-in-None c =
     let loop = turn-loops old s (subst IsTurning c.in-Stmt.is c.requires.turns) c.in_default-stmt.not-Switch in
     record {
       moves = subst (λ e. Moves old c.end_turn.new.self e c.end_turn.result)
-          (sym (ap (λ n. taking old (behind_body (part_in table n)) (WayGiven (way_in table c.args.way))) c.in-Stmt.is
-          ∙ turn-ends old s.now (way_in table c.args.way) loop.1 (c.in-None.ensures.means table)))
+          (sym (ap (λ n. taking old (behind_body (part_in table n)) (WayGiven (completion_in table c.args.way))) c.in-Stmt.is
+          ∙ turn-ends old s.now (completion_in table c.args.way) loop.1 (c.in-None.ensures.means table)))
           c.end_turn.ensures.moves;
       kept = c.end_turn.ensures.kept;
     }

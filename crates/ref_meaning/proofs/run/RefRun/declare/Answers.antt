@@ -1,5 +1,6 @@
 use Rattle.std.proofs.Common.{reverse, refl, ap, subst, ◌∙◌, add-one}
-use Rattle.c_typed.specs.StatementViews.{local_in, optional_value_in, OptionalStands}
+use Rattle.c_typed.specs.StatementViews.{local_in, optional_value_in}
+use Rattle.ref_meaning.specs.Trees.{OptionalFits}
 use Rattle.c_typed.specs.Views.{value_in}
 use Rattle.ref_meaning.specs.declared.control.Stage.TheVariants as S
 use Rattle.ref_meaning.specs.Views.{around_run, table_of, part_in}
@@ -21,7 +22,7 @@ returns-in-Some-clause-moves c =
     let mid = c.new_local.new.self in
     let becomes = c.begin_local.ensures.becomes (record { node = waits.node; stage = S.Item c.args.number }) waits.others (ap reverse c.reserve.ensures.items ∙ waits.stack) in
     first-moves old c.begin_local.new.self mid c.args.top (part_in table c.args.node) c.args.number waits c.args.node _ (local_in table c.args.local.now) (value_in table c.in-Some.value) c.in_ok-place.place c.begin_local.result
-    c.begin_local.ensures.ok c.requires.holds c.requires.free c.requires.node c.requires.items (subst (OptionalStands table) c.in-Some.is c.requires.local.1) tt refl c.in_ok-place.ensures.stands
+    c.begin_local.ensures.ok c.requires.holds c.requires.free c.requires.node c.requires.items (subst (OptionalFits table) c.in-Some.is c.requires.local.1) tt refl c.in_ok-place.ensures.stands
     (local-alters old c.begin_local.new.self mid old.store.next_local _ _ c.requires.holds c.new_local.ensures.types c.in_ok-place.ensures.locals
     (room-becomes old c.begin_local.new.self mid c.reserve.new.self _ _
     (at-next (record old { store = mid; frames = c.reserve.new.self }) c.begin_local.new.self _ _ c.args.node c.args.number _ waits.others (add-one c.args.number) becomes)))

@@ -6,7 +6,7 @@ use Rattle.ref_meaning.specs.Views.{table_of}
 use Rattle.ref_meaning.proofs.Moves.{ok-moves}
 use Rattle.ref_meaning.proofs.Returning.{GivesBack, gives-value, gives-none, IsUsed, used-value, used-main, used-nothing, used-needed, is-needed, not-needed, no-body, returns-nothing, returns-value}
 use Rattle.ref_meaning.proofs.run.RefRun.give_call.Goals as goal
-use Rattle.ref_meaning.proofs.run.RefRun.give_call.Goals.{in-Returned, in_default, in-Some, in-None+in-Body+then-eq, in-None+in-Body+else-eq+else-is_used, else-is_used-via-then-is_used+else-not-same, else-is_used-via-else-is_used, in-None+in_default-node}
+use Rattle.ref_meaning.proofs.run.RefRun.give_call.Goals.{in-Return, in_default, in-Some, in-None+in-Body+then-eq, in-None+in-Body+else-eq+else-is_used, else-is_used-via-then-is_used+else-not-same, else-is_used-via-else-is_used, in-None+in_default-node}
 
 pub same-requires-clause-b : goal.same-requires-clause-b
 same-requires-clause-b c = (void_stands c.args.self.now.program.now.types (record { 0 = 0 }) refl).0
@@ -16,8 +16,8 @@ returns-then-not-same-clause-moves c = λ state at.
     let old = c.args.self.now in
     let r = c.requires in
     let back : GivesBack (table_of old) c.args.way c.match-way.returned = elim c.match-way.branch [
-      | in-Returned w ↦ gives-value (table_of old) c.args.way w.in-Returned.value c.match-way.returned w.in-Returned.is w.returned-is r.way
-      | in_default w ↦ gives-none (table_of old) c.args.way c.match-way.returned w.in_default.not-Returned w.returned-is
+      | in-Return w ↦ gives-value (table_of old) c.args.way w.in-Return.value c.match-way.returned w.in-Return.is w.returned-is r.way
+      | in_default w ↦ gives-none (table_of old) c.args.way c.match-way.returned w.in_default.not-Return w.returned-is
     ] in
     let other = c.if-eq.ensures ∙ (λ i. bytes_eq (c.as_slice.ensures i) (c.as_slice-in-Body.ensures i)) in
     returns-nothing old c.args.node c.args.is_used c.args.place c.args.base c.args.way r.innermost.0 c.match-way.returned r.holds r.free r.innermost.1 back
@@ -31,8 +31,8 @@ returns-clause-moves c =
     let r = c.requires in
     let table = table_of old in
     let back : GivesBack table c.args.way c.match-way.returned = elim c.match-way.branch [
-      | in-Returned w ↦ gives-value table c.args.way w.in-Returned.value c.match-way.returned w.in-Returned.is w.returned-is r.way
-      | in_default w ↦ gives-none table c.args.way c.match-way.returned w.in_default.not-Returned w.returned-is
+      | in-Return w ↦ gives-value table c.args.way w.in-Return.value c.match-way.returned w.in-Return.is w.returned-is r.way
+      | in_default w ↦ gives-none table c.args.way c.match-way.returned w.in_default.not-Return w.returned-is
     ] in
     let used : IsUsed table c.args.is_used c.args.place c.args.node c.match-way.returned c.match-returned.value = elim c.match-returned.branch [
       | in-Some w ↦ used-value table c.args.is_used c.args.place c.args.node c.match-way.returned w.in-Some.value c.match-returned.value w.in-Some.is w.value-is back.1

@@ -1,7 +1,8 @@
 use Rattle.std.proofs.Common.{◌∷◌, None, Some, true, false, FitsSigned, to_z-of_z, refl, sym, ap, subst, ◌∙◌}
 use Rattle.std.specs.Int.{w128}
 use Rattle.c_typed.specs.declared.statement.Stmt.TheVariants as M
-use Rattle.c_typed.specs.StatementViews.{stmt_in, StmtStands}
+use Rattle.c_typed.specs.StatementViews.{stmt_in}
+use Rattle.ref_meaning.specs.Trees.{StmtFits}
 use Rattle.ref_semantics.specs.Store.{give}
 use Rattle.ref_steps.specs.Parts.{StmtPart}
 use Rattle.ref_steps.specs.Steps as steps
@@ -9,7 +10,7 @@ use Rattle.ref_steps.specs.Steps.{ScalarGiven}
 use Rattle.ref_store.specs.Views.{scalar_in}
 use Rattle.ref_meaning.specs.declared.control.Frame as memory_frame
 use Rattle.ref_meaning.specs.declared.control.Given.TheVariants as G
-use Rattle.ref_meaning.specs.declared.control.Way.TheVariants as W
+use Rattle.ref_meaning.specs.declared.control.Completion.TheVariants as W
 use Rattle.ref_meaning.specs.declared.control.Node.TheVariants as N
 use Rattle.ref_meaning.specs.declared.control.Stage.TheVariants as S
 use Rattle.ref_meaning.specs.declared.control.Task.TheVariants as K
@@ -27,10 +28,10 @@ returns-then-is_true-clause-moves c =
     let on = c.requires.innermost in
     let first : memory_frame.Frame = record { node = on.node; stage = S.First } in
     let a = scalar_in table c.args.value in
-    let stands = subst (StmtStands table) c.in-If.is c.requires.stands in
+    let stands = subst (StmtFits table) c.in-If.is c.requires.stands in
     value-enters old c.enter.new.self c.args.top c.args.stmt (M.If c.in-If.condition c.in-If.then) (N.Stmt c.deref.result) a c.enter.result c.in-If.is on
     (becomes-then old c.let_go.new.self c.enter.new.self old.control (record { node = N.Stmt c.deref.result; task = K.Enter }) on.others (c.let_go.ensures first on.others on.stack) c.enter.ensures.becomes)
-    c.enter.ensures.ok c.requires.holds c.requires.free (subst (StmtStands table) (sym c.deref.ensures) stands.1) tt
+    c.enter.ensures.ok c.requires.holds c.requires.free (subst (StmtFits table) (sym c.deref.ensures) stands.1) tt
     ((λ i. give (record (popped (config_in old)) { task = steps.Enter (StmtPart (stmt_in table (c.deref.ensures i))) }))
     ∙ chooses old (stmt_in table c.in-If.then.value) None a true (sym (c.is_true.ensures table) ∙ c.if-is_true.true))
 
@@ -41,8 +42,8 @@ returns-else-is_true-clause-moves c =
     let on = c.requires.innermost in
     let first : memory_frame.Frame = record { node = on.node; stage = S.First } in
     let a = scalar_in table c.args.value in
-    value-given old c.go.new.self c.args.top c.args.stmt (M.If c.in-If.condition c.in-If.then) (G.Way W.Onward) a c.go.result c.in-If.is on
-    (becomes-on old c.let_go.new.self c.go.new.self (K.Give (G.Way W.Onward)) on.others (c.let_go.ensures first on.others on.stack) c.go.ensures.becomes)
+    value-given old c.go.new.self c.args.top c.args.stmt (M.If c.in-If.condition c.in-If.then) (G.Completion W.Normal) a c.go.result c.in-If.is on
+    (becomes-on old c.let_go.new.self c.go.new.self (K.Give (G.Completion W.Normal)) on.others (c.let_go.ensures first on.others on.stack) c.go.ensures.becomes)
     c.go.ensures.ok c.requires.holds c.requires.free tt
     (chooses old (stmt_in table c.in-If.then.value) None a false (sym (c.is_true.ensures table) ∙ c.if-is_true.false))
 
@@ -53,10 +54,10 @@ returns-then-is_true-2-clause-moves c =
     let on = c.requires.innermost in
     let first : memory_frame.Frame = record { node = on.node; stage = S.First } in
     let a = scalar_in table c.args.value in
-    let stands = subst (StmtStands table) c.in-IfElse.is c.requires.stands in
+    let stands = subst (StmtFits table) c.in-IfElse.is c.requires.stands in
     value-enters old c.enter-then-is_true-2.new.self c.args.top c.args.stmt (M.IfElse c.in-IfElse.condition c.in-IfElse.then c.in-IfElse.otherwise) (N.Stmt c.deref-then-is_true-2.result) a c.enter-then-is_true-2.result c.in-IfElse.is on
     (becomes-then old c.let_go-in-IfElse.new.self c.enter-then-is_true-2.new.self old.control (record { node = N.Stmt c.deref-then-is_true-2.result; task = K.Enter }) on.others (c.let_go-in-IfElse.ensures first on.others on.stack) c.enter-then-is_true-2.ensures.becomes)
-    c.enter-then-is_true-2.ensures.ok c.requires.holds c.requires.free (subst (StmtStands table) (sym c.deref-then-is_true-2.ensures) stands.1) tt
+    c.enter-then-is_true-2.ensures.ok c.requires.holds c.requires.free (subst (StmtFits table) (sym c.deref-then-is_true-2.ensures) stands.1) tt
     ((λ i. give (record (popped (config_in old)) { task = steps.Enter (StmtPart (stmt_in table (c.deref-then-is_true-2.ensures i))) }))
     ∙ chooses old (stmt_in table c.in-IfElse.then.value) (Some (stmt_in table c.in-IfElse.otherwise.value)) a true (sym (c.is_true-in-IfElse.ensures table) ∙ c.if-is_true-2.true))
 
@@ -67,10 +68,10 @@ returns-else-is_true-2-clause-moves c =
     let on = c.requires.innermost in
     let first : memory_frame.Frame = record { node = on.node; stage = S.First } in
     let a = scalar_in table c.args.value in
-    let stands = subst (StmtStands table) c.in-IfElse.is c.requires.stands in
+    let stands = subst (StmtFits table) c.in-IfElse.is c.requires.stands in
     value-enters old c.enter-else-is_true-2.new.self c.args.top c.args.stmt (M.IfElse c.in-IfElse.condition c.in-IfElse.then c.in-IfElse.otherwise) (N.Stmt c.deref-else-is_true-2.result) a c.enter-else-is_true-2.result c.in-IfElse.is on
     (becomes-then old c.let_go-in-IfElse.new.self c.enter-else-is_true-2.new.self old.control (record { node = N.Stmt c.deref-else-is_true-2.result; task = K.Enter }) on.others (c.let_go-in-IfElse.ensures first on.others on.stack) c.enter-else-is_true-2.ensures.becomes)
-    c.enter-else-is_true-2.ensures.ok c.requires.holds c.requires.free (subst (StmtStands table) (sym c.deref-else-is_true-2.ensures) stands.2) tt
+    c.enter-else-is_true-2.ensures.ok c.requires.holds c.requires.free (subst (StmtFits table) (sym c.deref-else-is_true-2.ensures) stands.2) tt
     ((λ i. give (record (popped (config_in old)) { task = steps.Enter (StmtPart (stmt_in table (c.deref-else-is_true-2.ensures i))) }))
     ∙ chooses old (stmt_in table c.in-IfElse.then.value) (Some (stmt_in table c.in-IfElse.otherwise.value)) a false (sym (c.is_true-in-IfElse.ensures table) ∙ c.if-is_true-2.false))
 
@@ -86,7 +87,7 @@ returns-else-is_true-3-clause-moves c =
     let on = c.requires.innermost in
     let first : memory_frame.Frame = record { node = on.node; stage = S.First } in
     let a = scalar_in table c.args.value in
-    loop-ends old c.done-else-is_true-3.new.self c.args.top c.args.stmt (G.Way W.Onward) a c.done-else-is_true-3.result (is-loop c.args.stmt c.in-While.is)
+    loop-ends old c.done-else-is_true-3.new.self c.args.top c.args.stmt (G.Completion W.Normal) a c.done-else-is_true-3.result (is-loop c.args.stmt c.in-While.is)
     (sym (c.is_true-in-While.ensures table) ∙ c.if-is_true-3.false) on (c.done-else-is_true-3.ensures.becomes first on.others on.stack) c.done-else-is_true-3.ensures.ok c.requires.holds c.requires.free tt refl
 
 pub returns-in-Switch-clause-moves : goal.returns-in-Switch-clause-moves
@@ -109,7 +110,7 @@ returns-in-Return-clause-moves c =
     let on = c.requires.innermost in
     let first : memory_frame.Frame = record { node = on.node; stage = S.First } in
     let a = scalar_in table c.args.value in
-    value-given old c.done.new.self c.args.top c.args.stmt (M.Return c.in-Return.field-0) (G.Way (W.Returned (Some c.args.value))) a c.done.result c.in-Return.is on
+    value-given old c.done.new.self c.args.top c.args.stmt (M.Return c.in-Return.field-0) (G.Completion (W.Return (Some c.args.value))) a c.done.result c.in-Return.is on
     (c.done.ensures.becomes first on.others on.stack) c.done.ensures.ok c.requires.holds c.requires.free c.requires.value refl
 
 pub returns-in_default-clause-moves : goal.returns-in_default-clause-moves
@@ -119,7 +120,7 @@ returns-in_default-clause-moves c =
     let on = c.requires.innermost in
     let first : memory_frame.Frame = record { node = on.node; stage = S.First } in
     let a = scalar_in table c.args.value in
-    value-given old c.done-in_default.new.self c.args.top c.args.stmt c.args.stmt.now (G.Way W.Onward) a c.done-in_default.result refl on
+    value-given old c.done-in_default.new.self c.args.top c.args.stmt c.args.stmt.now (G.Completion W.Normal) a c.done-in_default.result refl on
     (c.done-in_default.ensures.becomes first on.others on.stack) c.done-in_default.ensures.ok c.requires.holds c.requires.free tt
     (ap (λ frame. taking old frame (ScalarGiven a))
     (sym (drops table c.args.stmt.now c.in_default.not-If c.in_default.not-IfElse c.in_default.not-While c.in_default.not-DoWhile c.in_default.not-For c.in_default.not-Switch c.in_default.not-Return)))

@@ -3,8 +3,8 @@ use Rattle.c_typed.specs.StatementViews.{stmt_in, local_in}
 use Rattle.ref_steps.specs.Steps.{WayGiven}
 use Rattle.ref_meaning.specs.declared.control.Stage.TheVariants as S
 use Rattle.ref_meaning.specs.declared.control.Given.TheVariants as G
-use Rattle.ref_meaning.specs.declared.control.Way.TheVariants as W
-use Rattle.ref_meaning.specs.Views.{table_of, part_in, way_in, at_item}
+use Rattle.ref_meaning.specs.declared.control.Completion.TheVariants as W
+use Rattle.ref_meaning.specs.Views.{table_of, part_in, completion_in, at_item}
 use Rattle.ref_meaning.specs.Items.{ThisItem, block_of}
 use Rattle.ref_meaning.specs.Doing.{taking}
 use Rattle.ref_meaning.specs.Moving.{Moves}
@@ -29,7 +29,7 @@ returns-in-Local-clause-moves c =
     let number = c.args.number in
     let this = subst (ThisItem table number (block_of (part_in table c.args.node))) c.in-Local.is (c.in-Some.ensures table c.requires.node).0 in
     subst (λ e. Moves old c.declare.new.self e c.declare.result)
-    (sym (ap (λ way. taking old (at_item (part_in table c.args.node) number) (WayGiven (way_in table way))) c.in-Onward.is ∙ block-declares old c.args.node number (local_in table c.in-Local.local) c.requires.items this.0)) c.declare.ensures.moves
+    (sym (ap (λ way. taking old (at_item (part_in table c.args.node) number) (WayGiven (completion_in table way))) c.in-Normal.is ∙ block-declares old c.args.node number (local_in table c.in-Local.local) c.requires.items this.0)) c.declare.ensures.moves
 
 pub returns-in-Statement-clause-moves : goal.returns-in-Statement-clause-moves
 returns-in-Statement-clause-moves c =
@@ -39,7 +39,7 @@ returns-in-Statement-clause-moves c =
     let waits = c.requires.innermost in
     let this = subst (ThisItem table number (block_of (part_in table c.args.node))) c.in-Statement.is (c.in-Some.ensures table c.requires.node).0 in
     subst (λ e. Moves old c.enter.new.self e c.enter.result)
-    (sym (ap (λ way. taking old (at_item (part_in table c.args.node) number) (WayGiven (way_in table way))) c.in-Onward.is ∙ block-performs old c.args.node number (stmt_in table c.in-Statement.stmt) c.requires.items this.0))
+    (sym (ap (λ way. taking old (at_item (part_in table c.args.node) number) (WayGiven (completion_in table way))) c.in-Normal.is ∙ block-performs old c.args.node number (stmt_in table c.in-Statement.stmt) c.requires.items this.0))
     (enters-moves old c.at_stage.new.self c.enter.new.self c.args.top (part_in table c.args.node) (S.Item number) waits c.args.node (S.Item (suc number)) _ c.enter.result tt tt tt c.enter.ensures.ok
     c.requires.holds c.requires.free c.requires.node (block-has c.args.node c.requires.items) tt tt this.1
     (numbered-stage old c.at_stage.new.self c.args.node number _ waits.others (add-one number) (c.at_stage.ensures (record { node = waits.node; stage = S.Item number }) waits.others waits.stack)) c.enter.ensures.becomes)
@@ -51,8 +51,8 @@ returns-in-None-clause-moves c =
     let number = c.args.number in
     let waits = c.requires.innermost in
     subst (λ e. Moves old c.done.new.self e c.done.result)
-    (sym (ap (λ way. taking old (at_item (part_in table c.args.node) number) (WayGiven (way_in table way))) c.in-Onward.is ∙ block-ends old c.args.node number c.requires.items (c.in-None.ensures table c.requires.node)))
-    (done-moves old c.done.new.self c.args.top (part_in table c.args.node) (S.Item number) waits (G.Way W.Onward) c.done.result tt c.done.ensures.ok c.requires.holds c.requires.free tt
+    (sym (ap (λ way. taking old (at_item (part_in table c.args.node) number) (WayGiven (completion_in table way))) c.in-Normal.is ∙ block-ends old c.args.node number c.requires.items (c.in-None.ensures table c.requires.node)))
+    (done-moves old c.done.new.self c.args.top (part_in table c.args.node) (S.Item number) waits (G.Completion W.Normal) c.done.result tt c.done.ensures.ok c.requires.holds c.requires.free tt
     (c.done.ensures.becomes (record { node = waits.node; stage = S.Item number }) waits.others waits.stack))
 
 pub returns-in_default : goal.returns-in_default
@@ -63,7 +63,7 @@ returns-in_default c =
     let waits = c.requires.innermost in
     let becomes = c.done-in_default.ensures.becomes (record { node = waits.node; stage = S.Item number }) waits.others waits.stack in
     record {
-      moves = subst (λ e. Moves old c.done-in_default.new.self e c.done-in_default.result) (sym (block-breaks old c.args.node number c.args.way c.requires.items c.in_default.not-Onward))
-          (done-moves old c.done-in_default.new.self c.args.top (part_in table c.args.node) (S.Item number) waits (G.Way c.args.way) c.done-in_default.result tt c.done-in_default.ensures.ok c.requires.holds c.requires.free c.requires.way becomes);
+      moves = subst (λ e. Moves old c.done-in_default.new.self e c.done-in_default.result) (sym (block-breaks old c.args.node number c.args.way c.requires.items c.in_default.not-Normal))
+          (done-moves old c.done-in_default.new.self c.args.top (part_in table c.args.node) (S.Item number) waits (G.Completion c.args.way) c.done-in_default.result tt c.done-in_default.ensures.ok c.requires.holds c.requires.free c.requires.way becomes);
       kept = becomes.kept;
     }

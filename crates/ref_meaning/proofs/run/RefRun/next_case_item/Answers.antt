@@ -4,7 +4,7 @@ use Rattle.ref_steps.specs.Parts.{StmtPart}
 use Rattle.ref_meaning.specs.declared.control.Node.TheVariants as N
 use Rattle.ref_meaning.specs.declared.control.Stage.TheVariants as S
 use Rattle.ref_meaning.specs.declared.control.Given.TheVariants as G
-use Rattle.ref_meaning.specs.declared.control.Way.TheVariants as W
+use Rattle.ref_meaning.specs.declared.control.Completion.TheVariants as W
 use Rattle.ref_meaning.specs.Views.{table_of, case_items_of}
 use Rattle.ref_meaning.specs.Items.{ThisCaseItem}
 use Rattle.ref_meaning.specs.Moving.{Moves}
@@ -35,7 +35,7 @@ returns-in_default c =
     let staged = numbered-stage old c.at_stage.new.self (N.Stmt s) number _ waits.others (add-one number) (c.at_stage.ensures (record { node = waits.node; stage = S.Item number }) waits.others waits.stack) in
     record {
       moves = subst (λ e. Moves old c.go.new.self e c.go.result) (sym (case-passes old s number c.in-Some.item.now c.requires.items (c.in-Some.ensures table c.requires.stands).0 c.in_default.not-Statement))
-          (goes-moves old c.at_stage.new.self c.go.new.self c.args.top (StmtPart (stmt_in table s.now)) (S.Item number) waits (N.Stmt s) (S.Item (suc number)) W.Onward c.go.result tt tt c.go.ensures.ok
+          (goes-moves old c.at_stage.new.self c.go.new.self c.args.top (StmtPart (stmt_in table s.now)) (S.Item number) waits (N.Stmt s) (S.Item (suc number)) W.Normal c.go.result tt tt c.go.ensures.ok
           c.requires.holds c.requires.free c.requires.stands (switch-has s c.requires.items) tt tt tt staged c.go.ensures.becomes);
       kept = kept-behind old c.at_stage.new.self c.go.new.self staged.kept c.go.ensures.becomes.kept;
     }
@@ -48,5 +48,5 @@ returns-in-None-clause-moves c =
     let number = c.args.number in
     let waits = c.requires.innermost in
     subst (λ e. Moves old c.done.new.self e c.done.result) (sym (case-ends old s number c.requires.items (c.in-None.ensures table c.requires.stands)))
-    (done-moves old c.done.new.self c.args.top (StmtPart (stmt_in table s.now)) (S.Item number) waits (G.Way W.Onward) c.done.result tt c.done.ensures.ok c.requires.holds c.requires.free tt
+    (done-moves old c.done.new.self c.args.top (StmtPart (stmt_in table s.now)) (S.Item number) waits (G.Completion W.Normal) c.done.result tt c.done.ensures.ok c.requires.holds c.requires.free tt
     (c.done.ensures.becomes (record { node = waits.node; stage = S.Item number }) waits.others waits.stack))

@@ -1,8 +1,11 @@
-use Rattle.std.proofs.Common.{sym, ap, subst, ◌∙◌}
+use Rattle.std.proofs.Common.{◌≡◌, Bool, true, false, not, nat_lt, Fits, w64, rules, refl, true≢false, sym, ap, subst, ◌∙◌}
+use Rattle.std.proofs.lemmas.Bool.{ltb-true}
+use Rattle.c_typed.specs.Table.{structs_in}
 use Rattle.ref_semantics.specs.Values.{Place, is_end}
 use Rattle.ref_semantics.specs.Pointers.{accessed}
 use Rattle.ref_store.specs.Holding.{EvaluatesTo}
-use Rattle.ref_store.specs.Views.{scalar_in}
+use Rattle.ref_store.specs.Views.{row_in, scalar_in}
+use Rattle.ref_store.proofs.Fitting.{room_below}
 use Rattle.ref_store.proofs.Giving.{comes-same}
 use Rattle.ref_store.proofs.Pointing.{accessed-dead, accessed-null, accessed-end, accessed-there}
 use Rattle.ref_store.proofs.store.Store.accessed.Goals as goal
@@ -34,3 +37,18 @@ returns-clause-gives c = λ around base state at.
     (sym (c.is_dead_pointer.ensures around base state at) ∙ c.if-is_dead_pointer.false) (sym (c.is_null.ensures table) ∙ c.if-is_null.false)
     (ap is_end is ∙ (sym (c.is_end.ensures table) ∙ c.if-is_end.false)) in
     comes-same around store base (accessed c.args.here p) state _ (subst (λ (q : Place). EvaluatesTo (accessed c.args.here p) state q state) is does) at
+
+pub returns-clause-stands : goal.returns-clause-stands
+returns-clause-stands c = λ stands. c.place-place.ensures.stands c.args.self.now.types.now stands
+
+pub returns-clause-element : goal.returns-clause-element
+returns-clause-element c = λ stands.
+    let table = c.args.self.now.types.now in
+    let place = c.place-place.result in
+    let small : Fits w64 place.row.count = search rules in
+    room_below (structs_in table) (row_in table place.row) place.index (c.place-place.ensures.stands table stands).fits
+    (ltb-true place.index place.row.count (before (nat_lt place.index place.row.count) (sym (c.is_end.ensures table) ∙ c.if-is_end.false))) small.fits
+  where
+    before : (b : Bool) → not b ≡ false → b ≡ true
+    before true e = refl
+    before false e = absurd (true≢false e)

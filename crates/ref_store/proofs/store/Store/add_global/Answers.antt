@@ -1,5 +1,7 @@
 use Rattle.std.proofs.Common.{◌≡◌, Some, None, true, false, not, refl, sym, ap, subst, ◌∙◌}
-use Rattle.c_typed.specs.Table.{Stands, type_in}
+use Rattle.c_typed.specs.Table.{type_in}
+use Rattle.ref_store.specs.Fitting.{ElementsStand}
+use Rattle.ref_store.proofs.Fitting.{object_alone}
 use Rattle.ref_semantics.specs.Values as V
 use Rattle.ref_semantics.specs.Store.{is_dead}
 use Rattle.ref_store.specs.declared.value.Name.TheVariants as N
@@ -26,7 +28,8 @@ returns-clause-added c = λ around base state at.
     let none : is_dead (state.objects (name_of name)) ≡ true =
     looked_dead table store.objects name c.get.result (state.objects (name_of name)) c.get.ensures.value (at.objects name) ∙ ap not (sym c.is_some.ensures ∙ c.if-is_some.false) in
     let is : ContentIs table (Some (C.Elements made)) content =
-    elements_content table made true (type_in table global.c_type) 1 (λ offset. None) is_new.is_static (ap (type_in table) is_new.c_type) is_new.count (subst (Stands table) (sym is_new.c_type) c.requires)
+    elements_content table made true (type_in table global.c_type) 1 (λ offset. None) is_new.is_static (ap (type_in table) is_new.c_type) is_new.count
+    (subst (ElementsStand table made.c_type) (sym is_new.count) (subst (λ t. ElementsStand table t 1) (sym is_new.c_type) (object_alone table global.c_type c.requires)))
     (λ offset. subst (λ memory. HeldIs table memory None) (sym (is_new.held offset)) refl) in
     let new : Store = record store { objects = c.insert.new.self } in
     let changes : Changes name (Some (C.Elements made)) store.objects new.objects = c.in_ok-insert.ensures.updates.0 in

@@ -1,11 +1,12 @@
 use Rattle.std.proofs.Common.{◌≡◌, ◌<◌, ◌∷◌, ◌++◌, [], length, get_or, take, map, Some, sym, ap, subst, ◌∙◌}
-use Rattle.c_typed.specs.Table.{Interned, Stands, type_in}
+use Rattle.c_typed.specs.Table.{Interned, type_in}
+use Rattle.ref_store.specs.Fitting.{IsObjectType}
 use Rattle.c_typed.specs.DefinitionViews.{program_of, global_in}
 use Rattle.ref_semantics.specs.Values.{GlobalObject}
 use Rattle.ref_semantics.specs.First.{around_of, first_state}
 use Rattle.ref_store.specs.Beginning.{unfilled}
 use Rattle.ref_store.specs.Firsts.{Has, with_new, unfilled_of}
-use Rattle.ref_store.proofs.FirstObjects.{global_stands, mapped_more, unfilled_global}
+use Rattle.ref_store.proofs.FirstObjects.{global_fits, mapped_more, unfilled_global}
 use Rattle.ref_store.proofs.FirstStore.{at_same}
 use Rattle.ref_store.proofs.store.Store.add_globals.Goals as goal
 
@@ -18,7 +19,7 @@ add_global-requires c =
     let within : n < length globals = subst (λ l. n < length l) items c.loop-global-test.true in
     let at : global ≡ get_or globals n global = c.global-item.is ∙ ap (λ l. get_or l n global) items in
     let types = ap (λ t. t.now) c.loop-global.invariant.types ∙ c.requires.types in
-    subst (λ (t : Interned). Stands t global.c_type) (sym types) (global_stands c.args.program.now.types globals n global c.requires.stand within at)
+    subst (λ (t : Interned). IsObjectType t global.c_type) (sym types) (global_fits (program_of c.args.program.now) c.args.program.now.types globals n global c.requires.fit within at).0
 
 pub loop-global-preserved : goal.loop-global-preserved
 loop-global-preserved c =

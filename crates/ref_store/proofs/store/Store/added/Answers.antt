@@ -1,11 +1,12 @@
-use Rattle.std.proofs.Common.{◌≡◌, true, if◌then◌else◌, ℤ, pos, neg_ℤ, ◌<ℤ◌, ◌≤ℤ◌, nat_abs, Fits, FitsSigned, w64, to_z-of_z, rules, refl, sym, ap, subst, ◌∙◌}
+use Rattle.std.proofs.Common.{◌≡◌, true, if◌then◌else◌, ℤ, pos, neg_ℤ, ◌<ℤ◌, ◌≤ℤ◌, nat_abs, Fits, FitsSigned, w64, to_z, of_z, to_z-of_z, rules, refl, sym, ap, subst, ◌∙◌}
 use Rattle.std.specs.Int.{w128}
 use Rattle.ref_semantics.specs.Values.{PointerValue, place_of, at_index}
 use Rattle.ref_semantics.specs.Pointers.{added}
 use Rattle.ref_store.specs.Views.{place_in, scalar_in}
 use Rattle.ref_store.specs.Holding.{EvaluatesTo, IsMoved}
+use Rattle.ref_store.proofs.Fitting.{at_stands}
 use Rattle.ref_store.proofs.Giving.{comes-same}
-use Rattle.ref_store.proofs.Pointing.{index-exact, lt-true, lt-false, is_outside, outside-negative, outside-above, outside-not_above, fits-cast, added-dead, added-outside, added-null, added-there}
+use Rattle.ref_store.proofs.Pointing.{index-exact, lt-true, lt-false, is_outside, outside-negative, outside-above, outside-not_above, fits-cast, cast-le, added-dead, added-outside, added-null, added-there}
 use Rattle.ref_store.proofs.store.Store.added.Goals as goal
 use Rattle.ref_store.proofs.store.Store.added.Goals.{then-index-lt0-via-then-index-lt0, then-index-lt0-via-else-index-lt0+then-index-from}
 
@@ -69,3 +70,14 @@ returns-clause-gives c = λ around base state at.
     let does = added-there c.args.here p z state place (c.place-place.ensures.means table) (sym (c.is_dead_pointer.ensures around base state at) ∙ c.if-is_dead_pointer.false) (sym (c.is_null.ensures table) ∙ c.if-is_null.false) outside in
     let index = sym (index-exact place.index place.row.count z m moved small.fits least below) ∙ ap nat_abs (sym (to_z-of_z fits)) in
     comes-same around store base (added c.args.here p z) state _ (subst (λ n. EvaluatesTo (added c.args.here p z) state (PointerValue (at_index place n)) state) index does) at
+
+pub returns-clause-stands : goal.returns-clause-stands
+returns-clause-stands c = λ stands.
+    let table = c.args.self.now.types.now in
+    let row = c.place-place.result.row in
+    let m = c.moved-index.result in
+    let fits : FitsSigned w128 m = record { sfits = c.moved-index.type_inv } in
+    let from : FitsSigned w128 c.from.result = record { sfits = c.from.type_inv } in
+    let zero : FitsSigned w128 (pos 0) = search rules in
+    let below : m ≤ℤ pos row.count = subst (λ (x : ℤ). m ≤ℤ x) c.from.ensures (lt-false c.from.result m from fits c.if-index-from.false) in
+    at_stands table c.place-place.result (nat_abs (to_z w128 (of_z w128 m))) (c.place-place.ensures.stands table stands) (cast-le m row.count fits (lt-false m (pos 0) fits zero c.if-index-lt0.false) below)

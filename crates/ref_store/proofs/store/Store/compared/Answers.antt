@@ -3,7 +3,6 @@ use Rattle.ref_semantics.specs.Values.{Place}
 use Rattle.ref_semantics.specs.Pointers.{truth, truth_of_equality}
 use Rattle.ref_store.specs.Views.{scalar_in}
 use Rattle.ref_store.proofs.Comparing.{or-first, or-second, or-neither, compared-dead, equality-beside, order-beside, equality-comes, order-comes, truth-of-unlike, truth-of-like, compared-as}
-use Rattle.ref_store.proofs.Wanting.{out_where, handed_on}
 use Rattle.ref_store.proofs.store.Store.compared.Goals as goal
 use Rattle.ref_store.proofs.store.Store.compared.Goals.{then-is_dead_pointer-via-then-is_dead_pointer, then-is_dead_pointer-via-else-is_dead_pointer+then-is_dead_pointer-2, then-eq, else-eq}
 
@@ -26,10 +25,10 @@ returns-then-is_end_beside-clause-gives c = λ around base state at.
 pub returns-then-is_equality-clause-gives : goal.returns-then-is_equality-clause-gives
 returns-then-is_equality-clause-gives c = λ around base state at.
     let table = c.args.self.now.types.now in
-    let same = c.in_ok-same.ensures.found around at.structs in
-    let told : truth_of_equality c.args.relation c.in_ok-same.same ≡ truth c.if-eq.truth = elim c.if-eq.branch [
-      | then-eq w ↦ truth-of-unlike c.args.relation c.in_ok-same.same w.if-eq.ensures ∙ ap truth (sym w.truth-is)
-      | else-eq w ↦ truth-of-like c.args.relation c.in_ok-same.same w.if-eq.ensures ∙ ap truth (sym w.truth-is)
+    let same = c.are_equal-same.ensures around at.structs in
+    let told : truth_of_equality c.args.relation c.are_equal-same.result ≡ truth c.if-eq.truth = elim c.if-eq.branch [
+      | then-eq w ↦ truth-of-unlike c.args.relation c.are_equal-same.result w.if-eq.ensures ∙ ap truth (sym w.truth-is)
+      | else-eq w ↦ truth-of-like c.args.relation c.are_equal-same.result w.if-eq.ensures ∙ ap truth (sym w.truth-is)
     ] in
     equality-comes around c.args.self.now base c.args.relation c.args.here (scalar_in table c.args.a) (scalar_in table c.args.b) state _
     (or-neither _ _ (c.if-is_dead_pointer.ensures around base state at) (c.if-is_dead_pointer-2.ensures around base state at))
@@ -58,10 +57,3 @@ returns-clause-gives c = λ around base state at.
 
 pub returns-clause-stands : goal.returns-clause-stands
 returns-clause-stands c = c.truth-2.ensures.stands c.args.self.now.types.now
-
-pub returns-in_err-same-clause-want : goal.returns-in_err-same-clause-want
-returns-in_err-same-clause-want c = λ around base state at.
-    handed_on _ c.in_err-same.field-0.0 c.from_residual.result
-    (out_where _ c.in_err-same.field-0.0
-    (sym (c.if-is_dead_pointer.ensures around base state at), sym (c.if-is_dead_pointer-2.ensures around base state at), sym c.if-is_equality.ensures, c.in_err-same.ensures.want around at.structs))
-    c.from_residual.ensures.1

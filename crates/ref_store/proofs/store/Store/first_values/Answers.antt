@@ -2,18 +2,18 @@ use Rattle.std.proofs.Common.{◌≡◌, ◌+◌, ◌<◌, length, get_or, sym, 
 use Rattle.std.proofs.lemmas.List.{length_push}
 use Rattle.c_typed.specs.DefinitionViews.{program_of}
 use Rattle.ref_store.specs.Firsts.{AreFirsts}
-use Rattle.ref_store.proofs.FirstObjects.{global_stands, firsts_push}
+use Rattle.ref_store.proofs.FirstObjects.{global_fits, firsts_push}
 use Rattle.ref_store.proofs.store.Store.first_values.Goals as goal
 
-pub first_elements-requires-clause-stands : goal.first_elements-requires-clause-stands
-first_elements-requires-clause-stands c =
+pub first_elements-requires-clause-fits : goal.first_elements-requires-clause-fits
+first_elements-requires-clause-fits c =
     let globals = c.args.program.now.globals.items in
     let n = c.loop-global.global-index in
     let global = c.global-item.result in
     let items = c.deref-global-items.ensures.value in
     let within : n < length globals = subst (λ l. n < length l) items c.loop-global-test.true in
     let at : global ≡ get_or globals n global = c.global-item.is ∙ ap (λ l. get_or l n global) items in
-    global_stands c.args.program.now.types globals n global c.requires.stand within at
+    global_fits (program_of c.args.program.now) c.args.program.now.types globals n global c.requires.fit within at
 
 pub loop-global-preserved : goal.loop-global-preserved
 loop-global-preserved c =

@@ -48,14 +48,14 @@ comes around here value store new base state name same not_null holds changes at
   quiet = unheard state.trace (access Freed (name_of name)) (quiet_access Freed (λ number. refl) (name_of name));
 }
 
-pub returns-then-branch-clause-gives : goal.returns-then-branch-clause-gives
-returns-then-branch-clause-gives c = λ around base state at.
+pub returns-then-is_unfreeable-clause-gives : goal.returns-then-is_unfreeable-clause-gives
+returns-then-is_unfreeable-clause-gives c = λ around base state at.
     let table = c.args.self.now.types.now in
-    is_undefined around c.args.here (scalar_in table c.args.value) state (sym (c.is_null.ensures table) ∙ c.if-is_null.false) (sym (c.in_ok-is_unfreeable.ensures.found around base state at) ∙ c.if-branch.true)
+    is_undefined around c.args.here (scalar_in table c.args.value) state (sym (c.is_null.ensures table) ∙ c.if-is_null.false) (sym (c.is_unfreeable.ensures around base state at) ∙ c.if-is_unfreeable.true)
 
 pub returns-clause-gives : goal.returns-clause-gives
 returns-clause-gives c = λ around base state at.
     let self = c.args.self.now in
     let table = self.types.now in
     comes around c.args.here (scalar_in table c.args.value) self (record self { objects = c.swap_remove.new.self }) base state c.place.result.name (ap (λ place. place.name) (c.place.ensures.means table))
-    (sym (c.is_null.ensures table) ∙ c.if-is_null.false) (sym (c.in_ok-is_unfreeable.ensures.found around base state at) ∙ c.if-branch.false) c.swap_remove.ensures.updates.0 at
+    (sym (c.is_null.ensures table) ∙ c.if-is_null.false) (sym (c.is_unfreeable.ensures around base state at) ∙ c.if-is_unfreeable.false) c.swap_remove.ensures.updates.0 at

@@ -1,13 +1,15 @@
 use Rattle.std.proofs.Common.{◌≡◌, ◌<◌, ◌+◌, ◌-◌, true, ◌++◌, [], length, take, get_or, drop, map, refl, sym, ap, subst, ◌∙◌, arith}
 use Rattle.std.proofs.lemmas.List.{drop_all, length_push}
-use Rattle.c_typed.specs.Table.{Interned, Stands, type_in}
+use Rattle.c_typed.specs.Table.{Interned, type_in}
+use Rattle.ref_store.specs.Fitting.{IsObjectType}
+use Rattle.ref_store.proofs.Fitting.{object_alone}
 use Rattle.c_typed.specs.DefinitionViews.{program_of, global_in, all_first}
 use Rattle.ref_semantics.specs.Values.{GlobalObject, Content, Elements}
 use Rattle.ref_semantics.specs.Store.{with_content}
 use Rattle.ref_semantics.specs.First.{around_of, first_state, first_held, first_objects}
 use Rattle.ref_store.specs.Beginning.{unfilled_objects}
 use Rattle.ref_store.specs.Firsts.{Has, AreFirsts, filled}
-use Rattle.ref_store.proofs.FirstObjects.{filled_all, filled_step, firsts_pop, first_content, global_stands}
+use Rattle.ref_store.proofs.FirstObjects.{filled_all, filled_step, firsts_pop, first_content, global_fits}
 use Rattle.ref_store.proofs.FirstStore.{at_same}
 use Rattle.ref_store.proofs.store.Store.hold_firsts.Goals as goal
 
@@ -32,18 +34,18 @@ loop-elements-preserved c =
     let made = c.pop.new.self.items in
     let last = c.in-Some.elements in
     let popped = c.in-Some.ensures.items in
-    let global = c.in-Some-get.global.now in
+    let global = c.index.result.now in
     let count : length c.loop-elements.firsts.items ≡ length made + 1 = ap length popped ∙ length_push made last in
     let within : length made < length globals = omega (arith, count, had.within) in
     let count_is : c.len.result ≡ length made = c.len.ensures ∙ c.pop.new.self.ok.0 in
-    let at : global ≡ get_or globals (length made) global = c.in-Some-get.ensures.lookup.1 ∙ λ i. get_or (c.deref.ensures.value i) (count_is i) global in
+    let at : global ≡ get_or globals (length made) global = c.index.ensures ∙ ap (λ k. get_or globals k global) count_is in
     let rest = firsts_pop program table globals made global last at (subst (AreFirsts program table globals) popped had.firsts) in
     let types = ap (λ t. t.now) had.types ∙ c.requires.types in
-    let stands = subst (λ (t : Interned). Stands t global.c_type) (sym types) (global_stands known globals (length made) global c.requires.stand within at) in
+    let fits = subst (λ (t : Interned). IsObjectType t global.c_type) (sym types) (global_fits program known globals (length made) global c.requires.fit within at).0 in
     let objects = filled program (map (global_in known) (drop (length c.loop-elements.firsts.items) globals)) (unfilled_objects program) in
     let content : Interned → Content = λ t. Elements true (type_in t global.c_type) 1 (first_held program (type_in t global.c_type) (all_first global.first.items)) in
     let new = c.hold_global.new.self in
-    let held = c.in_ok-hold_global.ensures.held (around_of program) 0 (record (first_state program [] 0) { objects = objects }) (content table) (first_content program table global last stands rest.1) had.has in
+    let held = c.in_ok-hold_global.ensures.held (around_of program) 0 (record (first_state program [] 0) { objects = objects }) (content table) (first_content program table global last (object_alone table global.c_type fits) rest.1) had.has in
     record {
       types = c.in_ok-hold_global.ensures.types ∙ had.types;
       within = omega (arith, within);

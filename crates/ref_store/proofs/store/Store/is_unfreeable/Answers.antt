@@ -1,40 +1,31 @@
-use Rattle.std.proofs.Common.{◌≡◌, ℕ, not, ◌||◌, ◌==◌, sym, ap, subst, ◌∙◌}
-use Rattle.ref_semantics.specs.Values.{Place, Heap, PointerValue, place_of}
-use Rattle.ref_semantics.specs.Store.{TypeEnvironment, Objects, is_dead, is_dead_pointer, offset_of}
+use Rattle.std.proofs.Common.{◌≡◌, ℕ, not, ◌||◌, ◌==◌, sym, ap, ◌∙◌}
+use Rattle.ref_semantics.specs.Values.{Place, Heap, PointerValue}
+use Rattle.ref_semantics.specs.Store.{TypeEnvironment, Objects, is_dead, offset_of}
 use Rattle.ref_semantics.specs.Library.{is_heap, is_unfreeable}
 use Rattle.ref_store.specs.Views.{name_of, place_in, scalar_in}
-use Rattle.ref_store.specs.Wanting.{Overflows}
-use Rattle.ref_store.proofs.Wanting.{errors}
 use Rattle.ref_store.proofs.store.Store.is_unfreeable.Goals as goal
 
 of_allocation : (around : TypeEnvironment) (objects : Objects) (place : Place) (number : ℕ) → place.name ≡ Heap number → is_unfreeable around objects (PointerValue place) ≡ is_dead (objects place.name) || not (offset_of around place == 0)
 of_allocation around objects place number heap = ap (λ name. not (is_heap name) || (is_dead (objects place.name) || not (offset_of around place == 0))) heap
 
-pub returns-then-is_dead-clause-found : goal.returns-then-is_dead-clause-found
-returns-then-is_dead-clause-found c = λ around base state at.
+pub returns-in-Raw : goal.returns-in-Raw
+returns-in-Raw c = λ around base state at.
+    c.is_dead.ensures around base state at ∙ sym (ap (λ v. is_unfreeable around state.objects (scalar_in c.args.self.now.types.now v)) c.in-Raw.is)
+
+pub returns-then-is_dead : goal.returns-then-is_dead
+returns-then-is_dead c = λ around base state at.
     let table = c.args.self.now.types.now in
     let place = place_in table c.in-Pointer.place in
-    sym (ap (λ v. is_unfreeable around state.objects (scalar_in table v)) c.in-Pointer.is
+    c.if-is_dead.true
+    ∙ sym (ap (λ v. is_unfreeable around state.objects (scalar_in table v)) c.in-Pointer.is
     ∙ (of_allocation around state.objects place c.in-Heap.field-0 (ap name_of c.in-Heap.is)
     ∙ ap (λ dead. dead || not (offset_of around place == 0)) (sym (c.is_dead-in-Pointer.ensures around base state at) ∙ c.if-is_dead.true)))
 
-pub returns-in-Raw-clause-found : goal.returns-in-Raw-clause-found
-returns-in-Raw-clause-found c = λ around base state at.
-    c.is_dead.ensures around base state at ∙ sym (ap (λ v. is_unfreeable around state.objects (scalar_in c.args.self.now.types.now v)) c.in-Raw.is)
-
-pub returns-in_ok-offset-in-Pointer-clause-found : goal.returns-in_ok-offset-in-Pointer-clause-found
-returns-in_ok-offset-in-Pointer-clause-found c = λ around base state at.
+pub returns-else-is_dead : goal.returns-else-is_dead
+returns-else-is_dead c = λ around base state at.
     let table = c.args.self.now.types.now in
     let place = place_in table c.in-Pointer.place in
     sym (ap (λ v. is_unfreeable around state.objects (scalar_in table v)) c.in-Pointer.is
     ∙ (of_allocation around state.objects place c.in-Heap.field-0 (ap name_of c.in-Heap.is)
     ∙ (ap (λ dead. dead || not (offset_of around place == 0)) (sym (c.is_dead-in-Pointer.ensures around base state at) ∙ c.if-is_dead.false)
-    ∙ ap (λ offset. not (offset == 0)) (sym (c.in_ok-offset-in-Pointer.ensures.found around at.structs)))))
-
-pub returns-in_err-offset-in-Pointer-clause-want : goal.returns-in_err-offset-in-Pointer-clause-want
-returns-in_err-offset-in-Pointer-clause-want c = λ around base state at.
-    let table = c.args.self.now.types.now in
-    errors _ c.from_residual.result (λ stop. (
-      ap (λ v. is_dead_pointer state.objects (scalar_in table v)) c.in-Pointer.is ∙ (sym (c.is_dead-in-Pointer.ensures around base state at) ∙ c.if-is_dead.false),
-      subst (λ v. Overflows around (place_of (scalar_in table v))) (sym c.in-Pointer.is) (c.in_err-offset-in-Pointer.ensures.want around at.structs),
-    ))
+    ∙ ap (λ offset. not (offset == 0)) (sym (c.offset.ensures around at.structs)))))

@@ -24,3 +24,9 @@ returns-else-index-height-clause-gives c = λ around state at.
 
 pub returns-else-index-height-clause-stands : goal.returns-else-index-height-clause-stands
 returns-else-index-height-clause-stands c = λ around state at. c.named-else-index-height.ensures.stands around c.args.base state at
+
+pub returns-then-index-height-clause-element : goal.returns-then-index-height-clause-element
+returns-then-index-height-clause-element c = λ around state at. c.named.ensures.element around c.args.base state at
+
+pub returns-else-index-height-clause-element : goal.returns-else-index-height-clause-element
+returns-else-index-height-clause-element c = λ around state at. c.named-else-index-height.ensures.element around c.args.base state at

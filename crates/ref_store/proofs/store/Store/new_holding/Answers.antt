@@ -2,7 +2,7 @@ use Rattle.std.proofs.Common.{◌≡◌, ℕ, suc, ◌+◌, ◌*◌, ◌≤◌, 
 use Rattle.run_theory.specs.declared.ends.UbKind.TheVariants as Ub
 use Rattle.run_theory.specs.Runs.{output_of}
 use Rattle.c_typed.specs.Types.{CType}
-use Rattle.c_typed.specs.Table.{Stands, type_in}
+use Rattle.c_typed.specs.Table.{type_in}
 use Rattle.c_typed.specs.declared.c_type.CType as memory_type
 use Rattle.ref_semantics.specs.Values.{Name, LocalObject, Scalar, Content, Elements, same_name}
 use Rattle.ref_semantics.specs.Store.{TypeEnvironment, Objects, State, Outcome, Then, continue_with, give, emit, store_content, premise, unless, is_dead, size_of, holding, with_content, with_scalar}
@@ -13,6 +13,8 @@ use Rattle.ref_store.specs.declared.object.Content.TheVariants as C
 use Rattle.ref_store.specs.declared.object.Elements as memory_elements
 use Rattle.ref_store.specs.declared.store.Store.{Store}
 use Rattle.ref_store.specs.Views.{scalar_in}
+use Rattle.ref_store.specs.Fitting.{ElementsStand}
+use Rattle.ref_store.proofs.Fitting.{object_alone}
 use Rattle.ref_store.specs.Holding.{At, AllHeld, Comes, left, new_local_of}
 use Rattle.ref_store.proofs.Updating.{Changes, none_held}
 use Rattle.ref_store.proofs.Locals.{living, at_living, pushed}
@@ -46,7 +48,7 @@ stored_at_once around c_type value state =
         (unless (record { line = 1; column = 1 }) (premise (is_dead content) Ub.U06 ∷ []) (store_content (LocalObject state.next_local) (holding offset value content) (emit [] (give value))) begun)
 
 begins : (around : TypeEnvironment) (store new : Store) (base : ℕ) (state : State) (row : memory_elements.Elements) (c_type : memory_type.CType) (value : memory_scalar.Scalar) → base ≤ length store.locals.items
-    → row.is_static ≡ false → row.c_type ≡ c_type → row.count ≡ 1 → Stands store.types.now c_type → AllHeld store.types.now row.held (with_scalar 0 (scalar_in store.types.now value) (λ offset. None))
+    → row.is_static ≡ false → row.c_type ≡ c_type → row.count ≡ 1 → ElementsStand store.types.now c_type 1 → AllHeld store.types.now row.held (with_scalar 0 (scalar_in store.types.now value) (λ offset. None))
     → new.next_local ≡ suc store.next_local → new.locals.items ≡ store.locals.items ++ (store.next_local ∷ []) → Changes (N.Own store.next_local) (Some (C.Elements row)) store.objects new.objects
     → At around store base state
     → Comes around (record store { objects = new.objects; locals = new.locals; next_local = new.next_local }) base (new_local_of around (type_in store.types.now c_type) (scalar_in store.types.now value)) state Normal
@@ -69,5 +71,5 @@ returns-clause-made c = λ around base state within at.
     let locals = pushed c.push.result self.locals.items c.reserve.new.self.items c.push.new.self.items self.next_local c.unwrap.result c.push.ensures.items c.unwrap.ensures c.in_ok-reserve.ensures.items in
     let all = all_held table new.result.held row.held 0 c.args.value (λ offset. None) c.requires.value c.in_ok-hold.ensures.held (none_held table new.result.held new.ensures.held) in
     begins around self (record self { objects = c.insert.new.self; locals = c.push.new.self; next_local = c.in-Some.next }) base state row c.args.c_type c.args.value within
-    (c.in_ok-hold.ensures.same.is_static ∙ new.ensures.is_static) (c.in_ok-hold.ensures.same.c_type ∙ new.ensures.c_type) (c.in_ok-hold.ensures.same.count ∙ new.ensures.count) c.requires.c_type all
+    (c.in_ok-hold.ensures.same.is_static ∙ new.ensures.is_static) (c.in_ok-hold.ensures.same.c_type ∙ new.ensures.c_type) (c.in_ok-hold.ensures.same.count ∙ new.ensures.count) (object_alone table c.args.c_type c.requires.c_type) all
     (c.in-Some.ensures.1 ∙ add-one self.next_local) locals c.in_ok-insert.ensures.updates.0 at

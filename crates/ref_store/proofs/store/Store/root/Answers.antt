@@ -1,8 +1,10 @@
 use Rattle.std.proofs.Common.{Some, None, refl, sym, ap, subst, ◌∙◌}
-use Rattle.c_typed.specs.Table.{Stands}
+use Rattle.c_typed.specs.Table.{structs_in}
+use Rattle.ref_store.specs.Fitting.{AllEnd}
+use Rattle.ref_store.proofs.Fitting.{first_stands, void_ends, whole_fits}
 use Rattle.c_typed.specs.DefinitionViews.{program_of}
 use Rattle.c_typed.proofs.Grown.{void_stands}
-use Rattle.ref_semantics.specs.Values.{first_of_row}
+use Rattle.ref_semantics.specs.Values.{whole_row, first_of_row}
 use Rattle.ref_store.specs.Views.{name_of, place_in}
 use Rattle.ref_store.specs.Beginning.{unfilled_objects}
 use Rattle.ref_store.proofs.FirstObjects.{row_of_static}
@@ -24,7 +26,7 @@ returns-in-Some-clause-stands c =
     let name = c.args.name in
     let content = unfilled_objects (program_of c.args.program.now) (name_of name) in
     let is = looked table c.args.self.now.objects name (Some c.in-Some.content.now) content c.in-Some.ensures.value (c.requires.objects name) in
-    subst (λ p. Stands table p.row.c_type) (sym c.first.ensures) (c.row.ensures.stands table content is)
+    first_stands table c.first.result name c.row.result c.first.ensures (c.row.ensures.stands table content is) (c.row.ensures.fits table content is).0
 
 pub returns-in-None-clause-means : goal.returns-in-None-clause-means
 returns-in-None-clause-means c =
@@ -35,4 +37,9 @@ returns-in-None-clause-means c =
     ap (place_in table) c.first-in-None.ensures ∙ ap (first_of_row (name_of name)) (missing_row table content is ∙ row_of_static (program_of c.args.program.now) (name_of name))
 
 pub returns-in-None-clause-stands : goal.returns-in-None-clause-stands
-returns-in-None-clause-stands c = subst (λ p. Stands c.args.self.now.types.now p.row.c_type) (sym c.first-in-None.ensures) (void_stands c.args.self.now.types.now (record { 0 = 0 }) refl).0
+returns-in-None-clause-stands c =
+    let table = c.args.self.now.types.now in
+    let stands = void_stands table (record { 0 = 0 }) refl in
+    let all = subst (λ t. AllEnd (structs_in table) (whole_row t 1)) (sym stands.1) (void_ends (structs_in table) 1) in
+    first_stands table c.first-in-None.result c.args.name (record { start = 0; c_type = record { 0 = 0 }; count = 1 }) c.first-in-None.ensures stands.0
+    (whole_fits table (record { 0 = 0 }) 1 (stands.0, all, all))

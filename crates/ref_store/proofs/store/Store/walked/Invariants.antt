@@ -3,7 +3,7 @@ use Rattle.c_typed.specs.Table.{structs_in}
 use Rattle.ref_semantics.specs.Store.{TypeEnvironment}
 use Rattle.ref_semantics.specs.First as rules
 use Rattle.ref_store.specs.Views.{place_in, PlaceStands}
-use Rattle.ref_store.specs.Wanting.{WalkOverflows}
+use Rattle.ref_store.specs.Firsts.{StepsLead}
 use Rattle.ref_store.proofs.store.Store.walked.Given as goal
 
 abbrev pub invariant-loop-part : goal.invariant-loop-part
@@ -11,6 +11,5 @@ invariant-loop-part l = record {
   stands : PlaceStands l.self.types.now l.reached;
   found : (around : TypeEnvironment) → around.structs ≡ structs_in l.self.types.now
       → rules.walked around (place_in l.self.types.now l.fn.place) l.parts l.index ≡ rules.walked around (place_in l.self.types.now l.reached) (drop l.part-index l.parts) l.index;
-  want : (around : TypeEnvironment) → around.structs ≡ structs_in l.self.types.now
-      → WalkOverflows around (place_in l.self.types.now l.reached) (drop l.part-index l.parts) → WalkOverflows around (place_in l.self.types.now l.fn.place) l.parts;
+  leads : (around : TypeEnvironment) → around.structs ≡ structs_in l.self.types.now → StepsLead around (place_in l.self.types.now l.reached) (drop l.part-index l.parts) l.index;
 }

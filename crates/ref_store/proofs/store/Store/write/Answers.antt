@@ -70,7 +70,7 @@ pub returns-in_err-hold-clause-gives : goal.returns-in_err-hold-clause-gives
 returns-in_err-hold-clause-gives c = λ around base.
     let self = c.args.self.now in
     let new = record self { objects = c.get_mut.follows.lender c.hold.new.self } in
-    memory_out around self new base _ _ c.from_residual-in_err-hold.result c.from_residual-in_err-hold.ensures.1 (λ state at.
+    memory_out around self new base _ _ c.from_residual.result c.from_residual.ensures.1 (λ state at.
     at_kept around self base state new c.args.place.name (Some c.hold.new.self) ((c.get_mut.follows.holds c.hold.new.self).3 (subst (λ o. IsSome o) c.in-Some.ensures.value refl)).0
     (c.in_err-hold.ensures.err self.types.now (state.objects (name_of c.args.place.name)) (there self.types.now self.objects c.args.place.name (Some c.in-Some.content.now) (state.objects (name_of c.args.place.name)) c.in-Some.ensures.value (at.objects c.args.place.name))) at)
 
@@ -83,7 +83,7 @@ returns-in_ok-hold-clause-gives c = λ around base state at.
     let is = there table self.objects place.name (Some c.in-Some.content.now) content c.in-Some.ensures.value (at.objects place.name) in
     comes around c.args.here self (record self { objects = c.get_mut.follows.lender c.hold.new.self }) base state place c.args.value c.hold.new.self (sym (c.is_dead.ensures around base state at) ∙ c.if-is_dead.false)
     ((c.get_mut.follows.holds c.hold.new.self).3 (subst (λ o. IsSome o) c.in-Some.ensures.value refl)).0
-    (subst (λ offset. ContentIs table (Some c.hold.new.self) (holding offset (scalar_in table c.args.value) content)) (c.in_ok-offset.ensures.found around at.structs) (c.in_ok-hold.ensures.held table content c.requires.value is)) at
+    (subst (λ offset. ContentIs table (Some c.hold.new.self) (holding offset (scalar_in table c.args.value) content)) (c.offset-offset.ensures around at.structs) (c.in_ok-hold.ensures.held table content c.requires.value is)) at
 
 pub returns-in_default-clause-gives : goal.returns-in_default-clause-gives
 returns-in_default-clause-gives c = λ around base state at.
@@ -92,8 +92,5 @@ returns-in_default-clause-gives c = λ around base state at.
     absurd (alive_is_there self.types.now content (sym (c.is_dead.ensures around base state at) ∙ c.if-is_dead.false)
     (there self.types.now self.objects c.args.place.name None content c.in_default.ensures.value (at.objects c.args.place.name)))
 
-pub returns-in_err-offset-clause-want : goal.returns-in_err-offset-clause-want
-returns-in_err-offset-clause-want c = λ around base state at. errors _ c.from_residual.result (λ stop. out_where _ stop (sym (c.is_dead.ensures around base state at) ∙ c.if-is_dead.false))
-
 pub returns-in_err-hold-clause-want : goal.returns-in_err-hold-clause-want
-returns-in_err-hold-clause-want c = λ around base state at. errors _ c.from_residual-in_err-hold.result (λ stop. out_where _ stop (sym (c.is_dead.ensures around base state at) ∙ c.if-is_dead.false))
+returns-in_err-hold-clause-want c = λ around base state at. errors _ c.from_residual.result (λ stop. out_where _ stop (sym (c.is_dead.ensures around base state at) ∙ c.if-is_dead.false))

@@ -1,8 +1,9 @@
-use Rattle.std.proofs.Common.{sym, subst, ◌∙◌, ap}
-use Rattle.c_typed.specs.Table.{Stands}
+use Rattle.std.proofs.Common.{sym, ◌∙◌, ap}
 use Rattle.ref_semantics.specs.Values.{Heap, first_of_row, place_of}
+use Rattle.ref_store.specs.declared.value.Name.TheVariants as N
 use Rattle.ref_store.specs.Views.{place_in, scalar_in}
-use Rattle.ref_store.proofs.Scalars.{void_stands, nothing_means, no_place}
+use Rattle.ref_store.proofs.Scalars.{nothing, void_stands, nothing_means, no_place}
+use Rattle.ref_store.proofs.Fitting.{first_stands, nothing_row_fits}
 use Rattle.ref_store.proofs.value.Scalar.place.Goals as goal
 
 pub returns-in-Raw-clause-means : goal.returns-in-Raw-clause-means
@@ -10,10 +11,11 @@ returns-in-Raw-clause-means c = λ table.
     ap (place_in table) c.first.ensures ∙ ap (first_of_row (Heap c.in-Raw.number)) (nothing_means table) ∙ ap (λ v. place_of (scalar_in table v)) (sym c.in-Raw.is)
 
 pub returns-in-Raw-clause-stands : goal.returns-in-Raw-clause-stands
-returns-in-Raw-clause-stands c = λ table stands. subst (λ p. Stands table p.row.c_type) (sym c.first.ensures) (void_stands table)
+returns-in-Raw-clause-stands c = λ table stands.
+    first_stands table c.first.result (N.Heap c.in-Raw.number) nothing c.first.ensures (void_stands table) (nothing_row_fits table nothing (nothing_means table))
 
 pub returns-in_default : goal.returns-in_default
 returns-in_default c = record {
   means = λ table. ap (place_in table) c.first-in_default.ensures ∙ no_place table c.args.self c.in_default.not-Pointer c.in_default.not-Raw;
-  stands = λ table stands. subst (λ p. Stands table p.row.c_type) (sym c.first-in_default.ensures) (void_stands table);
+  stands = λ table stands. first_stands table c.first-in_default.result (N.Heap 0) nothing c.first-in_default.ensures (void_stands table) (nothing_row_fits table nothing (nothing_means table));
 }
