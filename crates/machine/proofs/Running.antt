@@ -1,5 +1,5 @@
 -- A run, step by step.
-use Rattle.std.proofs.Common.{◌≡◌, ℕ, suc, ◌+◌, ◌<◌, ◌^◌, Bool, true, false, if◌then◌else◌, List, [], ◌∷◌, ◌++◌, replicate, slice_get, map, Bor, Option, Some, None, refl, sym, ap, ◌∙◌, subst, arith}
+use Rattle.std.proofs.Common.{◌≡◌, ℕ, suc, ◌+◌, ◌<◌, ◌^◌, Bool, if◌then◌else◌, List, [], ◌∷◌, ◌++◌, replicate, slice_get, map, Bor, Option, Some, None, refl, sym, ap, ◌∙◌, subst, arith}
 use Rattle.std.specs.Option.{is_some, option_copied, option_map, MatchOption}
 use Rattle.std.proofs.lemmas.Option.{slice_get-map}
 use Rattle.run_theory.specs.Runs as runs
@@ -13,7 +13,7 @@ use Rattle.machine.specs.declared.ends.RunEnd.TheVariants as ends
 use Rattle.machine.specs.declared.ends.Step.{Step}
 use Rattle.machine.specs.declared.ends.Step.TheVariants.{On, Over}
 use Rattle.machine.specs.Steps.{state_of, CallStack, activations_of, final_of, LeftAt, Halts, IsUndone, GoesOn, StepGives}
-use Rattle.machine.specs.Run.{Ready, HaltsAt, ComesTo, BreaksOff, RunGives}
+use Rattle.machine.specs.Run.{Ready, HaltsAt, BreaksOff, RunGives}
 use Rattle.machine.proofs.Moves.{moves-suc}
 
 -- a step that goes on is no end

@@ -1,13 +1,13 @@
 // A function that was called and has not returned: its place, its operands and its frame.
 
-ghost use Rattle.std.specs.Prelude.{◌≡◌, ◌≢◌, ℕ, suc, ◌+◌, ◌*◌, ◌-◌, ◌/◌, ◌%◌, ◌^◌, ◌<◌, ◌≤◌, List, [], ◌∷◌, ◌++◌, length, take, drop, reverse, replicate, Some, None, IfOk, IfSome, OnOk, OnErr, IsTrue, ◌↔◌, MatchOption, if◌then◌else◌};
-ghost use Rattle.std.specs.List.{flat_map};
-ghost use Rattle.std.specs.Option.{option_map};
-ghost use Rattle.byteorder.specs.Endian.{little_bytes, little_number};
+ghost use Rattle.std.specs.Prelude.{◌≡◌, ◌≢◌, suc, ◌+◌, ◌-◌, ◌%◌, ◌^◌, ◌<◌, ◌≤◌, [], ◌∷◌, length, take, drop, reverse, Some, None};
+ghost use Rattle.std.specs.Prelude.{IfOk, IfSome, OnOk, OnErr, IsTrue, ◌↔◌, MatchOption, if◌then◌else◌};
+ghost use Rattle.byteorder.specs.Endian.{little_bytes};
 ghost use Rattle.pcc_outside.specs.Outside.{Rose};
 ghost use Rattle.image_form.specs.Form.{IsKind};
 ghost use Rattle.pool_isa.specs.Machine.{advanced, covers, site_of, spliced, next_start, with_new_pool};
 ghost use Rattle.machine.specs.Heaps.{heap_of};
+ghost use Rattle.machine.specs.Promises.{entry_of, frame_number, with_frame_word};
 
 use crate::ends::{RunEnd, Step};
 use crate::heap::Heap;
@@ -56,7 +56,7 @@ impl Activation {
         parameters: &[u64],
         extra: u32,
     ) -> Result<Activation, AllocError>
-        ensures { IfOk result (λ a. a ≡ record { function = function; place = 0; operands = []; start = start; bytes = flat_map (little_bytes 8) parameters.now ++ replicate extra 0 }) }
+        ensures { IfOk result (λ a. a ≡ entry_of function start parameters.now extra) }
     {
         let mut bytes = Vec::with_capacity(alloc, 8 * parameters.len() + extra as usize)?;
         let mut word_bytes = [0u8; 8];
@@ -293,7 +293,7 @@ impl Activation {
     pub(crate) fn read(&self, address: u64, size: usize) -> Option<u64>
         requires low { 1 ≤ size }
         requires high { size ≤ 8 }
-        ensures word { result ≡ (if covers self.now address size then Some (little_number size (take size (drop (address - self.now.start) self.now.bytes))) else None) }
+        ensures word { result ≡ frame_number self.now address size }
         ensures small { IfSome result (λ number. number < 256 ^ size) }
     {
         let offset = self.offset_of(address, size)?;
@@ -315,7 +315,7 @@ impl Activation {
     pub(crate) fn write(&mut self, address: u64, word: u64, size: usize) -> bool
         requires { size ≤ 8 }
         ensures written { result ≡ covers self.old address size }
-        ensures bytes { self.new ≡ (if covers self.old address size then record self.old { bytes = spliced self.old.bytes (address - self.old.start) (little_bytes size word) } else self.old) }
+        ensures bytes { self.new ≡ with_frame_word self.old address size word }
     {
         match self.offset_of(address, size) {
             Some(offset) => {

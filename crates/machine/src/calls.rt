@@ -1,13 +1,13 @@
 // The functions that were called and have not returned, and the instructions that change them.
 
-ghost use Rattle.std.specs.Prelude.{◌≡◌, ◌≢◌, ℕ, ◌+◌, ◌-◌, ◌^◌, ◌<◌, ◌≤◌, List, [], ◌∷◌, ◌++◌, length, take, drop, reverse, replicate, Option, Some, None, OnOk, OnErr, map, IfOk, MatchBool, if◌then◌else◌};
+ghost use Rattle.std.specs.Prelude.{◌≡◌, ◌≢◌, ◌+◌, ◌-◌, ◌^◌, ◌<◌, ◌≤◌, ◌∷◌, length, reverse, Some, None, OnOk, OnErr, map, IfOk};
 ghost use Rattle.std.specs.Bool.{OnFalse};
-ghost use Rattle.std.specs.List.{flat_map, AllByRecursion};
+ghost use Rattle.std.specs.List.{AllByRecursion};
 ghost use Rattle.std.specs.Option.{option_map, IfSome};
 ghost use Rattle.byteorder.specs.Endian.{little_bytes, little_number};
 ghost use Rattle.pcc_outside.specs.Outside.{Rose};
 ghost use Rattle.image_form.specs.Form.{IsKind, function_of};
-ghost use Rattle.pool_isa.specs.Machine.{advanced, bytes_at, function_word, named_by, next_start, with_bytes_at};
+ghost use Rattle.pool_isa.specs.Machine.{bytes_at, function_word, named_by, with_bytes_at};
 ghost use Rattle.machine.specs.Heaps.{heap_of};
 
 use crate::activation::Activation;
@@ -73,12 +73,14 @@ impl Model for Calls {
 
 impl Calls {
     ghost use Rattle.image_form.specs.Form.{code_of, form_of, function_of};
-    ghost use Rattle.pool_isa.specs.Machine as machine;
-    ghost use Rattle.machine.specs.Steps.{activations_of, fetched, Puts, IsInside, IsOfPools, Performs, ExecutesInstr};
+    ghost use Rattle.machine.specs.Steps.{activations_of, fetched, Puts, IsInside, IsOfPools};
+    ghost use Rattle.machine.specs.Promises.{start_alone, Writes, callee_entered, caller_left};
+    ghost use Rattle.machine.specs.Promises.{PerformsAnywhere, PerformsBesideHeap, PerformsAmong, PerformsWithKinds, PerformsAtHeight};
+    ghost use Rattle.machine.specs.Promises.{GetsChar, PutsChar, ExecutesAtHeight};
 
     /// `start` at its entry.
     pub(crate) fn new(alloc: Global, extra: u32) -> Result<Calls, AllocError>
-        ensures { IfOk result (λ calls. calls ≡ record { innermost = record { function = 0; place = 0; operands = []; start = 2 ^ 40; bytes = replicate extra 0 }; callers = [] }) }
+        ensures { IfOk result (λ calls. calls ≡ start_alone extra) }
     {
         Ok(Calls {
             innermost: Activation::enter(alloc, 0, FIRST_FRAME, &[], extra)?,
@@ -110,7 +112,7 @@ impl Calls {
     /// Writes the lowest `size` bytes of a word from `address` on, if they lie in one living frame, and says whether they do.
     fn write(&mut self, address: u64, word: u64, size: usize) -> bool
         requires { size ≤ 8 }
-        ensures written { MatchBool result (with_bytes_at (activations_of self.old) address (little_bytes size word) ≡ Some (activations_of self.new)) (with_bytes_at (activations_of self.old) address (little_bytes size word) ≡ None) }
+        ensures written { Writes result (with_bytes_at (activations_of self.old) address (little_bytes size word)) (activations_of self.new) }
         ensures kept { OnFalse result (self.new ≡ self.old) }
     {
         self.innermost.write(address, word, size)
@@ -145,7 +147,7 @@ impl Calls {
     /// Loads a value in the place of its address.
     fn load(&mut self, heap: &Heap, int_type: IntType) -> Step
         requires { self.old.innermost.place + 1 < 2 ^ 64 }
-        ensures { (code : machine.Code) (function : machine.Function) → Performs code function (Instr.Load int_type) self.old (heap_of heap.now) result self.new (heap_of heap.now) }
+        ensures { PerformsAnywhere (Instr.Load int_type) self.old (heap_of heap.now) result self.new (heap_of heap.now) }
     {
         let Some(address) = self.innermost.last() else {
             return Step::trap(TrapKind::StackEmpty);
@@ -160,7 +162,7 @@ impl Calls {
     /// Stores the last operand at the address before it.
     fn store(&mut self, heap: &mut Heap, width: Width) -> Step
         requires { self.old.innermost.place + 1 < 2 ^ 64 }
-        ensures { (code : machine.Code) (function : machine.Function) → Performs code function (Instr.Store width) self.old (heap_of heap.old) result self.new (heap_of heap.new) }
+        ensures { PerformsAnywhere (Instr.Store width) self.old (heap_of heap.old) result self.new (heap_of heap.new) }
     {
         let Some((address, word)) = self.innermost.last_two() else {
             return Step::trap(TrapKind::StackEmpty);
@@ -176,7 +178,7 @@ impl Calls {
     /// Loads a link in the place of its address and its target's pool: the address of the cell that it names.
     fn load_link(&mut self, heap: &Heap) -> Step
         requires { self.old.innermost.place + 1 < 2 ^ 64 }
-        ensures { (code : machine.Code) (function : machine.Function) → Performs code function Instr.LoadLink self.old (heap_of heap.now) result self.new (heap_of heap.now) }
+        ensures { PerformsAnywhere Instr.LoadLink self.old (heap_of heap.now) result self.new (heap_of heap.now) }
     {
         let Some((address, pool)) = self.innermost.last_two() else {
             return Step::trap(TrapKind::StackEmpty);
@@ -192,7 +194,7 @@ impl Calls {
     /// Stores a link: the number of the cell that begins at an address, in a pool.
     fn store_link(&mut self, heap: &mut Heap) -> Step
         requires { self.old.innermost.place + 1 < 2 ^ 64 }
-        ensures { (code : machine.Code) (function : machine.Function) → Performs code function Instr.StoreLink self.old (heap_of heap.old) result self.new (heap_of heap.new) }
+        ensures { PerformsAnywhere Instr.StoreLink self.old (heap_of heap.old) result self.new (heap_of heap.new) }
     {
         let Some((address, value, pool)) = self.innermost.last_three() else {
             return Step::trap(TrapKind::StackEmpty);
@@ -209,7 +211,7 @@ impl Calls {
     /// Calls a function, which takes its parameters.
     fn call(&mut self, alloc: Global, functions: &[Function], callee: u64) -> Step
         requires { self.old.innermost.place + 1 < 2 ^ 64 }
-        ensures { (code : machine.Code) (function : machine.Function) (heap : machine.Heap) → code.functions ≡ map function_of functions.now → Performs code function (Instr.Call callee) self.old heap result self.new heap }
+        ensures { PerformsAmong functions.now (Instr.Call callee) self.old result self.new }
     {
         let Some(function) = functions.get(callee as usize) else {
             return Step::trap(TrapKind::BadCall);
@@ -229,7 +231,7 @@ impl Calls {
     /// Calls the function that the last operand names, if it has this signature.
     fn call_indirect(&mut self, alloc: Global, functions: &[Function], signature: u64) -> Step
         requires { self.old.innermost.place + 1 < 2 ^ 64 }
-        ensures { (code : machine.Code) (function : machine.Function) (heap : machine.Heap) → code.functions ≡ map function_of functions.now → Performs code function (Instr.CallIndirect signature) self.old heap result self.new heap }
+        ensures { PerformsAmong functions.now (Instr.CallIndirect signature) self.old result self.new }
     {
         let Some(word) = self.innermost.last() else {
             return Step::trap(TrapKind::StackEmpty);
@@ -261,8 +263,8 @@ impl Calls {
         requires above { above ≤ 1 }
         requires there { above + function.now.parameters ≤ length self.old.innermost.operands }
         requires depth { length self.old.callers < 10000 }
-        ensures callee { OnOk result (self.new.innermost ≡ record { function = callee; place = 0; operands = []; start = next_start self.old.innermost; bytes = flat_map (little_bytes 8) (reverse (take function.now.parameters (drop above self.old.innermost.operands))) ++ replicate function.now.extra 0 }) }
-        ensures callers { OnOk result (self.new.callers ≡ advanced self.old.innermost (drop function.now.parameters (drop above self.old.innermost.operands)) ∷ self.old.callers) }
+        ensures callee { OnOk result (self.new.innermost ≡ callee_entered callee above function.now self.old.innermost) }
+        ensures callers { OnOk result (self.new.callers ≡ caller_left above function.now self.old.innermost ∷ self.old.callers) }
         ensures err { OnErr result (self.new ≡ self.old) }
     {
         self.callers.reserve(1)?;
@@ -286,7 +288,7 @@ impl Calls {
 
     /// Returns to the caller. `start` has none: its return ends the run.
     fn finish(&mut self) -> Step
-        ensures { (code : machine.Code) (function : machine.Function) (heap : machine.Heap) → Performs code function Instr.Return self.old heap result self.new heap }
+        ensures { PerformsBesideHeap Instr.Return self.old result self.new }
     {
         if self.callers.is_empty() {
             return Step::Over(RunEnd::Ended(0));
@@ -297,7 +299,7 @@ impl Calls {
 
     /// Returns the last operand to the caller. At the return of `start` it ends the run, modulo 256.
     fn finish_with_value(&mut self, functions: &[Function]) -> Step
-        ensures { (code : machine.Code) (function : machine.Function) (heap : machine.Heap) → code.functions ≡ map function_of functions.now → Performs code function Instr.ReturnValue self.old heap result self.new heap }
+        ensures { PerformsAmong functions.now Instr.ReturnValue self.old result self.new }
     {
         let Some(word) = self.innermost.last() else {
             return Step::trap(TrapKind::StackEmpty);
@@ -325,7 +327,7 @@ impl Calls {
     /// Reads a byte, where the function may hold one more operand.
     fn get_char<I: Source>(&mut self, input: &mut I, height: u32) -> Step
         requires { self.old.innermost.place + 1 < 2 ^ 64 }
-        ensures does { (code : machine.Code) (function : machine.Function) (heap : machine.Heap) (written : Option (List ℕ)) → function.height ≡ height → ExecutesInstr code function Instr.GetChar self.old heap (I.left input.old) written result self.new heap (I.left input.new) written }
+        ensures does { GetsChar height self.old (I.left input.old) result self.new (I.left input.new) }
         ensures fault { result ≡ Step.Over RunEnd.ReadFault → Rose (I.faults input.old) (I.faults input.new) }
         ensures faultless { result ≢ Step.Over RunEnd.ReadFault → I.faults input.new ≡ I.faults input.old }
         ensures other { result ≢ Step.Over RunEnd.WriteFault }
@@ -340,7 +342,7 @@ impl Calls {
     /// Writes the low byte of the last operand, and leaves that byte in its place.
     fn put_char<O: Sink>(&mut self, out: &mut O) -> Step
         requires { self.old.innermost.place + 1 < 2 ^ 64 }
-        ensures does { (code : machine.Code) (function : machine.Function) (heap : machine.Heap) (left : Option (List ℕ)) → ExecutesInstr code function Instr.PutChar self.old heap left (O.written out.old) result self.new heap left (O.written out.new) }
+        ensures does { PutsChar self.old (O.written out.old) result self.new (O.written out.new) }
         ensures fault { result ≡ Step.Over RunEnd.WriteFault → Rose (O.faults out.old) (O.faults out.new) }
         ensures faultless { result ≢ Step.Over RunEnd.WriteFault → O.faults out.new ≡ O.faults out.old }
         ensures other { result ≢ Step.Over RunEnd.ReadFault }
@@ -370,7 +372,7 @@ impl Calls {
         requires next { self.old.innermost.place + 1 < 2 ^ 64 }
         requires pools { IsOfPools instr }
         requires kinds { AllByRecursion IsKind kinds.now }
-        ensures { (code : machine.Code) (function : machine.Function) → code.kinds ≡ kinds.now → function.height ≡ height → Performs code function instr self.old (heap_of heap.old) result self.new (heap_of heap.new) }
+        ensures { PerformsWithKinds kinds.now height instr self.old (heap_of heap.old) result self.new (heap_of heap.new) }
     {
         match instr {
             Instr::PoolInit(kind) => self.innermost.make_pool(heap, kinds, height, kind),
@@ -392,7 +394,7 @@ impl Calls {
         requires next { self.old.innermost.place + 1 < 2 ^ 64 }
         requires inside { IsInside instr }
         requires kinds { AllByRecursion IsKind image.now.kinds.items }
-        ensures { (function : machine.Function) → function.height ≡ height → Performs (code_of (form_of image.now)) function instr self.old (heap_of heap.old) result self.new (heap_of heap.new) }
+        ensures { PerformsAtHeight (code_of (form_of image.now)) height instr self.old (heap_of heap.old) result self.new (heap_of heap.new) }
     {
         match instr {
             Instr::Load(int_type) => self.load(heap, int_type),
@@ -425,7 +427,8 @@ impl Calls {
     ) -> Step
         requires next { self.old.innermost.place + 1 < 2 ^ 64 }
         requires kinds { AllByRecursion IsKind image.now.kinds.items }
-        ensures does { (function : machine.Function) → function.height ≡ height → ExecutesInstr (code_of (form_of image.now)) function instr self.old (heap_of heap.old) (I.left input.old) (O.written out.old) result self.new (heap_of heap.new) (I.left input.new) (O.written out.new) }
+        ensures does { ExecutesAtHeight (code_of (form_of image.now)) height instr self.old (heap_of heap.old) (I.left input.old) (O.written out.old)
+            result self.new (heap_of heap.new) (I.left input.new) (O.written out.new) }
         ensures read_cause { result ≡ Step.Over RunEnd.ReadFault → Rose (I.faults input.old) (I.faults input.new) }
         ensures write_cause { result ≡ Step.Over RunEnd.WriteFault → Rose (O.faults out.old) (O.faults out.new) }
         ensures read_faultless { result ≢ Step.Over RunEnd.ReadFault → I.faults input.new ≡ I.faults input.old }

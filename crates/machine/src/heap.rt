@@ -1,14 +1,14 @@
 // The memory of the machine beside the frames: globals and pools.
 
-ghost use Rattle.std.specs.Prelude.{◌≡◌, ℕ, suc, ◌+◌, ◌^◌, ◌<◌, ◌≤◌, ◌-◌, ◌++◌, true, length, replicate, Some, None, Err, IfOk, IfSome, OnOk, OnErr, MatchBool, if◌then◌else◌};
+ghost use Rattle.std.specs.Prelude.{◌≡◌, suc, ◌+◌, ◌^◌, ◌<◌, ◌≤◌, ◌-◌, true, length, Some, None, Err, IfOk, IfSome, OnOk, OnErr, MatchBool, if◌then◌else◌};
 ghost use Rattle.byteorder.specs.Endian.{little_bytes};
 ghost use Rattle.std.specs.Bool.{OnFalse};
 ghost use Rattle.slab_space.specs.PoolSteps.{index_exhausted, heap_exhausted};
-ghost use Rattle.slab_space.specs.Pools.{new_pools, lives_of, alloc_step, free_step};
+ghost use Rattle.slab_space.specs.Pools.{lives_of, alloc_step, free_step};
 ghost use Rattle.image_form.specs.Form.{IsKind};
-ghost use Rattle.pool_isa.specs.Tally.{new_tally};
 ghost use Rattle.pool_isa.specs.Machine.{in_globals, globals_start, heap_word, with_heap_word, spliced, with_new_pool, without_pool};
 ghost use Rattle.machine.specs.Heaps.{heap_of, PlacesAt, FreesTo};
+ghost use Rattle.machine.specs.Promises.{heap_within, Writes};
 
 use crate::tally::Tally;
 use crate::words::number_in;
@@ -40,7 +40,7 @@ impl Heap {
         requires least { 1 ≤ limits.slabs }
         requires most { limits.slabs ≤ 1048576 }
         requires index { 1 ≤ limits.index }
-        ensures { IfOk result (λ heap. heap_of heap ≡ record { globals = globals.now.contents.items ++ replicate (globals.now.size - length globals.now.contents.items) 0; pools = new_pools limits.slabs limits.index; tally = new_tally limits.slabs }) }
+        ensures { IfOk result (λ heap. heap_of heap ≡ heap_within globals.now limits) }
     {
         let size = globals.size as usize;
         let mut bytes = Vec::with_capacity(alloc, size)?;
@@ -97,7 +97,7 @@ impl Heap {
     pub(crate) fn write(&mut self, address: u64, word: u64, size: usize) -> bool
         requires low { 1 ≤ size }
         requires high { size ≤ 8 }
-        ensures written { MatchBool result (with_heap_word (heap_of self.old) address size word ≡ Some (heap_of self.new)) (with_heap_word (heap_of self.old) address size word ≡ None) }
+        ensures written { Writes result (with_heap_word (heap_of self.old) address size word) (heap_of self.new) }
         ensures kept { OnFalse result (heap_of self.new ≡ heap_of self.old) }
     {
         match self.offset_of(address, size) {

@@ -1,10 +1,8 @@
 // A machine with an image, and its runs.
 
-ghost use Rattle.std.specs.Prelude.{◌≡◌, ◌≢◌, ℕ, ◌+◌, ◌-◌, ◌^◌, ◌<◌, ◌≤◌, List, [], ◌++◌, slice_get, Some, None, IfOk, OnOk};
-ghost use Rattle.run_theory.specs.Runs.{Trace, Final, output_of};
+ghost use Rattle.std.specs.Prelude.{◌≡◌, ◌≢◌, ◌+◌, ◌-◌, ◌^◌, ◌<◌, ◌≤◌, ◌++◌, Some, None, IfOk, OnOk};
 ghost use Rattle.pcc_outside.specs.Outside.{Rose};
 ghost use Rattle.image_form.specs.Form.{code_of, form_of, IsImage};
-ghost use Rattle.pool_isa.specs.Machine.{History, act, initial, first_history};
 
 use crate::calls::Calls;
 use crate::ends::{RunEnd, Step};
@@ -31,9 +29,8 @@ pub struct Machine<'a> {
 }
 
 impl<'a> Machine<'a> {
-    ghost use Rattle.machine.specs.Heaps.{function_rows, code_rows, row_of};
-    ghost use Rattle.machine.specs.Steps.{StepGives};
-    ghost use Rattle.machine.specs.Run.{state_at, is_over, RunGives};
+    ghost use Rattle.machine.specs.Run.{is_over};
+    ghost use Rattle.machine.specs.Promises.{IsAtStart, StepsOn, RunsOn, StaysOver, moved_to, rows_of, rows_in, row_in};
     ghost use Rattle.machine.specs.Loaded.{ready_of, IsLoaded};
 
     /// A machine that stands before the first step of the image, within limits.
@@ -48,7 +45,7 @@ impl<'a> Machine<'a> {
         requires index { 1 ≤ limits.index }
         ensures code { IfOk result (λ m. (ready_of m).code ≡ code_of (form_of image.now)) }
         ensures limits { IfOk result (λ m. (ready_of m).limits ≡ limits) }
-        ensures start { IfOk result (λ m. (input : List ℕ) → initial (ready_of m).code limits.slabs limits.index input ≡ state_at (ready_of m) first_history input []) }
+        ensures start { IfOk result (λ m. IsAtStart limits (ready_of m)) }
         ensures spent { IfOk result (λ m. (ready_of m).spent ≡ 0) }
         ensures last { IfOk result (λ m. (ready_of m).last ≡ None) }
         ensures loaded { IfOk result IsLoaded }
@@ -68,7 +65,8 @@ impl<'a> Machine<'a> {
     /// Makes one step.
     fn step<I: Source, O: Sink>(&mut self, input: &mut I, out: &mut O) -> Step
         requires { IsLoaded self.old }
-        ensures gives { (history : History) (left base : List ℕ) (trace : Trace) → I.left input.old ≡ Some left → O.written out.old ≡ Some (base ++ output_of trace) → StepGives (act (ready_of self.old).code (state_at (ready_of self.old) history left trace)) base (state_at (ready_of self.old) history left trace) result (ready_of self.new).activations (ready_of self.new).heap (I.left input.new) (O.written out.new) }
+        ensures gives { StepsOn (ready_of self.old) (I.left input.old) (O.written out.old)
+            result (ready_of self.new) (I.left input.new) (O.written out.new) }
         ensures loaded { IsLoaded self.new }
         ensures same { ready_of self.new ≡ record (ready_of self.old) { activations = (ready_of self.new).activations; heap = (ready_of self.new).heap } }
         ensures read_cause { result ≡ Step.Over RunEnd.ReadFault → Rose (I.faults input.old) (I.faults input.new) }
@@ -101,9 +99,10 @@ impl<'a> Machine<'a> {
     fn go_on<I: Source, O: Sink>(&mut self, input: &mut I, out: &mut O, steps: u64) -> RunEnd
         requires spent { (ready_of self.old).spent + steps < 2 ^ 64 }
         requires loaded { IsLoaded self.old }
-        ensures meaning { (history : History) (left base : List ℕ) (trace : Trace) → I.left input.old ≡ Some left → O.written out.old ≡ Some (base ++ output_of trace) → RunGives (ready_of self.old).code (state_at (ready_of self.old) history left trace) base steps result ((ready_of self.new).spent - (ready_of self.old).spent) (ready_of self.new).activations (ready_of self.new).heap (I.left input.new) (O.written out.new) }
+        ensures meaning { RunsOn steps (ready_of self.old) (I.left input.old) (O.written out.old)
+            result (ready_of self.new) (I.left input.new) (O.written out.new) }
         ensures loaded { IsLoaded self.new }
-        ensures same { ready_of self.new ≡ record (ready_of self.old) { activations = (ready_of self.new).activations; heap = (ready_of self.new).heap; spent = (ready_of self.new).spent } }
+        ensures same { ready_of self.new ≡ moved_to (ready_of self.old) (ready_of self.new) }
         ensures more { (ready_of self.old).spent ≤ (ready_of self.new).spent }
         ensures within { (ready_of self.new).spent ≤ (ready_of self.old).spent + steps }
         ensures read_cause { result ≡ RunEnd.ReadFault → Rose (I.faults input.old) (I.faults input.new) }
@@ -135,11 +134,13 @@ impl<'a> Machine<'a> {
         requires spent { (ready_of self.old).spent + steps < 2 ^ 64 }
         requires loaded { IsLoaded self.old }
         // For told bytes: what is left, what was written, the answer and the machine are those of the machine's meaning.
-        ensures meaning { is_over (ready_of self.old).last ≡ None → (history : History) (left base : List ℕ) (trace : Trace) → I.left input.old ≡ Some left → O.written out.old ≡ Some (base ++ output_of trace) → RunGives (ready_of self.old).code (state_at (ready_of self.old) history left trace) base steps result ((ready_of self.new).spent - (ready_of self.old).spent) (ready_of self.new).activations (ready_of self.new).heap (I.left input.new) (O.written out.new) }
+        ensures meaning { is_over (ready_of self.old).last ≡ None → RunsOn steps (ready_of self.old) (I.left input.old) (O.written out.old)
+            result (ready_of self.new) (I.left input.new) (O.written out.new) }
         // A run that is over stays so.
-        ensures again { (final : Final) → is_over (ready_of self.old).last ≡ Some final → ((ready_of self.old).last ≡ Some result) × (ready_of self.new ≡ ready_of self.old) × (I.left input.new ≡ I.left input.old) × (O.written out.new ≡ O.written out.old) }
+        ensures again { StaysOver (ready_of self.old) (I.left input.old) (O.written out.old)
+            result (ready_of self.new) (I.left input.new) (O.written out.new) }
         ensures loaded { IsLoaded self.new }
-        ensures same { ready_of self.new ≡ record (ready_of self.old) { activations = (ready_of self.new).activations; heap = (ready_of self.new).heap; spent = (ready_of self.new).spent; last = Some result } }
+        ensures same { ready_of self.new ≡ record (moved_to (ready_of self.old) (ready_of self.new)) { last = Some result } }
         ensures more { (ready_of self.old).spent ≤ (ready_of self.new).spent }
         ensures within { (ready_of self.new).spent ≤ (ready_of self.old).spent + steps }
         ensures read_cause { result ≡ RunEnd.ReadFault → Rose (I.faults input.old) (I.faults input.new) }
@@ -169,7 +170,7 @@ impl<'a> Machine<'a> {
     /// What was counted of pools so far.
     pub fn report(&self) -> Result<Report, AllocError>
         ensures last { IfOk result (λ report. report.last ≡ (ready_of self.now).last) }
-        ensures rows { IfOk result (λ report. report.rows.items ≡ function_rows (ready_of self.now).heap.tally (ready_of self.now).code.kinds 0 (ready_of self.now).code.functions) }
+        ensures rows { IfOk result (λ report. report.rows.items ≡ rows_of (ready_of self.now)) }
         ensures made { IfOk result (λ report. report.made ≡ (ready_of self.now).heap.tally.made) }
         ensures objects { IfOk result (λ report. report.objects ≡ (ready_of self.now).heap.tally.objects) }
         ensures slabs { IfOk result (λ report. report.slabs ≡ (ready_of self.now).limits.slabs - (ready_of self.now).heap.tally.free) }
@@ -194,7 +195,7 @@ impl<'a> Machine<'a> {
         function: usize,
         code: &[Instr],
     ) -> Result<(), AllocError>
-        ensures { OnOk result (rows.new.items ≡ rows.old.items ++ code_rows (ready_of self.now).heap.tally (ready_of self.now).code.kinds function 0 code.now) }
+        ensures { OnOk result (rows.new.items ≡ rows.old.items ++ rows_in (ready_of self.now) function code.now) }
     {
         for (place, instr) in code.iter().enumerate() {
             if let Instr::PoolInit(kind) = instr {
@@ -206,7 +207,7 @@ impl<'a> Machine<'a> {
 
     /// Appends the row of an instruction that makes pools of this kind.
     fn append_row(&self, rows: &mut Vec<ReportRow>, site: Site, kind: u64) -> Result<(), AllocError>
-        ensures { OnOk result (rows.new.items ≡ rows.old.items ++ row_of (ready_of self.now).heap.tally (ready_of self.now).code.kinds site (slice_get (ready_of self.now).code.kinds kind)) }
+        ensures { OnOk result (rows.new.items ≡ rows.old.items ++ row_in (ready_of self.now) site kind) }
     {
         if let Some(kind) = self.image.kinds.get(kind as usize) {
             rows.push(ReportRow {

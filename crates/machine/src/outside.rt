@@ -1,14 +1,14 @@
 // The bytes that the machine reads and writes.
 
-ghost use Rattle.std.specs.Prelude.{◌≡◌, ℕ, ◌≤◌, List, [], ◌∷◌, Some, IfOk, OnOk, OnErr};
+ghost use Rattle.std.specs.Prelude.{◌≡◌, ◌≤◌, [], ◌∷◌, IfOk, OnOk, OnErr};
 ghost use Rattle.pcc_outside.specs.Outside.{Rose, Adds};
-ghost use Rattle.pool_isa.specs.Machine.{input_word, after_next};
+ghost use Rattle.machine.specs.Promises.{TakesWord};
 
 use pcc_outside::{Failed, Sink, Source};
 
 /// Reads the word that `getchar` gives: that of the next byte, or of -1 at the end of the input.
 pub(crate) fn next_word<I: Source>(input: &mut I) -> Result<u64, Failed>
-    ensures read { IfOk result (λ word. (left : List ℕ) → I.left input.old ≡ Some left → (word ≡ input_word left) × (I.left input.new ≡ Some (after_next left))) }
+    ensures read { IfOk result (λ word. TakesWord word (I.left input.old) (I.left input.new)) }
     ensures unread { OnErr result (I.left input.new ≡ I.left input.old) }
     ensures fault { OnErr result (Rose (I.faults input.old) (I.faults input.new)) }
     ensures faultless { OnOk result (I.faults input.new ≡ I.faults input.old) }

@@ -25,8 +25,7 @@ fn fits_kind(kind: PoolKind, bytes: u64) -> bool
 }
 
 impl Activation {
-    ghost use Rattle.pool_isa.specs.Machine as machine;
-    ghost use Rattle.machine.specs.Steps.{PerformsInPools};
+    ghost use Rattle.machine.specs.Promises.{PoolsAnywhere, PoolsWithKinds};
 
     /// Makes a pool, where the function may hold one more operand, and pushes its number.
     pub(crate) fn make_pool(
@@ -38,7 +37,7 @@ impl Activation {
     ) -> Step
         requires next { self.old.place + 1 < 2 ^ 64 }
         requires kinds { AllByRecursion IsKind kinds.now }
-        ensures performs { (code : machine.Code) (function : machine.Function) → code.kinds ≡ kinds.now → function.height ≡ height → PerformsInPools code function (Instr.PoolInit kind) self.old (heap_of heap.old) result self.new (heap_of heap.new) }
+        ensures performs { PoolsWithKinds kinds.now height (Instr.PoolInit kind) self.old (heap_of heap.old) result self.new (heap_of heap.new) }
         ensures frame { next_start self.new ≡ next_start self.old }
     {
         let Some(kind) = kinds.get(kind as usize) else {
@@ -56,7 +55,7 @@ impl Activation {
     /// Destroys a pool.
     pub(crate) fn destroy_pool(&mut self, heap: &mut Heap) -> Step
         requires { self.old.place + 1 < 2 ^ 64 }
-        ensures performs { (code : machine.Code) (function : machine.Function) → PerformsInPools code function Instr.PoolDestroy self.old (heap_of heap.old) result self.new (heap_of heap.new) }
+        ensures performs { PoolsAnywhere Instr.PoolDestroy self.old (heap_of heap.old) result self.new (heap_of heap.new) }
         ensures frame { next_start self.new ≡ next_start self.old }
     {
         let Some(pool) = self.last() else {
@@ -74,7 +73,7 @@ impl Activation {
     /// Places an object in a pool, and leaves its address.
     pub(crate) fn allocate(&mut self, heap: &mut Heap) -> Step
         requires { self.old.place + 1 < 2 ^ 64 }
-        ensures performs { (code : machine.Code) (function : machine.Function) → PerformsInPools code function Instr.PoolAlloc self.old (heap_of heap.old) result self.new (heap_of heap.new) }
+        ensures performs { PoolsAnywhere Instr.PoolAlloc self.old (heap_of heap.old) result self.new (heap_of heap.new) }
         ensures frame { next_start self.new ≡ next_start self.old }
     {
         let Some((pool, bytes)) = self.last_two() else {
@@ -101,7 +100,7 @@ impl Activation {
     /// Frees an object of a pool; address 0 is of none.
     pub(crate) fn free(&mut self, heap: &mut Heap) -> Step
         requires { self.old.place + 1 < 2 ^ 64 }
-        ensures performs { (code : machine.Code) (function : machine.Function) → PerformsInPools code function Instr.PoolFree self.old (heap_of heap.old) result self.new (heap_of heap.new) }
+        ensures performs { PoolsAnywhere Instr.PoolFree self.old (heap_of heap.old) result self.new (heap_of heap.new) }
         ensures frame { next_start self.new ≡ next_start self.old }
     {
         let Some((pool, address)) = self.last_two() else {
