@@ -38,6 +38,11 @@ pub Puts-last : {T E : Type 0} (result : Result T E) (old mid new : Option (List
 Puts-last (Ok done) old mid new text last start before after h same all part rose faultless = (Adds-last old mid new text last h all, faultless ∙ same)
 Puts-last (Err e) old mid new text last start before after h same all part rose faultless = (AddsPart-last old mid new text last h part, subst (λ n. Rose n after) same rose)
 
+-- the last call puts the rest of the text
+pub Puts-behind : {T E : Type 0} (result : Result T E) (old mid new : Option (List ℕ)) (text last : List ℕ) (start before after : ℕ) → AddsBefore old text last mid → before ≡ start → Puts result last mid new before after → Puts result text old new start after
+Puts-behind (Ok done) old mid new text last start before after h same puts = (Adds-last old mid new text last h puts.0, puts.1 ∙ same)
+Puts-behind (Err e) old mid new text last start before after h same puts = (AddsPart-last old mid new text last h puts.0, subst (λ n. Rose n after) same puts.1)
+
 -- the piece at an index stands in front of what follows it
 pub AddsBefore-at : (old new : Option (List ℕ)) (text : List ℕ) (pieces : List (Bor (List ℕ))) (i : ℕ) (d : Bor (List ℕ)) (piece : List ℕ) → i < length pieces → piece ≡ (get_or pieces i d).now → AddsBefore old text (line_of (drop i pieces)) new → AddsBefore old text (piece ++ line_of (drop (i + 1) pieces)) new
 AddsBefore-at old new text pieces i d piece within is h =

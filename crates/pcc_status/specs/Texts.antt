@@ -1,5 +1,5 @@
 -- The line that the program writes on its error output for an answer other than its own success.
-use Rattle.std.specs.Prelude.{ℕ, List, [], ◌∷◌, ◌++◌, codes, decimal}
+use Rattle.std.specs.Prelude.{ℕ, List, [], ◌∷◌, ◌++◌, take, codes, decimal}
 use Rattle.text_place.specs.declared.place.Pos.{Pos}
 use Rattle.text_place.specs.Places.{place_text}
 use Rattle.run_theory.specs.Names.{undefined_name, trap_name}
@@ -7,6 +7,7 @@ use Rattle.pcc_status.specs.declared.status.Status.{Status}
 use Rattle.pcc_status.specs.declared.status.Status.TheVariants as S
 use Rattle.pcc_status.specs.declared.status.Refusal.{Refusal}
 use Rattle.pcc_status.specs.declared.status.Refusal.TheVariants as R
+use Rattle.pcc_status.specs.declared.status.FuncName.{FuncName}
 use Rattle.pcc_status.specs.declared.status.LexKind.{LexKind}
 use Rattle.pcc_status.specs.declared.status.LexKind.TheVariants.{BadByte, BadLiteral, Unclosed, BadDirective, NameTooLong}
 use Rattle.pcc_status.specs.declared.status.SyntaxKind.{SyntaxKind}
@@ -38,13 +39,17 @@ limit_name L6 = codes "L6"
 abbrev pub at_place : List ℕ → Pos → List ℕ
 at_place name place = name ++ codes " at " ++ place_text place
 
+-- the bytes of a function's name
+abbrev pub func_name : FuncName → List ℕ
+func_name function = take function.length function.bytes
+
 abbrev pub refusal_text : Refusal → List ℕ
 refusal_text (R.Lex kind place) = at_place (lex_name kind) place
 refusal_text (R.Syntax kind place) = at_place (syntax_name kind) place
 refusal_text (R.TypeRule rule place) = at_place (rule_name rule) place
 refusal_text (R.Limit limit count) = limit_name limit ++ codes " count " ++ decimal count
 refusal_text (R.Graph count) = codes "graph nodes " ++ decimal count
-refusal_text (R.Pools function count) = codes "pools of " ++ decimal function.0 ++ 32 ∷ decimal count
+refusal_text (R.Pools function count) = codes "pools of " ++ func_name function ++ 32 ∷ decimal count
 refusal_text (R.Later place) = at_place (codes "later") place
 
 abbrev pub usage_text : List ℕ

@@ -6,4 +6,4 @@ mod status;
 
 pub use c_rules::TypeRule;
 pub use lines::say;
-pub use status::{FuncId, LexKind, LimitKind, Refusal, Status, SyntaxKind, UsageKind};
+pub use status::{FuncName, LexKind, LimitKind, Refusal, Status, SyntaxKind, UsageKind};

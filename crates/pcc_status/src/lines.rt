@@ -75,15 +75,22 @@ fn put_refusal<E: Sink>(err: &mut E, refusal: Refusal) -> Result<(), Failed>
             put_line(err, &["refused ", limit.name(), " count ", count])
         }
         Refusal::Graph(nodes) => put_number(err, "refused graph nodes ", nodes),
-        Refusal::Pools(function, pools) => {
-            let mut function_digits = Buffer::new();
-            let mut pools_digits = Buffer::new();
-            let function = function_digits.format(function.0);
-            let pools = pools_digits.format(pools);
-            put_line(err, &["refused pools of ", function, " ", pools])
-        }
+        Refusal::Pools(function, pools) => put_pools(err, function.as_slice(), pools),
         Refusal::Later(place) => put_at_place(err, "refused ", "later", place),
     }
+}
+
+/// Writes the line of a function that has too many pools.
+fn put_pools<E: Sink>(err: &mut E, function: &[u8], pools: u64) -> Result<(), Failed>
+    ensures puts { Puts result (codes "poolcc: refused pools of " ++ (function.now ++ (32 ∷ (decimal pools ++ 10 ∷ []))))
+        (E.written err.old) (E.written err.new) (E.faults err.old) (E.faults err.new) }
+    ensures counted { E.faults err.old ≤ E.faults err.new }
+{
+    let mut digits = Buffer::new();
+    let pools = digits.format(pools);
+    write_all(err, b"poolcc: refused pools of ")?;
+    write_all(err, function)?;
+    put_pieces(err, &[" ", pools])
 }
 
 /// Writes a line of words that end in a space, and a number.
@@ -116,6 +123,15 @@ fn put_line<E: Sink>(err: &mut E, pieces: &[&str]) -> Result<(), Failed>
     ensures counted { E.faults err.old ≤ E.faults err.new }
 {
     write_all(err, b"poolcc: ")?;
+    put_pieces(err, pieces)
+}
+
+/// Writes pieces, and the newline behind.
+fn put_pieces<E: Sink>(err: &mut E, pieces: &[&str]) -> Result<(), Failed>
+    ensures puts { Puts result (line_of pieces.now)
+        (E.written err.old) (E.written err.new) (E.faults err.old) (E.faults err.new) }
+    ensures counted { E.faults err.old ≤ E.faults err.new }
+{
     for piece in pieces {
         write_all(err, piece.as_bytes())?;
     }

@@ -68,14 +68,39 @@ pub enum Refusal {
     /// The heap graph of a group has more nodes than its limit.
     Graph(u64),
     /// A function has more pools than its limit.
-    Pools(FuncId, u64),
+    Pools(FuncName, u64),
     /// The text from this place on is of a form that is not compiled yet.
     Later(Pos),
 }
 
-/// The number of a function in the order of the text.
+/// A function's name: the first of these bytes, so many.
 #[derive(Clone, Copy, Debug, PartialEq, Eq)]
-pub struct FuncId(pub u32);
+pub struct FuncName {
+    bytes: [u8; 255],
+    length: u8,
+}
+
+impl FuncName {
+    ghost use Rattle.std.specs.Prelude.{◌<◌, length, MatchOption};
+    ghost use Rattle.pcc_status.specs.Texts.{func_name};
+
+    /// The name of these bytes, if they are no more than a name may have.
+    pub fn new(name: &[u8]) -> Option<FuncName>
+        ensures { MatchOption result (255 < length name.now) (λ function. func_name function ≡ name.now) }
+    {
+        let length = u8::try_from(name.len()).ok()?;
+        let mut bytes = [0u8; 255];
+        bytes[..name.len()].copy_from_slice(name);
+        Some(FuncName { bytes, length })
+    }
+
+    /// Its bytes.
+    pub fn as_slice(&self) -> &[u8]
+        ensures { result.now ≡ func_name self.now }
+    {
+        &self.bytes[..self.length as usize]
+    }
+}
 
 /// A lexical refusal.
 #[derive(Clone, Copy, Debug, PartialEq, Eq)]

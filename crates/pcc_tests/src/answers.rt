@@ -1,6 +1,6 @@
 use pcc_outside::MemSink;
 use pcc_status::{
-    FuncId, LexKind, LimitKind, Refusal, Status, SyntaxKind, TypeRule, UsageKind, say,
+    FuncName, LexKind, LimitKind, Refusal, Status, SyntaxKind, TypeRule, UsageKind, say,
 };
 use run_theory::{TrapKind, UbKind};
 use std::test::Fail;
@@ -13,6 +13,7 @@ fn at(line: u32, column: u32) -> Pos {
 #[test]
 fn answers_have_their_lines(rt: HostRuntime) -> Result<(), Fail> {
     let alloc = rt.alloc();
+    let function = FuncName::new(b"walk").unwrap();
     let cases = [
         (Status::Done, 0, ""),
         (Status::Program(245), 245, ""),
@@ -47,9 +48,9 @@ fn answers_have_their_lines(rt: HostRuntime) -> Result<(), Fail> {
             "poolcc: refused graph nodes 65537\n",
         ),
         (
-            Status::Refused(Refusal::Pools(FuncId(12), 257)),
+            Status::Refused(Refusal::Pools(function, 257)),
             241,
-            "poolcc: refused pools of 12 257\n",
+            "poolcc: refused pools of walk 257\n",
         ),
         (
             Status::Refused(Refusal::Later(at(3, 5))),
