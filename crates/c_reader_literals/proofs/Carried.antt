@@ -7,7 +7,7 @@ use Rattle.c_token.specs.Leaves.{Leaf}
 use Rattle.c_typed.specs.Typed.{LiteralDef}
 use Rattle.c_reader_tokens.specs.Grammar.{Parse}
 use Rattle.c_reader_literals.specs.Places.{NotBefore, next_to, LeavesRise, LiteralsRise}
-use Rattle.c_reader_literals.specs.Literals.{Holds, no_literal, literal, in_row, in_first, in_others, in_both, regrouped}
+use Rattle.c_reader_literals.specs.Literals.{LiteralsStand, no_literal, literal, in_row, in_first, in_others, in_both, regrouped}
 use Rattle.c_reader_literals.proofs.Rising.{not_before_through, not_before_next, leaves_rise_before}
 
 abbrev Carries : List LiteralDef → List Leaf → Type 0
@@ -27,7 +27,7 @@ carries_literal : (one : LiteralDef) (leaf : Leaf) (others : List LiteralDef) (b
 carries_literal one leaf others behind same carries = λ from rise.
     (subst (NotBefore from) (sym same) rise.0, subst (λ place. LiteralsRise (next_to place) others) (sym same) (carries (next_to leaf.place) rise.1))
 
-carried : (literals : List LiteralDef) (parse : Parse) → Holds literals parse → (others : List LiteralDef) (behind : List Leaf) → Carries others behind → Carries (literals ++ others) (leaves parse ++ behind)
+carried : (literals : List LiteralDef) (parse : Parse) → LiteralsStand literals parse → (others : List LiteralDef) (behind : List Leaf) → Carries others behind → Carries (literals ++ others) (leaves parse ++ behind)
 carried literals parse no_literal others behind carries = carries_behind others (leaves parse) behind carries
 carried literals parse (literal {leaf = leaf} one same) others behind carries = carries_literal one leaf others behind same carries
 carried literals parse (in_row holds) others behind carries = carried _ _ holds others behind carries
@@ -42,6 +42,6 @@ carried literals parse (in_both {literals = front} {more = back} {first = first}
 carried literals parse (regrouped front back last holds) others behind carries =
     subst (λ ls. Carries (ls ++ others) (leaves parse ++ behind)) (sym (append_assoc front back last)) (carried (front ++ (back ++ last)) parse holds others behind carries)
 
-pub held_rise : (literals : List LiteralDef) (parse : Parse) → Holds literals parse → (from : Pos) → LeavesRise from (leaves parse) → LiteralsRise from literals
+pub held_rise : (literals : List LiteralDef) (parse : Parse) → LiteralsStand literals parse → (from : Pos) → LeavesRise from (leaves parse) → LiteralsRise from literals
 held_rise literals parse holds from rise =
     subst (LiteralsRise from) (append-nil literals) (carried literals parse holds [] [] (λ from rise. tt) from (subst (LeavesRise from) (sym (append-nil (leaves parse))) rise))

@@ -9,7 +9,7 @@ use Rattle.c_token.specs.declared.token.Symbol.TheVariants as S
 use Rattle.c_rules.specs.Elaborated.{literals_in, literals_in_arguments, literals_in_type, literals_in_optional, literals_in_declarator, literals_in_direct, literals_in_suffixes, literals_in_length, literals_in_parameters}
 use Rattle.c_reader_tokens.specs.Grammar.{Parse}
 use Rattle.c_reader_tokens.specs.Shapes.{single_of, expr_of, arguments_of, type_of, optional_of, declarator_of, direct_of, suffixes_of, length_of, parameters_of}
-use Rattle.c_reader_literals.specs.Literals.{Holds, no_literal, literal, in_row, in_first, in_others, in_both, regrouped}
+use Rattle.c_reader_literals.specs.Literals.{LiteralsStand, no_literal, literal, in_row, in_first, in_others, in_both, regrouped}
 
 -- one token that is an expression is no literal
 single_none : (leaf : Leaf) (lexeme : Lexeme) → literals_in (single_of leaf lexeme) ≡ []
@@ -20,8 +20,8 @@ single_none leaf (L.Symbol S.EndOfFile) = refl
 single_none leaf _ = refl
 
 mutual
-  pub expr_held : (parse : Parse) → Holds (literals_in (expr_of parse)) parse
-  expr_held (Node (Forms.Single kind) (Then (Alone leaf) Nothing)) = subst (λ literals. Holds literals (Node (Forms.Single kind) (Then (Alone leaf) Nothing))) (sym (single_none leaf leaf.lexeme)) no_literal
+  pub expr_held : (parse : Parse) → LiteralsStand (literals_in (expr_of parse)) parse
+  expr_held (Node (Forms.Single kind) (Then (Alone leaf) Nothing)) = subst (λ literals. LiteralsStand literals (Node (Forms.Single kind) (Then (Alone leaf) Nothing))) (sym (single_none leaf leaf.lexeme)) no_literal
   expr_held (Node Forms.Text (Then (Alone first) (Then others Nothing))) = in_row (in_first (literal _ refl))
   expr_held (Node Forms.Parenthesized (Then (Alone opening) (Then inner close))) = in_row (in_others (in_first (expr_held inner)))
   expr_held (Node Forms.Cast (Then (Alone opening) (Then type_name (Then close (Then operand Nothing))))) = in_row (in_others (in_both (type_held type_name) (in_others (in_first (expr_held operand)))))
@@ -40,28 +40,28 @@ mutual
   expr_held (Node Forms.PostDecrement (Then operand operator)) = in_row (in_first (expr_held operand))
   expr_held _ = no_literal
 
-  pub arguments_held : (parse : Parse) → Holds (literals_in_arguments (arguments_of parse)) parse
+  pub arguments_held : (parse : Parse) → LiteralsStand (literals_in_arguments (arguments_of parse)) parse
   arguments_held (Node Forms.OneArgument (Then value (Then others Nothing))) = in_row (in_both (expr_held value) (in_first (arguments_held others)))
   arguments_held (Node Forms.ArgumentsNext (Then comma (Then value (Then others Nothing)))) = in_row (in_others (in_both (expr_held value) (in_first (arguments_held others))))
   arguments_held _ = no_literal
 
-  pub type_held : (parse : Parse) → Holds (literals_in_type (type_of parse)) parse
+  pub type_held : (parse : Parse) → LiteralsStand (literals_in_type (type_of parse)) parse
   type_held (Node Forms.TypeRow (Then base (Then declarator Nothing))) = in_row (in_others (in_first (optional_held declarator)))
   type_held _ = no_literal
 
-  pub optional_held : (parse : Parse) → Holds (literals_in_optional (optional_of parse)) parse
+  pub optional_held : (parse : Parse) → LiteralsStand (literals_in_optional (optional_of parse)) parse
   optional_held (Node (Forms.OptionalPointer named) (Then star (Then stars (Then direct Nothing)))) = in_row (in_others (in_others (in_first (direct_held direct))))
   optional_held (Node (Forms.OptionalDirect named) (Then direct Nothing)) = in_row (in_first (direct_held direct))
   optional_held _ = no_literal
 
-  pub declarator_held : (parse : Parse) → Holds (literals_in_declarator (declarator_of parse)) parse
+  pub declarator_held : (parse : Parse) → LiteralsStand (literals_in_declarator (declarator_of parse)) parse
   declarator_held (Node Forms.DeclaratorRow (Then stars (Then direct Nothing))) = in_row (in_others (in_first (direct_held direct)))
   declarator_held (Node (Forms.InnerPointer named) (Then star (Then stars (Then direct Nothing)))) = in_row (in_others (in_others (in_first (direct_held direct))))
   declarator_held (Node (Forms.InnerDirect named) (Then direct Nothing)) = in_row (in_first (direct_held direct))
   declarator_held _ = no_literal
 
   -- what a declarator is built on stands before what follows that
-  pub direct_held : (parse : Parse) → Holds (literals_in_direct (direct_of parse) ++ literals_in_suffixes (suffixes_of parse)) parse
+  pub direct_held : (parse : Parse) → LiteralsStand (literals_in_direct (direct_of parse) ++ literals_in_suffixes (suffixes_of parse)) parse
   direct_held (Node Forms.DirectName (Then (Alone name) (Then others Nothing))) = in_row (in_others (in_first (suffixes_held others)))
   direct_held (Node Forms.DirectName (Then Nothing (Then others Nothing))) = in_row (in_others (in_first (suffixes_held others)))
   direct_held (Node Forms.DirectName (Then (Then a b) (Then others Nothing))) = in_row (in_others (in_first (suffixes_held others)))
@@ -81,7 +81,7 @@ mutual
   direct_held (Node (Forms.ParamFunction named) (Then opening (Then parameters (Then close (Then others Nothing))))) = in_row (in_others (in_both (parameters_held parameters) (in_others (in_first (suffixes_held others)))))
   direct_held _ = no_literal
 
-  pub suffixes_held : (parse : Parse) → Holds (literals_in_suffixes (suffixes_of parse)) parse
+  pub suffixes_held : (parse : Parse) → LiteralsStand (literals_in_suffixes (suffixes_of parse)) parse
   suffixes_held (Node Forms.DirectName (Then name (Then others Nothing))) = in_row (in_others (in_first (suffixes_held others)))
   suffixes_held (Node (Forms.ParamName named) (Then name (Then others Nothing))) = in_row (in_others (in_first (suffixes_held others)))
   suffixes_held (Node Forms.DirectNested (Then opening (Then declarator (Then close (Then others Nothing))))) = in_row (in_others (in_others (in_others (in_first (suffixes_held others)))))
@@ -93,11 +93,11 @@ mutual
   suffixes_held (Node (Forms.ParamFunction named) (Then opening (Then parameters (Then close (Then others Nothing))))) = in_row (in_others (in_both (parameters_held parameters) (in_others (in_first (suffixes_held others)))))
   suffixes_held _ = no_literal
 
-  pub length_held : (parse : Parse) → Holds (literals_in_length (length_of parse)) parse
+  pub length_held : (parse : Parse) → LiteralsStand (literals_in_length (length_of parse)) parse
   length_held (Node Forms.LengthRow (Then value Nothing)) = in_row (in_first (expr_held value))
   length_held _ = no_literal
 
-  pub parameters_held : (parse : Parse) → Holds (literals_in_parameters (parameters_of parse)) parse
+  pub parameters_held : (parse : Parse) → LiteralsStand (literals_in_parameters (parameters_of parse)) parse
   parameters_held (Node Forms.OneParam (Then (Node Forms.ParamRow (Then base (Then declarator Nothing))) (Then others Nothing))) = in_row (in_both (in_row (in_others (in_first (optional_held declarator)))) (in_first (parameters_held others)))
   parameters_held (Node Forms.ParamsNext (Then comma (Then (Node Forms.ParamRow (Then base (Then declarator Nothing))) (Then others Nothing)))) = in_row (in_others (in_both (in_row (in_others (in_first (optional_held declarator)))) (in_first (parameters_held others))))
   parameters_held _ = no_literal

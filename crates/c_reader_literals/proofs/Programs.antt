@@ -14,30 +14,30 @@ use Rattle.c_rules_typing.specs.Fitting.{AreListed}
 use Rattle.c_reader_tokens.specs.Grammar.{Parse}
 use Rattle.c_reader_tokens.specs.Shapes.{declarator_of, first_value_of, declarators_of, block_of, member_declarators_of, member_of, more_members_of, struct_of, base_from, declared_of, tail_of, item_of, items_of, program_of, body_of}
 use Rattle.c_reader.specs.Readings.{IsProgram}
-use Rattle.c_reader_literals.specs.Literals.{Holds, no_literal, in_row, in_first, in_others, in_both, regrouped}
+use Rattle.c_reader_literals.specs.Literals.{LiteralsStand, no_literal, in_row, in_first, in_others, in_both, regrouped}
 use Rattle.c_reader_literals.proofs.Rising.{leaves_rise}
 use Rattle.c_reader_literals.proofs.Listed.{rising_listed}
 use Rattle.c_reader_literals.proofs.Carried.{held_rise}
 use Rattle.c_reader_literals.proofs.Expressions.{declarator_held}
 use Rattle.c_reader_literals.proofs.Statements.{first_value_held, declarators_held, block_held}
 
-member_declarators_held : (parse : Parse) → Holds (literals_in_each (member_declarators_of parse)) parse
+member_declarators_held : (parse : Parse) → LiteralsStand (literals_in_each (member_declarators_of parse)) parse
 member_declarators_held (Node Forms.MemberNext (Then comma (Then declarator (Then others Nothing)))) = in_row (in_others (in_both (declarator_held declarator) (in_first (member_declarators_held others))))
 member_declarators_held _ = no_literal
 
-member_held : (parse : Parse) → Holds (literals_in_each (member_of parse).declarators) parse
+member_held : (parse : Parse) → LiteralsStand (literals_in_each (member_of parse).declarators) parse
 member_held (Node Forms.MemberRow (Then base (Then declarator (Then others Nothing)))) = in_row (in_others (in_both (declarator_held declarator) (in_first (member_declarators_held others))))
 member_held _ = no_literal
 
-more_members_held : (parse : Parse) → Holds (literals_in_members (more_members_of parse)) parse
+more_members_held : (parse : Parse) → LiteralsStand (literals_in_members (more_members_of parse)) parse
 more_members_held (Node Forms.MembersNext (Then member (Then others Nothing))) = in_row (in_both (member_held member) (in_first (more_members_held others)))
 more_members_held _ = no_literal
 
-struct_held : (place : Pos) (name : Leaf) (parse : Parse) → Holds (literals_in_base (struct_of place name parse)) parse
+struct_held : (place : Pos) (name : Leaf) (parse : Parse) → LiteralsStand (literals_in_base (struct_of place name parse)) parse
 struct_held place name (Node Forms.Members (Then opening (Then member (Then others Nothing)))) = in_row (in_others (in_both (member_held member) (in_first (more_members_held others))))
 struct_held place name _ = no_literal
 
-base_held : (place : Pos) (parse : Parse) → Holds (literals_in_base (base_from place parse)) parse
+base_held : (place : Pos) (parse : Parse) → LiteralsStand (literals_in_base (base_from place parse)) parse
 base_held place (Node (Forms.BaseWord own words kind next) (Then word (Then others Nothing))) = in_row (in_others (in_first (base_held place others)))
 base_held place (Node (Forms.BaseStruct own) (Then word (Then (Alone name) (Then members others)))) = in_row (in_others (in_others (in_first (struct_held place name members))))
 base_held place _ = no_literal
@@ -53,13 +53,13 @@ first_item (Trees.Function base declarator place body) items = refl
 -- Behind the literals of the base, those of the item stand in this tree.
 record HoldsBehind (base : BaseTree) (item : ItemTree) (parse : Parse) : Type 0 where
   more : List LiteralDef
-  holds : Holds more parse
+  holds : LiteralsStand more parse
   together : literals_in_base base ++ more ≡ literals_in_item item
 
 -- The same of a body behind a declarator.
 record BodyHolds (base : BaseTree) (declarator body : Parse) : Type 0 where
   more : List LiteralDef
-  holds : Holds more (Node Forms.DeclaredRow (Then declarator (Then (Node Forms.FunctionBody (Then body Nothing)) Nothing)))
+  holds : LiteralsStand more (Node Forms.DeclaredRow (Then declarator (Then (Node Forms.FunctionBody (Then body Nothing)) Nothing)))
   together : literals_in_base base ++ more ≡ literals_in_item (body_of base (declarator_of declarator) body)
 
 body_held : (base : BaseTree) (declarator body : Parse) → BodyHolds base declarator body
@@ -88,25 +88,25 @@ tail_held base (Node Forms.TailTyped (Then consts (Then declared Nothing))) =
     record { more = held.more; holds = in_row (in_others (in_first held.holds)); together = held.together }
 tail_held base _ = record { more = []; holds = no_literal; together = refl }
 
-item_held : (parse : Parse) → Holds (literals_in_item (item_of parse)) parse
+item_held : (parse : Parse) → LiteralsStand (literals_in_item (item_of parse)) parse
 item_held (Node (Forms.Storage kind) (Then word (Then item Nothing))) = in_row (in_others (in_first (item_held item)))
 item_held (Node Forms.ItemStruct (Then (Alone word) (Then (Alone name) (Then members (Then others Nothing))))) =
     let held = tail_held (struct_of word.place name members) others in
-    subst (λ literals. Holds literals (Node Forms.ItemStruct (Then (Alone word) (Then (Alone name) (Then members (Then others Nothing)))))) held.together
+    subst (λ literals. LiteralsStand literals (Node Forms.ItemStruct (Then (Alone word) (Then (Alone name) (Then members (Then others Nothing)))))) held.together
     (in_row (in_others (in_others (in_both (struct_held word.place name members) (in_first held.holds)))))
 item_held (Node (Forms.ItemTyped kind next) (Then (Alone word) (Then base (Then declared Nothing)))) =
     let held = declared_held (base_from word.place base) declared in
-    subst (λ literals. Holds literals (Node (Forms.ItemTyped kind next) (Then (Alone word) (Then base (Then declared Nothing))))) held.together
+    subst (λ literals. LiteralsStand literals (Node (Forms.ItemTyped kind next) (Then (Alone word) (Then base (Then declared Nothing))))) held.together
     (in_row (in_others (in_both (base_held word.place base) (in_first held.holds))))
 item_held _ = no_literal
 
-items_held : (parse : Parse) → Holds (literals_in_items (items_of parse)) parse
+items_held : (parse : Parse) → LiteralsStand (literals_in_items (items_of parse)) parse
 items_held (Node Forms.OneItem (Then item (Then others Nothing))) =
-    subst (λ literals. Holds literals (Node Forms.OneItem (Then item (Then others Nothing)))) (sym (first_item (item_of item) (items_of others)))
+    subst (λ literals. LiteralsStand literals (Node Forms.OneItem (Then item (Then others Nothing)))) (sym (first_item (item_of item) (items_of others)))
     (in_row (in_both (item_held item) (in_first (items_held others))))
 items_held _ = no_literal
 
-program_held : (parse : Parse) → Holds (literals_in_items (program_of parse).items) parse
+program_held : (parse : Parse) → LiteralsStand (literals_in_items (program_of parse).items) parse
 program_held (Node Forms.WholeProgram (Then items (Then (Alone end) Nothing))) = in_row (in_first (items_held items))
 program_held _ = no_literal
 

@@ -9,41 +9,41 @@ use Rattle.c_typed.specs.Typed.{LiteralDef}
 use Rattle.c_rules.specs.Elaborated.{literals_in, literals_in_declarator, literals_in_init, literals_in_inits, literals_in_first, literals_in_value, literals_in_declarators, literals_in_start, literals_in_stmt, literals_in_block, literals_in_switch}
 use Rattle.c_reader_tokens.specs.Grammar.{Parse}
 use Rattle.c_reader_tokens.specs.Shapes.{expr_of, declarator_of, init_of, inits_of, first_value_of, declarators_of, declaration_of, for_of, value_of, if_of, stmt_of, else_of, block_of, switch_of}
-use Rattle.c_reader_literals.specs.Literals.{Holds, no_literal, in_row, in_first, in_others, in_both, regrouped}
+use Rattle.c_reader_literals.specs.Literals.{LiteralsStand, no_literal, in_row, in_first, in_others, in_both, regrouped}
 use Rattle.c_reader_literals.proofs.Expressions.{expr_held, declarator_held}
 
 mutual
-  pub init_held : (parse : Parse) → Holds (literals_in_init (init_of parse)) parse
+  pub init_held : (parse : Parse) → LiteralsStand (literals_in_init (init_of parse)) parse
   init_held (Node Forms.InitValue (Then value Nothing)) = in_row (in_first (expr_held value))
   init_held (Node Forms.InitList (Then (Alone opening) (Then init (Then others Nothing)))) = in_row (in_others (in_both (init_held init) (in_first (inits_held others))))
   init_held _ = no_literal
 
-  pub inits_held : (parse : Parse) → Holds (literals_in_inits (inits_of parse)) parse
+  pub inits_held : (parse : Parse) → LiteralsStand (literals_in_inits (inits_of parse)) parse
   inits_held (Node Forms.InitComma (Then comma (Then (Node Forms.InitOther (Then init (Then others Nothing))) Nothing))) = in_row (in_others (in_first (in_row (in_both (init_held init) (in_first (inits_held others))))))
   inits_held _ = no_literal
 
-pub first_value_held : (parse : Parse) → Holds (literals_in_first (first_value_of parse)) parse
+pub first_value_held : (parse : Parse) → LiteralsStand (literals_in_first (first_value_of parse)) parse
 first_value_held (Node Forms.Value (Then equal (Then init Nothing))) = in_row (in_others (in_first (init_held init)))
 first_value_held _ = no_literal
 
-pub declarators_held : (parse : Parse) → Holds (literals_in_declarators (declarators_of parse)) parse
+pub declarators_held : (parse : Parse) → LiteralsStand (literals_in_declarators (declarators_of parse)) parse
 declarators_held (Node Forms.DeclarationNext (Then comma (Then declarator (Then value (Then others Nothing))))) =
     in_row (in_others (regrouped (literals_in_declarator (declarator_of declarator)) (literals_in_first (first_value_of value)) (literals_in_declarators (declarators_of others))
     (in_both (declarator_held declarator) (in_both (first_value_held value) (in_first (declarators_held others))))))
 declarators_held _ = no_literal
 
-pub declaration_held : (parse : Parse) → Holds (literals_in_declarators (declaration_of parse).declarators) parse
+pub declaration_held : (parse : Parse) → LiteralsStand (literals_in_declarators (declaration_of parse).declarators) parse
 declaration_held (Node Forms.DeclarationRow (Then base (Then declarator (Then value (Then others Nothing))))) =
     in_row (in_others (regrouped (literals_in_declarator (declarator_of declarator)) (literals_in_first (first_value_of value)) (literals_in_declarators (declarators_of others))
     (in_both (declarator_held declarator) (in_both (first_value_held value) (in_first (declarators_held others))))))
 declaration_held _ = no_literal
 
-pub for_held : (parse : Parse) → Holds (literals_in_start (for_of parse)) parse
+pub for_held : (parse : Parse) → LiteralsStand (literals_in_start (for_of parse)) parse
 for_held (Node Forms.ForDeclaration (Then declaration Nothing)) = in_row (in_first (declaration_held declaration))
 for_held (Node Forms.ForExpression (Then value semicolon)) = in_row (in_first (expr_held value))
 for_held _ = no_literal
 
-pub value_held : (parse : Parse) → Holds (literals_in_value (value_of parse)) parse
+pub value_held : (parse : Parse) → LiteralsStand (literals_in_value (value_of parse)) parse
 value_held (Node Forms.SomeExpr (Then value Nothing)) = in_row (in_first (expr_held value))
 value_held (Node Forms.ReturnExpr (Then value semicolon)) = in_row (in_first (expr_held value))
 value_held _ = no_literal
@@ -52,12 +52,12 @@ abbrev literals_in_else : Option StmtTree → List LiteralDef
 literals_in_else None = []
 literals_in_else (Some otherwise) = literals_in_stmt otherwise
 
-if_held : (place : Pos) (condition : ExprTree) (taken : StmtTree) (otherwise : Option StmtTree) (parse : Parse) → Holds (literals_in condition ++ literals_in_stmt taken ++ literals_in_else otherwise) parse → Holds (literals_in_stmt (if_of place condition taken otherwise)) parse
-if_held place condition taken None parse holds = subst (λ literals. Holds literals parse) (append-nil (literals_in condition ++ literals_in_stmt taken)) holds
+if_held : (place : Pos) (condition : ExprTree) (taken : StmtTree) (otherwise : Option StmtTree) (parse : Parse) → LiteralsStand (literals_in condition ++ literals_in_stmt taken ++ literals_in_else otherwise) parse → LiteralsStand (literals_in_stmt (if_of place condition taken otherwise)) parse
+if_held place condition taken None parse holds = subst (λ literals. LiteralsStand literals parse) (append-nil (literals_in condition ++ literals_in_stmt taken)) holds
 if_held place condition taken (Some otherwise) parse holds = holds
 
 mutual
-  pub stmt_held : (parse : Parse) → Holds (literals_in_stmt (stmt_of parse)) parse
+  pub stmt_held : (parse : Parse) → LiteralsStand (literals_in_stmt (stmt_of parse)) parse
   stmt_held (Node Forms.Block (Then (Alone opening) (Then items Nothing))) = in_row (in_others (in_first (block_held items)))
   stmt_held (Node Forms.Empty (Then (Alone semicolon) Nothing)) = no_literal
   stmt_held (Node Forms.Expression (Then value semicolon)) = in_row (in_first (expr_held value))
@@ -80,16 +80,16 @@ mutual
   stmt_held (Node Forms.ReturnRow (Then (Alone word) (Then value Nothing))) = in_row (in_others (in_first (value_held value)))
   stmt_held _ = no_literal
 
-  else_held : (parse : Parse) → Holds (literals_in_else (else_of parse)) parse
+  else_held : (parse : Parse) → LiteralsStand (literals_in_else (else_of parse)) parse
   else_held (Node Forms.ElseRow (Then word (Then stmt Nothing))) = in_row (in_others (in_first (stmt_held stmt)))
   else_held _ = no_literal
 
-  pub block_held : (parse : Parse) → Holds (literals_in_block (block_of parse)) parse
+  pub block_held : (parse : Parse) → LiteralsStand (literals_in_block (block_of parse)) parse
   block_held (Node Forms.BlockDeclaration (Then declaration (Then others Nothing))) = in_row (in_both (declaration_held declaration) (in_first (block_held others)))
   block_held (Node Forms.BlockStatement (Then stmt (Then others Nothing))) = in_row (in_both (stmt_held stmt) (in_first (block_held others)))
   block_held _ = no_literal
 
-  pub switch_held : (parse : Parse) → Holds (literals_in_switch (switch_of parse)) parse
+  pub switch_held : (parse : Parse) → LiteralsStand (literals_in_switch (switch_of parse)) parse
   switch_held (Node Forms.CaseRow (Then (Alone word) (Then value (Then colon (Then others Nothing))))) = in_row (in_others (in_both (expr_held value) (in_others (in_first (switch_held others)))))
   switch_held (Node Forms.DefaultRow (Then (Alone word) (Then colon (Then others Nothing)))) = in_row (in_others (in_others (in_first (switch_held others))))
   switch_held (Node Forms.SwitchStatement (Then stmt (Then others Nothing))) = in_row (in_both (stmt_held stmt) (in_first (switch_held others)))

@@ -19,7 +19,7 @@ use Rattle.pool_runtime.specs.declared.slabs.Slabs.{Slabs}
 use Rattle.pool_runtime.specs.Seen.{class_seen, large_seen, pool_seen}
 use Rattle.pool_runtime.specs.Tables.{IsSpace, IsAtHome, IsClass, IsLarge, IsPool, of_class, of_large}
 use Rattle.pool_runtime.specs.Given.{given_all, AreGivable, runs_of, class_runs, large_runs, pool_runs}
-use Rattle.pool_runtime.specs.Changes.{Gives}
+use Rattle.pool_runtime.specs.Changes.{ReturnsSlabs}
 use Rattle.pool_runtime.proofs.AddRun.{larges_fit}
 use Rattle.pool_runtime.proofs.Ranges.{length-range}
 use Rattle.pool_runtime.proofs.Sums.{class_need, fits, slabs_is}
@@ -207,7 +207,7 @@ module _ (slabs : Slabs) (id : ℕ) (pool : Pool) (space : IsSpace slabs.space) 
   all : AllGiven (pool_runs pool) slabs.space (given_all (pool_runs pool) slabs.space)
   all = all_given (pool_runs pool) slabs.space space (pool_givable slabs id pool is space)
 
-  pub pool_given : Gives id pool slabs (record slabs { space = given_all (pool_runs pool) slabs.space })
+  pub pool_given : ReturnsSlabs id pool slabs (record slabs { space = given_all (pool_runs pool) slabs.space })
   pool_given = record {
     space = all.space;
     long = all.long;

@@ -12,7 +12,7 @@ use Rattle.pool_runtime.specs.declared.pools.Pools.TheInside.{Inside}
 use Rattle.pool_runtime.specs.declared.slabs.Slabs.{Slabs}
 use Rattle.pool_runtime.specs.Seen.{pool_seen, pools_of}
 use Rattle.pool_runtime.specs.Tables.{IsPool, IsPools, slabs_held}
-use Rattle.pool_runtime.specs.Changes.{Gives, of_others}
+use Rattle.pool_runtime.specs.Changes.{ReturnsSlabs, of_others}
 use Rattle.pool_runtime.proofs.Kept.{pool_kept, pool_same}
 use Rattle.pool_runtime.proofs.PoolsSeen.{pools_set, pool_there, no_pool_there}
 use Rattle.pool_runtime.proofs.PoolsChanged.{same_pools, other_key, unchanged_seen}
@@ -20,7 +20,7 @@ use Rattle.pool_runtime.proofs.PoolsChanged.{same_pools, other_key, unchanged_se
 no_pool : {pool : Pool} → ¬ (None ≡ Some pool)
 no_pool e = cc
 
-module _ (s : Inside) (is : IsPools s) (id : ℕ) (pool : Pool) (slabs' : Slabs) (there : get nat_cmp s.pools id ≡ Some pool) (gives : Gives id pool s.slabs slabs') (new : BTreeMap ℕ Pool)
+module _ (s : Inside) (is : IsPools s) (id : ℕ) (pool : Pool) (slabs' : Slabs) (there : get nat_cmp s.pools id ≡ Some pool) (gives : ReturnsSlabs id pool s.slabs slabs') (new : BTreeMap ℕ Pool)
     (updates : Updates nat_cmp s.pools new id None) (entries : new.entries ≡ remove_entry (is_at (nat_cmp id)) s.pools.entries) where
   number : (1 ≤ id) × (id ≤ s.made)
   number = is.numbers id (ap is_some there)

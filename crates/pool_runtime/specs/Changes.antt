@@ -128,7 +128,7 @@ Frees step old new pool pool' (Ok t) = step ≡ Some (record { owners = new.spac
 Frees step old new pool pool' (Err e) = (step ≡ None) × Unchanged old new pool pool'
 
 -- all slabs of a pool were given back
-pub record Gives (id : ℕ) (pool : Pool) (old new : Slabs) : Type 0 where
+pub record ReturnsSlabs (id : ℕ) (pool : Pool) (old new : Slabs) : Type 0 where
   pub space : IsSpace new.space
   pub long : length new.space.owners ≡ length old.space.owners
   pub owners : new.space.owners ≡ given_pool (pool_seen old.space.bytes pool) old.space.owners

@@ -1,6 +1,6 @@
 use Rattle.std.proofs.Common.{sym, subst, ◌∙◌}
 use Rattle.pool_runtime.specs.declared.slabs.Slabs.{Slabs}
-use Rattle.pool_runtime.specs.Changes.{Gives}
+use Rattle.pool_runtime.specs.Changes.{ReturnsSlabs}
 use Rattle.pool_runtime.proofs.PoolRuns.{pool_givable, pool_given}
 use Rattle.pool_runtime.proofs.PoolsChanged.{unchanged_pools}
 use Rattle.pool_runtime.proofs.PoolsEnded.{ended_pools, ended_seen, none_ended}
@@ -14,7 +14,7 @@ give_slabs-requires-clause-runs c =
 pub invariant_of-self : goal.invariant_of-self
 invariant_of-self c =
     let s = c.self.inside in let is = c.self.invariant in let there = sym c.remove.ensures.value ∙ c.in-Some.is in
-    let gives = subst (λ (slabs : Slabs). Gives c.args.id.0 c.in-Some.pool s.slabs slabs) (sym c.give_slabs.ensures) (pool_given s.slabs c.args.id.0 c.in-Some.pool is.space (is.pools c.args.id.0 c.in-Some.pool there)) in
+    let gives = subst (λ (slabs : Slabs). ReturnsSlabs c.args.id.0 c.in-Some.pool s.slabs slabs) (sym c.give_slabs.ensures) (pool_given s.slabs c.args.id.0 c.in-Some.pool is.space (is.pools c.args.id.0 c.in-Some.pool there)) in
     ended_pools s is c.args.id.0 c.in-Some.pool c.give_slabs.new.slabs there gives c.remove.new.self c.remove.ensures.updates c.remove.ensures.entries
 
 pub invariant_of-self-in_default : goal.invariant_of-self-in_default
@@ -23,7 +23,7 @@ invariant_of-self-in_default c = unchanged_pools c.self.inside c.remove.new.self
 pub returns-in-Some : goal.returns-in-Some
 returns-in-Some c =
     let s = c.self.inside in let is = c.self.invariant in let there = sym c.remove.ensures.value ∙ c.in-Some.is in
-    let gives = subst (λ (slabs : Slabs). Gives c.args.id.0 c.in-Some.pool s.slabs slabs) (sym c.give_slabs.ensures) (pool_given s.slabs c.args.id.0 c.in-Some.pool is.space (is.pools c.args.id.0 c.in-Some.pool there)) in
+    let gives = subst (λ (slabs : Slabs). ReturnsSlabs c.args.id.0 c.in-Some.pool s.slabs slabs) (sym c.give_slabs.ensures) (pool_given s.slabs c.args.id.0 c.in-Some.pool is.space (is.pools c.args.id.0 c.in-Some.pool there)) in
     rw (← c.self.view_is) (ended_seen s is c.args.id.0 c.in-Some.pool c.give_slabs.new.slabs there gives c.remove.new.self c.remove.ensures.updates c.remove.ensures.entries)
 
 pub returns-in_default : goal.returns-in_default
