@@ -4,6 +4,8 @@ pub mod Misplacing
 pub mod Pipeline
 pub mod Reading
 pub mod Refusals
+pub mod Sizes
+pub mod Typing
 pub mod Refusing
 pub mod Referring
 pub mod RefCompleting

@@ -2,6 +2,7 @@
 use Rattle.std.proofs.Common.{◌≡◌, ℕ, List, Option, Some, None, sym, ap, ◌∙◌, refl, subst}
 use Rattle.text_place.specs.declared.place.Pos.{Pos}
 use Rattle.c_syntax.specs.Trees
+use Rattle.c_integer.specs.Outside.{outside}
 use Rattle.c_rules.specs.declared.violation.Violation.{Violation}
 use Rattle.c_rules.specs.Known.{least}
 use Rattle.c_rules.specs.Programs as rules
@@ -11,7 +12,6 @@ use Rattle.c_types_limits.specs.declared.limits.LimitErr.{LimitErr}
 use Rattle.c_types_limits.specs.declared.limits.Limit.{Limit}
 use Rattle.c_types_limits.specs.declared.limits.Limit.TheVariants as L
 use Rattle.c_types_limits.specs.Limits.{exceeded}
-use Rattle.tac_build.specs.Inside.{is_integer_program}
 use Rattle.pcc_status.specs.declared.status.LexKind.{LexKind}
 use Rattle.pcc_status.specs.declared.status.LexKind.TheVariants as K
 use Rattle.pcc_status.specs.declared.status.SyntaxKind.{SyntaxKind}
@@ -21,7 +21,7 @@ use Rattle.pcc_status.specs.declared.status.Refusal.{Refusal}
 use Rattle.pcc_status.specs.declared.status.Refusal.TheVariants as R
 use Rattle.poolcc.specs.declared.text.Stop.TheVariants as stops
 use Rattle.poolcc.specs.Compiled.{ReadsAs, IsAccepted, IsInteger}
-use Rattle.poolcc.specs.Refused.{fault_of, IsLexical, IsSyntactic, IsRefused, IsLate, limit_named, later, later_at, stop_of}
+use Rattle.poolcc.specs.Refused.{fault_of, IsLexical, IsSyntactic, IsRefused, IsLate, limit_named, stop_of}
 use Rattle.poolcc.proofs.Misplacing.{one_syntactic}
 
 -- the refusal of a program that was read, if it has one
@@ -57,7 +57,7 @@ abbrev limit_of : Trees.ProgramTree → Option LimitErr
 limit_of program = exceeded (elaborated.typed_of program) (named_types program)
 
 abbrev refusal_of : Trees.ProgramTree → Option Refusal
-refusal_of program = of_rules (rules.refusal program) (limit_of program) (later program)
+refusal_of program = of_rules (rules.refusal program) (limit_of program) (outside program)
 
 -- Where a text is refused: among its bytes, among its tokens, or as the program that it reads as.
 data Reason (text : List ℕ) : Refusal → Type 0 where
@@ -68,16 +68,16 @@ data Reason (text : List ℕ) : Refusal → Type 0 where
 reason : (text : List ℕ) (refusal : Refusal) → IsRefused text refusal → Reason text refusal
 reason text (R.Lex kind place) refused = lexical refused
 reason text (R.Syntax kind place) refused = syntactic refused
-reason text (R.TypeRule rule place) refused = of_program refused.program refused.reads (ap (λ least. of_rules least (limit_of refused.program) (later refused.program)) refused.least)
+reason text (R.TypeRule rule place) refused = of_program refused.program refused.reads (ap (λ least. of_rules least (limit_of refused.program) (outside refused.program)) refused.least)
 reason text (R.Limit limit count) refused =
     let program = refused.program in
-    of_program program refused.reads (ap (λ all. of_rules (least all) (limit_of program) (later program)) refused.typed ∙ ap (λ first. of_limits first (later program)) refused.first ∙ ap (λ kind. Some (R.Limit kind count)) (told_named limit))
+    of_program program refused.reads (ap (λ all. of_rules (least all) (limit_of program) (outside program)) refused.typed ∙ ap (λ first. of_limits first (outside program)) refused.first ∙ ap (λ kind. Some (R.Limit kind count)) (told_named limit))
 reason text (R.Graph count) refused = absurd refused
 reason text (R.Pools function count) refused = absurd refused
 reason text (R.Later place) refused =
     let program = refused.program in
     let accepted = refused.accepted in
-    of_program program accepted.reads (ap (λ all. of_rules (least all) (limit_of program) (later program)) accepted.typed ∙ ap (λ first. of_limits first (later program)) accepted.within ∙ ap of_later refused.stops)
+    of_program program accepted.reads (ap (λ all. of_rules (least all) (limit_of program) (outside program)) accepted.typed ∙ ap (λ first. of_limits first (outside program)) accepted.within ∙ ap of_later refused.stops)
 
 -- ---- no two
 
@@ -118,8 +118,8 @@ one_refusal text refusal other a b = same_reason text refusal other (reason text
 none_of : (text : List ℕ) (program : Trees.ProgramTree) (integer : IsInteger text program) → refusal_of program ≡ None
 none_of text program integer =
     let accepted = integer.accepted in
-    ap (λ all. of_rules (least all) (limit_of program) (later program)) accepted.typed ∙ ap (λ first. of_limits first (later program)) accepted.within
-    ∙ ap (λ place. of_later (later_at place (is_integer_program (elaborated.typed_of program)) program.end)) integer.none_outside ∙ ap (λ inside. of_later (later_at None inside program.end)) integer.inside
+    ap (λ all. of_rules (least all) (limit_of program) (outside program)) accepted.typed ∙ ap (λ first. of_limits first (outside program)) accepted.within
+    ∙ ap of_later integer.none_outside
 
 no_reason : (text : List ℕ) (program : Trees.ProgramTree) (refusal : Refusal) → IsInteger text program → Reason text refusal → ⊥
 no_reason text program _ integer (lexical a) = not_read a integer.accepted.reads
@@ -138,15 +138,15 @@ late_only (Some place) refusal is at_once =
     let same : R.Later place ≡ refusal = cc in
     at_once (subst IsLate same tt)
 
-whole_refusal : (text : List ℕ) (program : Trees.ProgramTree) → IsAccepted text program → refusal_of program ≡ of_later (later program)
+whole_refusal : (text : List ℕ) (program : Trees.ProgramTree) → IsAccepted text program → refusal_of program ≡ of_later (outside program)
 whole_refusal text program accepted =
-    ap (λ all. of_rules (least all) (limit_of program) (later program)) accepted.typed ∙ ap (λ first. of_limits first (later program)) accepted.within
+    ap (λ all. of_rules (least all) (limit_of program) (outside program)) accepted.typed ∙ ap (λ first. of_limits first (outside program)) accepted.within
 
 no_reason_at_once : (text : List ℕ) (program : Trees.ProgramTree) (refusal : Refusal) → IsAccepted text program → (IsLate refusal → ⊥) → Reason text refusal → ⊥
 no_reason_at_once text program _ accepted at_once (lexical a) = not_read a accepted.reads
 no_reason_at_once text program _ accepted at_once (syntactic a) = a.unread program accepted.reads.reads
 no_reason_at_once text program refusal accepted at_once (of_program whole reads is) =
-    late_only (later program) refusal (sym (whole_refusal text program accepted) ∙ (sym (ap refusal_of (accepted.reads.only whole reads.reads)) ∙ is)) at_once
+    late_only (outside program) refusal (sym (whole_refusal text program accepted) ∙ (sym (ap refusal_of (accepted.reads.only whole reads.reads)) ∙ is)) at_once
 
 pub accepted_not_refused : (text : List ℕ) (program : Trees.ProgramTree) (refusal : Refusal) → IsAccepted text program → IsRefused text refusal → (IsLate refusal → ⊥) → ⊥
 accepted_not_refused text program refusal accepted refused at_once = no_reason_at_once text program refusal accepted at_once (reason text refusal refused)

@@ -1,5 +1,5 @@
 -- When an image is a program's.
-use Rattle.std.specs.Prelude.{◌≡◌, ℕ, true, List, [], Option, None}
+use Rattle.std.specs.Prelude.{◌≡◌, ℕ, List, [], Option, None}
 use Rattle.text_place.specs.Places.{first_place}
 use Rattle.run_theory.specs.Runs.{Run, Follows}
 use Rattle.c_token.specs.Leaves.{Leaf}
@@ -13,7 +13,6 @@ use Rattle.c_rules.specs.Elaborated as elaborated
 use Rattle.c_types.specs.NamedItems.{named_types}
 use Rattle.c_types_limits.specs.Limits.{exceeded}
 use Rattle.c_integer.specs.Outside.{outside}
-use Rattle.tac_build.specs.Inside.{is_integer_program}
 use Rattle.pool_isa.specs.Machine.{State, initial, mach}
 use Rattle.image_form.specs.declared.image.MachineLimits.{MachineLimits}
 use Rattle.image_form.specs.Form.{Form, code_of, IsImage, ImageOf}
@@ -37,12 +36,10 @@ pub record IsAccepted (text : List ℕ) (program : Trees.ProgramTree) : Type 0 w
   pub typed : rules.violations program ≡ []
   pub within : exceeded (elaborated.typed_of program) (named_types program) ≡ None
 
--- The text is accepted, and no node of its program is outside the part of the language that is compiled so far. (That its typed
--- tree is then inside this part is not proved; it is looked at, too.)
+-- The text is accepted, and no node of its program is outside the part of the language that is compiled so far.
 pub record IsInteger (text : List ℕ) (program : Trees.ProgramTree) : Type 0 where
   pub accepted : IsAccepted text program
   pub none_outside : outside program ≡ None
-  pub inside : is_integer_program (elaborated.typed_of program) ≡ true
 
 -- the run of an image on an input, within limits
 abbrev pub machine_run : Form → MachineLimits → List ℕ → Run

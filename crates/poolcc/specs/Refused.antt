@@ -1,5 +1,5 @@
 -- When a text is refused, and of which kind and place.
-use Rattle.std.specs.Prelude.{◌≡◌, ℕ, Bool, true, false, List, [], Option, Some, None}
+use Rattle.std.specs.Prelude.{◌≡◌, ℕ, List, [], Some}
 use Rattle.text_place.specs.declared.place.Pos.{Pos}
 use Rattle.text_place.specs.Places.{first_place}
 use Rattle.c_token.specs.Leaves.{Leaf}
@@ -9,7 +9,6 @@ use Rattle.c_lexer.specs.Tokens.{Divides, Faults}
 use Rattle.c_syntax.specs.Trees
 use Rattle.c_reader.specs.Readings.{MisfitAt, TooDeepAt}
 use Rattle.c_integer.specs.Outside.{outside}
-use Rattle.tac_build.specs.Inside.{is_integer_program}
 use Rattle.c_rules.specs.declared.rule.TypeRule.{TypeRule}
 use Rattle.c_rules.specs.Programs as rules
 use Rattle.c_rules.specs.Elaborated as elaborated
@@ -81,21 +80,11 @@ pub record IsTooLarge (text : List ℕ) (limit : LimitKind) (count : ℕ) : Type
   pub typed : rules.violations program ≡ []
   pub first : exceeded (elaborated.typed_of program) (named_types program) ≡ Some (record { which = limit_named limit; count = count })
 
--- The place of what is not compiled yet: the first node that is outside the part of the language that is. (Where there is none and
--- the typed tree is not inside that part, which never comes but is not proved, it is the end of the text.)
-abbrev pub later_at : Option Pos → Bool → Pos → Option Pos
-later_at (Some place) inside end = Some place
-later_at None true end = None
-later_at None false end = Some end
-
-abbrev pub later : Trees.ProgramTree → Option Pos
-later program = later_at (outside program) (is_integer_program (elaborated.typed_of program)) program.end
-
--- The text is accepted, and is not compiled yet from this place on.
+-- The text is accepted, and this is the place of the first node that is outside the part of the language that is compiled so far.
 pub record IsLater (text : List ℕ) (place : Pos) : Type 0 where
   pub program : Trees.ProgramTree
   pub accepted : IsAccepted text program
-  pub stops : later program ≡ Some place
+  pub stops : outside program ≡ Some place
 
 -- The refusal is the text's. It is lexical where the text doesn't divide into tokens, with the kind and place of its
 -- first fault; else syntactic where these are no program, with the kind and place of the first with which none goes on;

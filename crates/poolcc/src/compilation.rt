@@ -1,7 +1,8 @@
 // From the typed tree of a program to its image.
 
-ghost use Rattle.std.specs.Prelude.{◌≡◌, true, IfOk};
+ghost use Rattle.std.specs.Prelude.{◌≡◌, ◌≤◌, true, IfOk};
 ghost use Rattle.c_typed.specs.DefinitionViews.{program_of, ProgramStands};
+ghost use Rattle.c_sizes.specs.TypedNodes.{program_nodes, greatest_nodes};
 ghost use Rattle.pool_isa.specs.Ranges.{IsWithin};
 ghost use Rattle.image_form.specs.Form.{form_of};
 ghost use Rattle.tac_build.specs.Inside.{is_integer_program};
@@ -18,6 +19,7 @@ use tac_build::lower;
 pub fn compile(alloc: Global, program: &Program, limits: MachineLimits) -> Result<Image, AllocError>
     requires stands { ProgramStands program.now }
     requires inside { is_integer_program (program_of program.now) ≡ true }
+    requires small { program_nodes (program_of program.now) ≤ greatest_nodes }
     requires slabs { IsWithin 1 1048576 limits.slabs }
     requires index { IsWithin 1 4294967295 limits.index }
     ensures { IfOk result (λ image. IsImageFor (program_of program.now) limits (form_of image)) }

@@ -1,13 +1,17 @@
 // From a text to its image.
 
-ghost use Rattle.std.specs.Prelude.{◌≡◌, ◌≤◌, ℕ, List, length, IfOk, IfErr};
+ghost use Rattle.std.specs.Prelude.{◌≡◌, ◌≤◌, ℕ, true, List, length, IfOk, IfErr};
 ghost use Rattle.text_place.specs.Places.{first_place};
 ghost use Rattle.c_syntax.specs.Trees as whole;
 ghost use Rattle.c_rules.specs.Elaborated as elaborated;
 ghost use Rattle.c_typed.specs.DefinitionViews.{program_of as typed_program_of, ProgramStands};
+ghost use Rattle.c_sizes.specs.TypedNodes.{program_nodes, greatest_nodes};
+ghost use Rattle.c_well_typed.specs.Programs.{IsWellTyped};
+ghost use Rattle.c_well_typed.specs.Sizes.{HasSmallTypes};
 ghost use Rattle.c_token.specs.Leaves.{Leaf, leaves_of};
 ghost use Rattle.c_lexer.specs.Tokens.{Divides};
 ghost use Rattle.c_syntax.specs.Views.{program_tree};
+ghost use Rattle.tac_build.specs.Inside.{is_integer_program};
 ghost use Rattle.pool_isa.specs.Ranges.{IsWithin};
 ghost use Rattle.image_form.specs.Form.{form_of, IsImage, ImageOf};
 ghost use Rattle.poolcc.specs.Compiled.{ReadsAs, IsAccepted, IsInteger, Compiles};
@@ -25,7 +29,6 @@ use c_types_limits::{Limit, LimitErr, check_limits};
 use image_form::{Image, ImageErr, MachineLimits, from_bytes, to_bytes};
 use pcc_status::{LexKind, LimitKind, Refusal, SyntaxKind};
 use std::alloc::Global;
-use tac_build::is_integer_program;
 
 /// Why a text has no image.
 #[derive(Clone, Copy)]
@@ -112,6 +115,8 @@ pub fn typed_program(alloc: Global, text: &[u8]) -> Result<c_typed::Program, Sto
     requires { length text.now ≤ source_limit }
     ensures found { IfOk result (λ typed.
         (program : whole.ProgramTree) × IsAccepted text.now program × (typed_program_of typed ≡ elaborated.typed_of program)) }
+    ensures well_typed { IfOk result (λ typed. IsWellTyped (typed_program_of typed)) }
+    ensures small { IfOk result (λ typed. HasSmallTypes (typed_program_of typed)) }
     ensures stands { IfOk result ProgramStands }
     ensures stop { IfErr result (IsStop text.now) }
     ensures at_once { IfErr result IsAtOnce }
@@ -144,6 +149,8 @@ fn limit_kind(limit: Limit) -> LimitKind
 pub fn integer_program(alloc: Global, text: &[u8]) -> Result<c_typed::Program, Stop>
     requires { length text.now ≤ source_limit }
     ensures found { IfOk result (λ typed. (program : whole.ProgramTree) × IsInteger text.now program × (typed_program_of typed ≡ elaborated.typed_of program)) }
+    ensures inside { IfOk result (λ typed. is_integer_program (typed_program_of typed) ≡ true) }
+    ensures small { IfOk result (λ typed. program_nodes (typed_program_of typed) ≤ greatest_nodes) }
     ensures stands { IfOk result ProgramStands }
     ensures stop { IfErr result (IsStop text.now) }
 {
@@ -155,13 +162,9 @@ pub fn integer_program(alloc: Global, text: &[u8]) -> Result<c_typed::Program, S
         Ok(typed) => typed,
         Err(stop) => return Err(stop),
     };
-    if let Some(place) = first_outside(&program) {
-        return Err(Stop::Refused(Refusal::Later(place)));
-    }
-    match is_integer_program(alloc, &typed) {
-        Ok(true) => Ok(typed),
-        Ok(false) => Err(Stop::Refused(Refusal::Later(program.end))),
-        Err(_) => Err(Stop::OutOfMemory),
+    match first_outside(&program) {
+        Some(place) => Err(Stop::Refused(Refusal::Later(place))),
+        None => Ok(typed),
     }
 }
 

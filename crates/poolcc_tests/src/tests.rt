@@ -1089,14 +1089,14 @@ fn sources_at_their_limit_run(rt: HostRuntime) -> Result<(), Fail> {
     let alloc = rt.alloc();
     let mut text = String::from_str(alloc, "int main(void) {")?;
     text.push_str("int x = 0; int n = 0;\n")?;
-    for _ in 0..20_000u32 {
+    for _ in 0..10_000u32 {
         text.push_str("x = x + 1; if (x > 9) { x = 0; n = n + 1; }\n")?;
     }
     text.push_str("putchar('z'); return n % 7; }")?;
     for _ in text.len()..1_048_576 {
         text.push(' ')?;
     }
-    are_run(&rt, alloc, EXEC, &[(text.as_str(), "", 5, b"z")])?;
+    are_run(&rt, alloc, EXEC, &[(text.as_str(), "", 6, b"z")])?;
     Ok(())
 }
 

@@ -1,38 +1,39 @@
-use Rattle.std.proofs.Common.{Bool, Option, None, sym, ap, ◌∙◌}
-use Rattle.text_place.specs.declared.place.Pos.{Pos}
+use Rattle.std.proofs.Common.{◌≡◌, ◌≤◌, true, sym, ◌∙◌, subst}
 use Rattle.c_syntax.specs.Views.{program_tree}
-use Rattle.c_rules.specs.Elaborated as elaborated
+use Rattle.c_typed.specs.Typed.{Program}
+use Rattle.c_sizes.specs.TypedNodes.{program_nodes, greatest_nodes}
 use Rattle.tac_build.specs.Inside.{is_integer_program}
-use Rattle.poolcc.specs.Refused.{later_at}
+use Rattle.tac_build_typing.proofs.ProgramsInside.{integer_program_is_inside}
+use Rattle.poolcc.proofs.Sizes.{nodes_within}
 use Rattle.poolcc.proofs.text.integer_program.Goals as goal
 
 pub returns-in-Some-clause-stop : goal.returns-in-Some-clause-stop
-returns-in-Some-clause-stop c =
-    let program = program_tree c.in-Ok.program in
-    record {
-      program = program;
-      accepted = c.in-Ok-elaborate.ensures.accepted c.args.text.now c.in-Ok.ensures.found;
-      stops = ap (λ (first : Option Pos). later_at first (is_integer_program (elaborated.typed_of program)) program.end) (sym c.first_outside.ensures ∙ c.in-Some.is);
-    }
+returns-in-Some-clause-stop c = record {
+  program = program_tree c.in-Ok.program;
+  accepted = c.in-Ok-elaborate.ensures.accepted c.args.text.now c.in-Ok.ensures.found;
+  stops = sym c.first_outside.ensures ∙ c.in-Some.is;
+}
 
-pub returns-in-Ok-true-clause-found : goal.returns-in-Ok-true-clause-found
-returns-in-Ok-true-clause-found c = (
+pub returns-clause-found : goal.returns-clause-found
+returns-clause-found c = (
   program_tree c.in-Ok.program,
   record {
     accepted = c.in-Ok-elaborate.ensures.accepted c.args.text.now c.in-Ok.ensures.found;
-    none_outside = sym c.first_outside.ensures ∙ c.in_default.is;
-    inside = ap is_integer_program (sym c.in-Ok-elaborate.ensures.typed) ∙ sym c.in-Ok-true.ensures ∙ c.in-Ok-true.field-0-test;
+    none_outside = sym c.first_outside.ensures ∙ c.in-None.is;
   },
   c.in-Ok-elaborate.ensures.typed,
 )
 
-pub returns-in-Ok-false-clause-stop : goal.returns-in-Ok-false-clause-stop
-returns-in-Ok-false-clause-stop c =
+pub returns-clause-inside : goal.returns-clause-inside
+returns-clause-inside c =
     let program = program_tree c.in-Ok.program in
-    let inside = ap is_integer_program (sym c.in-Ok-elaborate.ensures.typed) ∙ sym c.in-Ok-false.ensures ∙ c.in-Ok-false.field-0-test in
-    record {
-      program = program;
-      accepted = c.in-Ok-elaborate.ensures.accepted c.args.text.now c.in-Ok.ensures.found;
-      stops = ap (λ (first : Option Pos). later_at first (is_integer_program (elaborated.typed_of program)) program.end) (sym c.first_outside.ensures ∙ c.in_default.is)
-          ∙ ap (λ (b : Bool). later_at None b program.end) inside;
-    }
+    let accepted = c.in-Ok-elaborate.ensures.accepted c.args.text.now c.in-Ok.ensures.found in
+    subst (λ (typed : Program). is_integer_program typed ≡ true) (sym c.in-Ok-elaborate.ensures.typed)
+    (integer_program_is_inside program accepted.typed (sym c.first_outside.ensures ∙ c.in-None.is))
+
+pub returns-clause-small : goal.returns-clause-small
+returns-clause-small c =
+    let program = program_tree c.in-Ok.program in
+    let accepted = c.in-Ok-elaborate.ensures.accepted c.args.text.now c.in-Ok.ensures.found in
+    subst (λ (typed : Program). program_nodes typed ≤ greatest_nodes) (sym c.in-Ok-elaborate.ensures.typed)
+    (nodes_within c.args.text.now program c.requires accepted)
