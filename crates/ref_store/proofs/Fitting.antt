@@ -8,7 +8,7 @@ use Rattle.c_typed.specs.Table.{Interned, Stands, type_in, structs_in}
 use Rattle.c_typed.specs.declared.c_type.CType as number
 use Rattle.ref_semantics.specs.Values.{Row, Place, whole_row, no_row}
 use Rattle.ref_semantics.specs.Store.{TypeEnvironment, member_at, decayed, members_of, member_row}
-use Rattle.ref_store.specs.Fitting.{size_in, row_end, with_structs, member_row_of, inner_row_of, Leads, Origin, ToMember, ToInner, AllEnd, Fits, HasRoom, IsObjectType, ElementsStand}
+use Rattle.ref_store.specs.Fitting.{size_in, row_end, with_structs, member_row_of, inner_row_of, LeadsToRow, Origin, ToMember, ToInner, AllEnd, Fits, HasRoom, IsObjectType, ElementsStand}
 use Rattle.ref_store.specs.Views.{row_in, place_in, PlaceStands, IsElement}
 use Rattle.ref_store.specs.declared.value.Name as memory_name
 use Rattle.ref_store.specs.declared.value.Place as memory_place
@@ -82,7 +82,7 @@ void_inner structs row index is =
     by : (start index : ℕ) → start ≡ 0 → start + index * 0 ≡ 0
     by start index e = omega (arith, e)
 
-void_leads : (structs : List StructDef) (count : ℕ) (row : Row) → Leads structs (whole_row Void count) row → IsVoid row
+void_leads : (structs : List StructDef) (count : ℕ) (row : Row) → LeadsToRow structs (whole_row Void count) row → IsVoid row
 void_leads structs count _ Origin = record { start = refl; c_type = refl }
 void_leads structs count _ (ToMember row index number leads lt small) = void_member structs row index number (void_leads structs count row leads)
 void_leads structs count _ (ToInner row index leads lt small) = void_inner structs row index (void_leads structs count row leads)
@@ -261,7 +261,7 @@ text_inner structs n row index lt small (Empty is) = absurd (by (subst (λ (r : 
     by : index < 0 → ⊥
     by h = omega (arith, h)
 
-text_leads : (structs : List StructDef) (n : ℕ) (row : Row) → Leads structs (whole_row (Array (Integer I.Char) n) 1) row → IsText n row
+text_leads : (structs : List StructDef) (n : ℕ) (row : Row) → LeadsToRow structs (whole_row (Array (Integer I.Char) n) 1) row → IsText n row
 text_leads structs n _ Origin = Whole refl
 text_leads structs n _ (ToMember row index number leads lt small) = text_member structs n row index number (text_leads structs n row leads)
 text_leads structs n _ (ToInner row index leads lt small) = text_inner structs n row index lt small (text_leads structs n row leads)

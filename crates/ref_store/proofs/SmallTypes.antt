@@ -13,7 +13,7 @@ use Rattle.ref_typing.proofs.Stays.{struct_is}
 use Rattle.ref_typing.proofs.Placed.{aligned_layouts, member_within}
 use Rattle.ref_semantics.specs.Values.{Row, whole_row, no_row}
 use Rattle.ref_semantics.specs.Store.{known_type, members_of, member_row, inner_row}
-use Rattle.ref_store.specs.Fitting.{size_in, row_end, with_structs, Leads, Origin, ToMember, ToInner, IsObjectType}
+use Rattle.ref_store.specs.Fitting.{size_in, row_end, with_structs, LeadsToRow, Origin, ToMember, ToInner, IsObjectType}
 
 module _ (structs : List StructDef) (well : are_structs structs ≡ true) (total : ℕ) where
   -- it ends below a total, and its elements have an exact size
@@ -99,7 +99,7 @@ module _ (structs : List StructDef) (well : are_structs structs ≡ true) (total
   one_at_least : (index count : ℕ) → index < count → 1 ≤ count
   one_at_least index count lt = omega (arith, lt)
 
-  all_within : (c_type : CType) (count : ℕ) → size_in structs c_type < greatest → count * size_in structs c_type ≤ total → (row : Row) → Leads structs (whole_row c_type count) row → IsWithin row
+  all_within : (c_type : CType) (count : ℕ) → size_in structs c_type < greatest → count * size_in structs c_type ≤ total → (row : Row) → LeadsToRow structs (whole_row c_type count) row → IsWithin row
   all_within c_type count small le _ Origin = record { ends = by (count * size_in structs c_type) le; small = λ h. small }
     where
       by : (n : ℕ) → n ≤ total → 0 + n ≤ total

@@ -28,20 +28,20 @@ abbrev pub inner_row_of : List StructDef → Row → ℕ → Row
 inner_row_of structs row index = (decayed (with_structs structs) (element_at row index)).row
 
 -- the rows to which the elements of a row lead, where their numbers of elements stand in 64 bits
-pub data Leads (structs : List StructDef) (origin : Row) : Row → Type 0 where
-  Origin : Leads structs origin origin
-  ToMember : (row : Row) (index number : ℕ) → Leads structs origin row → index < row.count → row.count < 2 ^ 64 → Leads structs origin (member_row_of structs row index number)
-  ToInner : (row : Row) (index : ℕ) → Leads structs origin row → index < row.count → row.count < 2 ^ 64 → Leads structs origin (inner_row_of structs row index)
+pub data LeadsToRow (structs : List StructDef) (origin : Row) : Row → Type 0 where
+  Origin : LeadsToRow structs origin origin
+  ToMember : (row : Row) (index number : ℕ) → LeadsToRow structs origin row → index < row.count → row.count < 2 ^ 64 → LeadsToRow structs origin (member_row_of structs row index number)
+  ToInner : (row : Row) (index : ℕ) → LeadsToRow structs origin row → index < row.count → row.count < 2 ^ 64 → LeadsToRow structs origin (inner_row_of structs row index)
 
 -- each of them ends within 64 bits
 abbrev pub AllEnd : List StructDef → Row → Type 0
-AllEnd structs origin = (row : Row) → Leads structs origin row → row.count < 2 ^ 64 → row_end structs row < 2 ^ 64
+AllEnd structs origin = (row : Row) → LeadsToRow structs origin row → row.count < 2 ^ 64 → row_end structs row < 2 ^ 64
 
 -- a row in an object whose rows all do
 pub record Fits (structs : List StructDef) (row : Row) : Type 0 where
   pub origin : Row
   pub all : AllEnd structs origin
-  pub leads : Leads structs origin row
+  pub leads : LeadsToRow structs origin row
 
 -- An element of a row, however many there are, and not its end.
 pub record HasRoom (structs : List StructDef) (row : Row) (index : ℕ) : Type 0 where
