@@ -4,6 +4,7 @@ use Rattle.std.specs.Result.{IsErrAnd}
 use Rattle.c_typed.specs.declared.typed.Value as memory_value
 use Rattle.c_typed.specs.declared.typed.Value.{roll-Value, roll-out-Value}
 use Rattle.c_typed.specs.declared.typed.Value.TheVariants as V
+use Rattle.c_typed.specs.declared.typed.LibraryFunction.{LibraryFunction}
 use Rattle.c_typed.specs.Typed as T
 use Rattle.c_typed.specs.Views.{value_in}
 use Rattle.ref_semantics.specs.Values.{Scalar}
@@ -27,6 +28,7 @@ use Rattle.ref_meaning.specs.Views.{config_in, around_run, functions_of, table_o
 use Rattle.ref_meaning.specs.Holding.{IsConsistent, TaskFits, FramesHold, IsCall}
 use Rattle.ref_meaning.specs.Doing.{acting}
 use Rattle.ref_meaning.specs.Moving.{IsKept, Becomes, Stays, Acts, IsTold, ArrivesTold}
+use Rattle.ref_meaning.specs.Promises.{IsCallOf, CallsNext}
 use Rattle.ref_meaning.specs.Calling.{ComesTold, Evaluates, Remains, IsStored}
 use Rattle.ref_meaning.proofs.Moves.{Alters, alters-stays, at-new, kept-behind}
 use Rattle.ref_meaning.proofs.Turns.{Turns, turns-config, turns-holds}
@@ -41,6 +43,24 @@ apply-acting run call function count v value is_control is_call is_value =
   where
     applied : T.Value → Eval Config
     applied w = steps.apply (around_run run) (functions_of run) (callee_of w (scalar_in (table_of run) function)) (newest (table_of run) count (operands_of run)) (config_in run)
+
+-- a call of the library is next
+pub library-next : (run : RefRun) (call : memory_node.Node) (function : memory_scalar.Scalar) (count : ℕ) (v : Bor memory_value.Value) (value : memory_value.Value) (called : LibraryFunction)
+    → run.control ≡ record { node = call; task = K.Apply function count } → call ≡ N.Value v → v.now ≡ value
+    → IsCallOf called (steps.Apply (callee_of (value_in (table_of run) value) (scalar_in (table_of run) function)) (newest (table_of run) count (operands_of run))) → CallsNext called run
+library-next run call function count v value called is_control is_call is_value is = subst (IsCallOf called) (sym next) is
+  where
+    applied : T.Value → steps.Task
+    applied w = steps.Apply (callee_of w (scalar_in (table_of run) function)) (newest (table_of run) count (operands_of run))
+
+    next : (config_in run).task ≡ applied (value_in (table_of run) value)
+    next =
+        ap (λ (control : Control). task_in (table_of run) (operands_of run) (part_in (table_of run) control.node) control.task) is_control
+        ∙ (ap (λ (node : memory_node.Node). applied (value_of (part_in (table_of run) node))) is_call ∙ ap (λ (w : memory_value.Value). applied (value_in (table_of run) w)) is_value)
+
+-- the error that is handed on
+pub error-is : {A : Type 0} (result : Result A Halt) (halt other : Halt) → IsErrAnd result (λ e. e ≡ halt) → result ≡ Err other → halt ≡ other
+error-is result halt other is e = sym (subst (λ r. IsErrAnd r (λ e. e ≡ halt)) e is)
 
 -- its arguments are there
 pub apply-there : (run : RefRun) (call : memory_node.Node) (function : memory_scalar.Scalar) (count : ℕ) → run.control ≡ record { node = call; task = K.Apply function count } → IsConsistent run → count ≤ length (operands_of run)

@@ -2,11 +2,12 @@
 use Rattle.std.proofs.Common.{◌≡◌, ℕ, suc, ◌+◌, ◌-◌, ◌<◌, ◌≤◌, Bool, true, false, List, ◌++◌, Option, Some, None, is_some, Result, Ok, Err, inl, inr, ◌⊎◌, refl, sym, ap, subst, ◌∙◌, arith}
 use Rattle.std.proofs.lemmas.Bool.{false≢true, cases_lt}
 use Rattle.std.specs.Int.{from_bool}
+use Rattle.c_typed.specs.declared.typed.LibraryFunction.{LibraryFunction}
 use Rattle.run_theory.specs.Runs.{Final, Trace, Going, Over, IsGoing, output_of}
-use Rattle.ref_semantics.specs.Store.{State, ◌>>=◌, continue_with}
+use Rattle.ref_semantics.specs.Store.{State, Eval, ◌>>=◌, continue_with}
 use Rattle.ref_semantics.specs.First.{around_of}
 use Rattle.c_typed.specs.DefinitionViews.{program_of}
-use Rattle.ref_steps.specs.Steps.{goes_on, task_then, resume}
+use Rattle.ref_steps.specs.Steps.{Config, goes_on, task_then, resume}
 use Rattle.ref_steps.specs.Units.{takes_unit}
 use Rattle.ref_steps.proofs.Spending.{goes-spending, goes-nowhere, goes-freely}
 use Rattle.ref_store.specs.Holding.{left}
@@ -23,6 +24,7 @@ use Rattle.ref_meaning.specs.Views.{table_of, operands_of, part_in, task_in, con
 use Rattle.ref_meaning.specs.Holding.{IsConsistent}
 use Rattle.ref_meaning.specs.Doing.{acting, takes}
 use Rattle.ref_meaning.specs.Moving.{IsKept, IsTold, IsOverTold, StaysTold, Acts}
+use Rattle.ref_meaning.specs.Promises.{IsCallOf, CallsNext}
 use Rattle.ref_meaning.specs.Running.{Reached, reached, Behaviour, answers, StandsFor, Ends, GoesOn, BreaksOff, RunAnswers, SpendsNeeded, end_in, answer_of, halted, spent_at, IsHalted, IsConsistentUnlessOver}
 
 -- Of so many units some are left, and the run goes on behind the others; with fewer than these it was going.
@@ -428,3 +430,18 @@ same-halt result one other e f = cc
 pub no-fault : (end : RefEnd) (fault : RefEnd) → end ≡ E.OutOfMemory → (fault ≡ E.ReadFault) ⊎ (fault ≡ E.WriteFault) → end ≡ fault → ⊥
 no-fault end fault e (inl read) f = absurd cc
 no-fault end fault e (inr written) f = absurd cc
+
+abbrev IsFault : Halt → Type 0
+IsFault H.ReadFault = Unit {0}
+IsFault H.WriteFault = Unit {0}
+IsFault _ = ⊥
+
+-- what is next stays where a read or a write failed
+pub next-halted : (A : Type 0) (old mid new : RefRun) (called : LibraryFunction) (halt : Halt) (is_left written left' written' : Option (List ℕ)) → Acts {A = A} old mid (acting old) (Err halt) is_left written left' written' → IsHalted mid halt new
+    → ((halt ≡ H.ReadFault) ⊎ (halt ≡ H.WriteFault)) → CallsNext called old → CallsNext called new
+next-halted A old mid new called H.ReadFault is_left written left' written' acts halted faulty next = subst (λ (run : RefRun). CallsNext called run) (sym halted) (subst (λ (config : Config). IsCallOf called config.task) (sym acts.stays.same) next)
+next-halted A old mid new called H.WriteFault is_left written left' written' acts halted faulty next = subst (λ (run : RefRun). CallsNext called run) (sym halted) (subst (λ (config : Config). IsCallOf called config.task) (sym acts.stays.same) next)
+next-halted A old mid new called H.OutOfMemory is_left written left' written' acts halted (inl e) next = absurd (subst (λ (h : Halt). IsFault h) (sym e) tt)
+next-halted A old mid new called H.OutOfMemory is_left written left' written' acts halted (inr e) next = absurd (subst (λ (h : Halt). IsFault h) (sym e) tt)
+next-halted A old mid new called (H.Final final) is_left written left' written' acts halted (inl e) next = absurd (subst (λ (h : Halt). IsFault h) (sym e) tt)
+next-halted A old mid new called (H.Final final) is_left written left' written' acts halted (inr e) next = absurd (subst (λ (h : Halt). IsFault h) (sym e) tt)

@@ -1,5 +1,6 @@
 -- What a run and its store promise, in short words.
-use Rattle.std.specs.Prelude.{ℕ, List, Result}
+use Rattle.std.specs.Prelude.{◌≡◌, ℕ, List, Result}
+use Rattle.c_typed.specs.declared.typed.LibraryFunction.{LibraryFunction}
 use Rattle.ref_semantics.specs.Values.{Scalar}
 use Rattle.ref_semantics.specs.Store.{TypeEnvironment, Eval}
 use Rattle.ref_store.specs.declared.store.Store.{Store}
@@ -8,10 +9,12 @@ use Rattle.ref_store.specs.declared.value.Stop.{Stop}
 use Rattle.ref_store.specs.Views.{scalar_in}
 use Rattle.ref_store.specs.Holding.{CallGives}
 use Rattle.ref_steps.specs.Parts.{Part, Next}
+use Rattle.ref_steps.specs.Steps as steps
+use Rattle.ref_steps.specs.Steps.{Task}
 use Rattle.ref_meaning.specs.declared.run.RefRun.{RefRun}
 use Rattle.ref_meaning.specs.declared.control.Node as memory_node
 use Rattle.ref_meaning.specs.declared.first.Next as memory_next
-use Rattle.ref_meaning.specs.Views.{part_in, table_of, operands_of, newest}
+use Rattle.ref_meaning.specs.Views.{part_in, table_of, operands_of, newest, config_in}
 use Rattle.ref_meaning.specs.Doing.{next_in}
 
 -- the part of the tree and the value that those in memory stand for, and the newest values that wait
@@ -31,3 +34,13 @@ part_stored store node = part_in store.types.now node
 -- a call on a store gives what comes next by a rule
 abbrev pub GivesNext : Store → Store → (TypeEnvironment → Eval Next) → Result memory_next.Next Stop → Type 0
 GivesNext old new rule result = (around : TypeEnvironment) (base : ℕ) → CallGives around old new base (next_in old.types.now) (rule around) result
+
+-- ---- what is next where a read or a write failed
+
+abbrev pub IsCallOf : LibraryFunction → Task → Type 0
+IsCallOf function (steps.Apply (steps.FromLibrary other place) given) = other ≡ function
+IsCallOf function task = ⊥
+
+-- a call of this function of the library is next
+abbrev pub CallsNext : LibraryFunction → RefRun → Type 0
+CallsNext function run = IsCallOf function (config_in run).task

@@ -2,6 +2,7 @@
 
 ghost use Rattle.std.specs.Prelude.{◌≡◌, ◌≢◌, ◌≤◌, ℕ, suc, List, [], ◌∷◌, length, drop, slice_get, Option, None, option_map, Err, IsOk, IfOk, IfSome, OnOk};
 ghost use Rattle.pcc_outside.specs.Outside.{Rose};
+ghost use Rattle.c_typed.specs.declared.typed.LibraryFunction.TheVariants as Functions;
 ghost use Rattle.c_typed.specs.Types.{same_type};
 ghost use Rattle.c_typed.specs.Table.{Interned, Stands, type_in};
 ghost use Rattle.c_typed.specs.Views.{value_in, values_in};
@@ -15,7 +16,7 @@ ghost use Rattle.ref_steps.specs.Steps as steps;
 ghost use Rattle.ref_steps.specs.Steps.{ScalarGiven, WayGiven};
 ghost use Rattle.ref_store.specs.Fitting.{IsObjectType};
 ghost use Rattle.ref_store.specs.Views.{scalar_in, ScalarStands};
-ghost use Rattle.ref_meaning.specs.Promises.{part_seen, scalar_seen, newest_seen};
+ghost use Rattle.ref_meaning.specs.Promises.{part_seen, scalar_seen, newest_seen, CallsNext};
 ghost use Rattle.ref_meaning.specs.declared.control.Frame as memory_frame;
 ghost use Rattle.ref_meaning.specs.declared.control.Stage.TheVariants as S;
 ghost use Rattle.ref_meaning.specs.declared.control.Task.TheVariants as K;
@@ -230,6 +231,8 @@ impl<'a> RefRun<'a> {
         ensures holds { OnOk result (IsConsistent self.new) }
         ensures acts { Acts self.old self.new (acting self.old) result (I.left input.old) (O.written out.old) (I.left input.new) (O.written out.new) }
         ensures kept { IsKept self.old self.new }
+        ensures reads { result ≡ Err Halts.ReadFault → CallsNext Functions.GetChar self.old }
+        ensures writes { result ≡ Err Halts.WriteFault → CallsNext Functions.PutChar self.old }
         ensures read_cause { result ≡ Err Halts.ReadFault → Rose (I.faults input.old) (I.faults input.new) }
         ensures write_cause { result ≡ Err Halts.WriteFault → Rose (O.faults out.old) (O.faults out.new) }
         ensures read_faultless { result ≢ Err Halts.ReadFault → I.faults input.new ≡ I.faults input.old }
@@ -415,6 +418,8 @@ impl<'a> RefRun<'a> {
         ensures stored { IsStored self.old self.new }
         ensures remains { OnOk result (Remains self.old self.new) }
         ensures stands { IfOk result (ScalarStands (table_of self.old)) }
+        ensures reads { result ≡ Err Halts.ReadFault → function ≡ Functions.GetChar }
+        ensures writes { result ≡ Err Halts.WriteFault → function ≡ Functions.PutChar }
         ensures read_cause { result ≡ Err Halts.ReadFault → Rose (I.faults input.old) (I.faults input.new) }
         ensures write_cause { result ≡ Err Halts.WriteFault → Rose (O.faults out.old) (O.faults out.new) }
         ensures read_faultless { result ≢ Err Halts.ReadFault → I.faults input.new ≡ I.faults input.old }
@@ -458,6 +463,7 @@ impl<'a> RefRun<'a> {
         ensures remains { OnOk result (Remains self.old self.new) }
         ensures stands { IfOk result (ScalarStands (table_of self.old)) }
         ensures unread { result ≡ Err Halts.ReadFault → ⊥ }
+        ensures writes { result ≡ Err Halts.WriteFault → function ≡ Functions.PutChar }
         ensures write_cause { result ≡ Err Halts.WriteFault → Rose (O.faults out.old) (O.faults out.new) }
         ensures write_faultless { result ≢ Err Halts.WriteFault → O.faults out.new ≡ O.faults out.old }
         ensures writes_counted { O.faults out.old ≤ O.faults out.new }
@@ -491,6 +497,7 @@ impl<'a> RefRun<'a> {
             → Evaluates self.now self.now (library (around_run self.now) function place given) result (I.left input.old) written (I.left input.new) written }
         ensures stands { IfOk result (ScalarStands (table_of self.now)) }
         ensures unwritten { result ≡ Err Halts.WriteFault → ⊥ }
+        ensures reads { result ≡ Err Halts.ReadFault → function ≡ Functions.GetChar }
         ensures read_cause { result ≡ Err Halts.ReadFault → Rose (I.faults input.old) (I.faults input.new) }
         ensures read_faultless { result ≢ Err Halts.ReadFault → I.faults input.new ≡ I.faults input.old }
         ensures reads_counted { I.faults input.old ≤ I.faults input.new }

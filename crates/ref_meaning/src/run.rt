@@ -2,6 +2,7 @@
 
 ghost use Rattle.std.specs.Prelude.{◌≡◌, ◌≢◌, ℕ, ℤ, ◌+◌, ◌^◌, ◌<◌, ◌≤◌, List, [], ◌∷◌, ◌++◌, Option, Some, Err, suc, length, IsOk, IfOk, OnOk, IfErr, OnErr};
 ghost use Rattle.pcc_outside.specs.Outside.{Rose};
+ghost use Rattle.c_typed.specs.declared.typed.LibraryFunction.TheVariants as Functions;
 ghost use Rattle.c_typed.specs.Table.{Interned};
 ghost use Rattle.c_typed.specs.Typed.{SwitchItems};
 ghost use Rattle.c_typed.specs.DefinitionViews.{program_of, ProgramStands};
@@ -10,7 +11,7 @@ ghost use Rattle.c_well_typed.specs.Sizes.{HasSmallTypes};
 ghost use Rattle.ref_steps.specs.Steps.{ScalarGiven, Search, First};
 ghost use Rattle.ref_steps.specs.Units.{takes_unit};
 ghost use Rattle.ref_store.specs.Views.{scalar_in, ScalarStands};
-ghost use Rattle.ref_meaning.specs.Promises.{part_seen, scalar_seen};
+ghost use Rattle.ref_meaning.specs.Promises.{part_seen, scalar_seen, CallsNext};
 ghost use Rattle.ref_meaning.specs.declared.control.Frame as memory_frame;
 ghost use Rattle.ref_meaning.specs.declared.control.Given.TheVariants as G;
 ghost use Rattle.ref_meaning.specs.declared.control.Stage.TheVariants as S;
@@ -154,6 +155,8 @@ impl<'a> RefRun<'a> {
             → I.left input.old ≡ Some left → O.written out.old ≡ Some (base ++ written)
             → RunAnswers self.old self.new behaviour base left steps result (I.left input.new) (O.written out.new) }
         ensures holds { IsConsistentUnlessOver self.new }
+        ensures reads { result ≡ RefEnd.ReadFault → CallsNext Functions.GetChar self.new }
+        ensures writes { result ≡ RefEnd.WriteFault → CallsNext Functions.PutChar self.new }
         ensures read_cause { result ≡ RefEnd.ReadFault → Rose (I.faults input.old) (I.faults input.new) }
         ensures write_cause { result ≡ RefEnd.WriteFault → Rose (O.faults out.old) (O.faults out.new) }
         ensures memory_cause { result ≡ RefEnd.OutOfMemory → (I.faults input.new ≡ I.faults input.old) × (O.faults out.new ≡ O.faults out.old) }
@@ -182,6 +185,8 @@ impl<'a> RefRun<'a> {
             → I.left input.old ≡ Some left → O.written out.old ≡ Some (base ++ written)
             → RunAnswers self.old self.new behaviour base left steps result (I.left input.new) (O.written out.new) }
         ensures holds { IsConsistentUnlessOver self.new }
+        ensures reads { result ≡ RefEnd.ReadFault → CallsNext Functions.GetChar self.new }
+        ensures writes { result ≡ RefEnd.WriteFault → CallsNext Functions.PutChar self.new }
         ensures read_cause { result ≡ RefEnd.ReadFault → Rose (I.faults input.old) (I.faults input.new) }
         ensures write_cause { result ≡ RefEnd.WriteFault → Rose (O.faults out.old) (O.faults out.new) }
         ensures read_faultless { result ≢ RefEnd.ReadFault → I.faults input.new ≡ I.faults input.old }
@@ -264,6 +269,8 @@ impl<'a> RefRun<'a> {
         ensures holds { OnOk result (IsConsistent self.new) }
         ensures acts { Acts self.old self.new (acting self.old) result (I.left input.old) (O.written out.old) (I.left input.new) (O.written out.new) }
         ensures kept { IsKept self.old self.new }
+        ensures reads { result ≡ Err Halts.ReadFault → CallsNext Functions.GetChar self.old }
+        ensures writes { result ≡ Err Halts.WriteFault → CallsNext Functions.PutChar self.old }
         ensures read_cause { result ≡ Err Halts.ReadFault → Rose (I.faults input.old) (I.faults input.new) }
         ensures write_cause { result ≡ Err Halts.WriteFault → Rose (O.faults out.old) (O.faults out.new) }
         ensures read_faultless { result ≢ Err Halts.ReadFault → I.faults input.new ≡ I.faults input.old }

@@ -1,4 +1,4 @@
-use Rattle.std.proofs.Common.{◌≡◌, length, arith, sym, ap, subst, ◌∙◌}
+use Rattle.std.proofs.Common.{◌≡◌, Err, length, arith, sym, ap, subst, ◌∙◌}
 use Rattle.std.specs.Vec.{vec_len}
 use Rattle.ref_semantics.specs.Store.{Eval, give}
 use Rattle.ref_semantics.specs.Library.{library}
@@ -8,8 +8,8 @@ use Rattle.ref_meaning.specs.Views.{table_of, around_run, functions_of, operands
 use Rattle.ref_meaning.specs.Holding.{IsCall}
 use Rattle.ref_meaning.specs.Doing.{acting}
 use Rattle.ref_meaning.specs.Moving.{Moves, Acts}
-use Rattle.ref_meaning.proofs.Acting.{moves-acts, moves-holds}
-use Rattle.ref_meaning.proofs.Applying.{apply-acting, apply-there, apply-call, no-call, halts-acts, given-holds, given-arrives, ok-holds, ok-acts}
+use Rattle.ref_meaning.proofs.Acting.{moves-acts, moves-holds, no-read, no-write}
+use Rattle.ref_meaning.proofs.Applying.{apply-acting, library-next, error-is, apply-there, apply-call, no-call, halts-acts, given-holds, given-arrives, ok-holds, ok-acts}
 use Rattle.ref_meaning.proofs.run.RefRun.apply.Goals as goal
 
 -- ---- a function of the program
@@ -25,7 +25,25 @@ returns-in-Call-clause-acts g c =
     moves-acts old c.call.new.self (acting old) c.call.result (g.I.Source.left c.args.input.now) (g.O.Sink.written c.args.out.now)
     (subst (λ (eval : Eval Config). Moves old c.call.new.self eval c.call.result) (sym (apply-acting old c.args.call c.args.function c.args.count c.in-Value.expression _ c.requires.control c.in-Value.is c.in-Call.is)) c.call.ensures.moves)
 
+pub returns-in-Call-clause-reads : goal.returns-in-Call-clause-reads
+returns-in-Call-clause-reads g c = λ e. no-read c.args.self.now c.call.new.self _ c.call.result c.call.ensures.moves e
+
+pub returns-in-Call-clause-writes : goal.returns-in-Call-clause-writes
+returns-in-Call-clause-writes g c = λ e. no-write c.args.self.now c.call.new.self _ c.call.result c.call.ensures.moves e
+
 -- ---- a function of the library
+
+pub returns-in_err-value-in-LibraryCall-clause-reads : goal.returns-in_err-value-in-LibraryCall-clause-reads
+returns-in_err-value-in-LibraryCall-clause-reads g c = λ e.
+    let old = c.args.self.now in
+    library-next old c.args.call c.args.function c.args.count c.in-Value.expression _ _ c.requires.control c.in-Value.is c.in-LibraryCall.is
+    (c.in_err-value-in-LibraryCall.ensures.reads (ap Err (error-is c.from_residual.result c.in_err-value-in-LibraryCall.field-0.0 _ c.from_residual.ensures.1 e)))
+
+pub returns-in_err-value-in-LibraryCall-clause-writes : goal.returns-in_err-value-in-LibraryCall-clause-writes
+returns-in_err-value-in-LibraryCall-clause-writes g c = λ e.
+    let old = c.args.self.now in
+    library-next old c.args.call c.args.function c.args.count c.in-Value.expression _ _ c.requires.control c.in-Value.is c.in-LibraryCall.is
+    (c.in_err-value-in-LibraryCall.ensures.writes (ap Err (error-is c.from_residual.result c.in_err-value-in-LibraryCall.field-0.0 _ c.from_residual.ensures.1 e)))
 
 pub returns-in_err-value-in-LibraryCall-clause-acts : goal.returns-in_err-value-in-LibraryCall-clause-acts
 returns-in_err-value-in-LibraryCall-clause-acts g c =

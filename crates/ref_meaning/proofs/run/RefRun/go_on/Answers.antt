@@ -1,10 +1,11 @@
-use Rattle.std.proofs.Common.{Some, Err, sym, ap, subst, ◌∙◌, ◌+◌, ◌-◌, refl, arith}
+use Rattle.std.proofs.Common.{Some, Err, inl, inr, sym, ap, subst, ◌∙◌, ◌+◌, ◌-◌, refl, arith}
+use Rattle.c_typed.specs.declared.typed.LibraryFunction.TheVariants as F
 use Rattle.pcc_outside.specs.Outside.{Rose}
 use Rattle.ref_meaning.specs.declared.run.RefEnd.{RefEnd}
 use Rattle.ref_meaning.specs.declared.run.RefEnd.TheVariants as E
 use Rattle.ref_meaning.specs.declared.run.Halt.TheVariants as H
 use Rattle.ref_meaning.specs.Running.{RunAnswers, halted}
-use Rattle.ref_meaning.proofs.Going.{goes-first, ends-over, answers-end, spent-all, needs-unit, left-split, answers-halted, halted-read, halted-written, halted-unless, goes-further, respent, breaks-off, same-final, no-final, kept-halted, needed-over, needed-halted, spent-within, done-no-fault, same-halt}
+use Rattle.ref_meaning.proofs.Going.{goes-first, next-halted, ends-over, answers-end, spent-all, needs-unit, left-split, answers-halted, halted-read, halted-written, halted-unless, goes-further, respent, breaks-off, same-final, no-final, kept-halted, needed-over, needed-halted, spent-within, done-no-fault, same-halt}
 use Rattle.ref_meaning.proofs.run.RefRun.go_on.Goals as goal
 
 pub loop-init : goal.loop-init
@@ -23,6 +24,12 @@ returns-in-Some-clause-answers g c = λ written behaviour base rest stands told 
     subst (λ (e : RefEnd). RunAnswers c.args.self.now c.loop.self behaviour base rest c.args.steps e (g.I.Source.left c.loop.input) (g.O.Sink.written c.loop.out)) (sym c.end_of.ensures)
     (answers-end c.args.self.now c.loop.self behaviour base rest c.args.steps _ _ c.in-Some.end
     (ends-over c.args.self.now c.loop.self behaviour base rest c.args.steps c.loop.left _ _ c.in-Some.end goes (sym c.end.ensures ∙ c.in-Some.is)))
+
+pub returns-in-Some-clause-reads : goal.returns-in-Some-clause-reads
+returns-in-Some-clause-reads g c = λ e. absurd (no-final E.ReadFault c.in-Some.end refl (sym e ∙ c.end_of.ensures))
+
+pub returns-in-Some-clause-writes : goal.returns-in-Some-clause-writes
+returns-in-Some-clause-writes g c = λ e. absurd (no-final E.WriteFault c.in-Some.end refl (sym e ∙ c.end_of.ensures))
 
 pub returns-in-Some-clause-kept : goal.returns-in-Some-clause-kept
 returns-in-Some-clause-kept g c = λ final e. sym c.end.ensures ∙ (c.in-Some.is ∙ ap Some (same-final c.in-Some.end final (sym c.end_of.ensures ∙ e)))
@@ -113,6 +120,16 @@ returns-in-Err-clause-read_cause g c = λ e.
 pub returns-in-Err-clause-write_cause : goal.returns-in-Err-clause-write_cause
 returns-in-Err-clause-write_cause g c = λ e.
     subst (λ n. Rose n (g.O.Sink.faults c.act.new.out)) c.loop.invariant.writes (c.in-Err.ensures.write_cause (ap Err (halted-written c.in-Err.halt (sym c.stop.ensures.answer ∙ e))))
+
+pub returns-in-Err-clause-reads : goal.returns-in-Err-clause-reads
+returns-in-Err-clause-reads g c = λ e.
+    next-halted (Unit {0}) c.loop.self c.act.new.self c.stop.new.self F.GetChar c.in-Err.halt _ _ _ _ c.in-Err.ensures.acts c.stop.ensures.halted (inl (halted-read c.in-Err.halt (sym c.stop.ensures.answer ∙ e)))
+    (c.in-Err.ensures.reads (ap Err (halted-read c.in-Err.halt (sym c.stop.ensures.answer ∙ e))))
+
+pub returns-in-Err-clause-writes : goal.returns-in-Err-clause-writes
+returns-in-Err-clause-writes g c = λ e.
+    next-halted (Unit {0}) c.loop.self c.act.new.self c.stop.new.self F.PutChar c.in-Err.halt _ _ _ _ c.in-Err.ensures.acts c.stop.ensures.halted (inr (halted-written c.in-Err.halt (sym c.stop.ensures.answer ∙ e)))
+    (c.in-Err.ensures.writes (ap Err (halted-written c.in-Err.halt (sym c.stop.ensures.answer ∙ e))))
 
 pub returns-in-Err-clause-kept : goal.returns-in-Err-clause-kept
 returns-in-Err-clause-kept g c = λ final e. kept-halted c.act.new.self c.stop.new.self c.in-Err.halt final c.stop.ensures.halted (sym c.stop.ensures.answer ∙ e)

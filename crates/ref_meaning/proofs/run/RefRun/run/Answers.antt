@@ -19,6 +19,12 @@ returns-in-Some-clause-read_cause g c = λ e. absurd (no-final E.ReadFault c.in-
 pub returns-in-Some-clause-write_cause : goal.returns-in-Some-clause-write_cause
 returns-in-Some-clause-write_cause g c = λ e. absurd (no-final E.WriteFault c.in-Some.end refl (sym e ∙ c.end_of.ensures))
 
+pub returns-in-Some-clause-reads : goal.returns-in-Some-clause-reads
+returns-in-Some-clause-reads g c = λ e. absurd (no-final E.ReadFault c.in-Some.end refl (sym e ∙ c.end_of.ensures))
+
+pub returns-in-Some-clause-writes : goal.returns-in-Some-clause-writes
+returns-in-Some-clause-writes g c = λ e. absurd (no-final E.WriteFault c.in-Some.end refl (sym e ∙ c.end_of.ensures))
+
 pub returns-in-Some-clause-again : goal.returns-in-Some-clause-again
 returns-in-Some-clause-again g c = λ final e. (c.end_of.ensures ∙ ap answer_of (same-end c.in-Some.end final (sym c.in-Some.is ∙ (c.end.ensures ∙ e))), refl, refl, refl)
 
