@@ -5,14 +5,14 @@ use Rattle.std.specs.List.{prefix_len}
 use Rattle.std.proofs.lemmas.Bool.{cond_both, and_parts, leb-true}
 use Rattle.std.proofs.lemmas.List.Sums.{prefix_len-le-length}
 use Rattle.text_place.specs.declared.place.Pos.{Pos}
-use Rattle.c_token.specs.declared.token.Symbol.{Symbol}
+use Rattle.c_grammar.specs.declared.kind.Kind.{Kind}
 use Rattle.c_token.specs.declared.token.Lexeme.{Lexeme}
 use Rattle.c_lexer.specs.declared.lex_err.LexErr.{LexErr}
 use Rattle.c_lexer.specs.declared.front.Front.{Front}
 use Rattle.c_lexer.specs.Classes.{is_space, is_in_line, is_letter, is_digit, is_word_byte, goes_on}
-use Rattle.c_lexer.specs.Tables.{punctuators, symbol_in}
+use Rattle.c_lexer.specs.Tables.{punctuators, kind_in}
 use Rattle.c_lexer.specs.Constants.{is_open, is_bad_escape, spelled_byte, spelled_width, quoted_from, quoted}
-use Rattle.c_lexer.specs.Fronts.{word_front, number_run, constant_front, number_front, character_front, as_character, as_literal, is_accepted, line_length, directive_front, comment_end, as_comment, punctuator_of, symbol_front, punctuator_front, other_front, front_of}
+use Rattle.c_lexer.specs.Fronts.{word_front, number_run, constant_front, number_front, character_front, as_character, as_literal, is_accepted, line_length, directive_front, comment_end, as_comment, punctuator_of, fixed_front, punctuator_front, other_front, front_of}
 use Rattle.c_lexer.specs.Tokens.{width_of}
 
 -- a front has at least one byte and at most n
@@ -106,14 +106,14 @@ comment_front_within : (n : ℕ) (place : Pos) (end : Option ℕ) → EndsWithin
 comment_front_within n place None within = tt
 comment_front_within n place (Some count) within = within
 
-symbol_within : (n count : ℕ) (found : Option Symbol) (otherwise : Result Front LexErr) → 1 ≤ count → count ≤ n → Within n otherwise → Within n (symbol_front count found otherwise)
-symbol_within n count None otherwise some fits within = within
-symbol_within n count (Some symbol) otherwise some fits within = (some, fits)
+fixed_within : (n count : ℕ) (found : Option Kind) (otherwise : Result Front LexErr) → 1 ≤ count → count ≤ n → Within n otherwise → Within n (fixed_front count found otherwise)
+fixed_within n count None otherwise some fits within = within
+fixed_within n count (Some kind) otherwise some fits within = (some, fits)
 
-spelled_within : (text : List ℕ) (count : ℕ) (otherwise : Result Front LexErr) → 1 ≤ count → Within (length text) otherwise → Within (length text) (symbol_front count (punctuator_of count text) otherwise)
+spelled_within : (text : List ℕ) (count : ℕ) (otherwise : Result Front LexErr) → 1 ≤ count → Within (length text) otherwise → Within (length text) (fixed_front count (punctuator_of count text) otherwise)
 spelled_within text count otherwise some within =
-    cond_both (nat_le count (length text)) _ _ (λ found. Within (length text) (symbol_front count found otherwise))
-    (λ fits. symbol_within (length text) count (symbol_in punctuators (take count text)) otherwise some (leb-true count (length text) fits) within)
+    cond_both (nat_le count (length text)) _ _ (λ found. Within (length text) (fixed_front count found otherwise))
+    (λ fits. fixed_within (length text) count (kind_in punctuators (take count text)) otherwise some (leb-true count (length text) fits) within)
     (λ long. within)
 
 punctuator_within : (text : List ℕ) (place : Pos) → Within (length text) (punctuator_front place text)

@@ -3,7 +3,7 @@
 use Rattle.std.specs.Prelude.{ℕ, ◌+◌, List, [], ◌∷◌, Option, Some, None, Bool, true, false, ◌&&◌, ◌||◌, ◌==◌, nat_le, if◌then◌else◌, length, take, drop, slice_index, codes, nat_eq, Result, Ok, Err}
 use Rattle.std.specs.List.{prefix_len, starts_with}
 use Rattle.text_place.specs.declared.place.Pos.{Pos}
-use Rattle.c_token.specs.declared.token.Symbol.{Symbol}
+use Rattle.c_grammar.specs.declared.kind.Kind.{Kind}
 use Rattle.c_token.specs.declared.token.Lexeme.{Lexeme}
 use Rattle.c_token.specs.declared.token.Lexeme.TheVariants as L
 use Rattle.c_lexer.specs.declared.lex_err.LexErr.{LexErr}
@@ -11,16 +11,16 @@ use Rattle.c_lexer.specs.declared.lex_err.LexErr.TheVariants.{BadByte, BadLitera
 use Rattle.c_lexer.specs.declared.front.Front.{Front}
 use Rattle.c_lexer.specs.declared.front.Front.TheVariants.{Blank, Token}
 use Rattle.c_lexer.specs.Classes.{is_space, is_blank, is_in_line, is_letter, is_digit, is_word_byte, goes_on}
-use Rattle.c_lexer.specs.Tables.{words, punctuators, symbol_in}
+use Rattle.c_lexer.specs.Tables.{words, punctuators, kind_in}
 use Rattle.c_lexer.specs.Constants.{integer_of, quoted}
 
--- a word: its symbol, or a name
-abbrev pub symbol_or_name : Option Symbol → List ℕ → Lexeme
-symbol_or_name None word = L.Name word
-symbol_or_name (Some symbol) word = L.Symbol symbol
+-- a word: one of the grammar, or a name
+abbrev pub kind_or_name : Option Kind → List ℕ → Lexeme
+kind_or_name None word = L.Name word
+kind_or_name (Some kind) word = L.Fixed kind
 
 abbrev pub word_lexeme : List ℕ → Lexeme
-word_lexeme word = symbol_or_name (symbol_in words word) word
+word_lexeme word = kind_or_name (kind_in words word) word
 
 -- a word has at most 255 bytes
 abbrev pub word_front : Pos → List ℕ → Result Front LexErr
@@ -97,18 +97,18 @@ abbrev pub as_comment : Pos → Option ℕ → Result Front LexErr
 as_comment place None = Err (Unclosed place)
 as_comment place (Some count) = Ok (Blank count)
 
--- the punctuator that so many bytes at the front of the text spell
-abbrev pub punctuator_of : ℕ → List ℕ → Option Symbol
-punctuator_of count text = if nat_le count (length text) then symbol_in punctuators (take count text) else None
+-- the kind of the punctuator that so many bytes at the front of the text spell
+abbrev pub punctuator_of : ℕ → List ℕ → Option Kind
+punctuator_of count text = if nat_le count (length text) then kind_in punctuators (take count text) else None
 
-abbrev pub symbol_front : ℕ → Option Symbol → Result Front LexErr → Result Front LexErr
-symbol_front count None otherwise = otherwise
-symbol_front count (Some symbol) otherwise = Ok (Token (L.Symbol symbol) count)
+abbrev pub fixed_front : ℕ → Option Kind → Result Front LexErr → Result Front LexErr
+fixed_front count None otherwise = otherwise
+fixed_front count (Some kind) otherwise = Ok (Token (L.Fixed kind) count)
 
 -- the longest punctuator; none has more than three bytes
 abbrev pub punctuator_front : Pos → List ℕ → Result Front LexErr
 punctuator_front place text =
-    symbol_front 3 (punctuator_of 3 text) (symbol_front 2 (punctuator_of 2 text) (symbol_front 1 (punctuator_of 1 text) (Err (BadByte place))))
+    fixed_front 3 (punctuator_of 3 text) (fixed_front 2 (punctuator_of 2 text) (fixed_front 1 (punctuator_of 1 text) (Err (BadByte place))))
 
 -- a comment (C17 6.4.9) or a punctuator
 abbrev pub other_front : Pos → List ℕ → Result Front LexErr

@@ -1,46 +1,46 @@
 -- The spellings of the grammar's words and punctuators.
 use Rattle.std.specs.Prelude.{ℕ, List, [], ◌∷◌, Option, Some, None, if◌then◌else◌, codes}
 use Rattle.std.specs.Str.{bytes_eq}
-use Rattle.c_token.specs.declared.token.Symbol.{Symbol}
-use Rattle.c_token.specs.declared.token.Symbol.TheVariants as S
+use Rattle.c_grammar.specs.declared.kind.Kind.{Kind}
+use Rattle.c_grammar.specs.declared.kind.Kind.TheVariants as K
 
--- the symbol that stands beside a spelling in a table
-abbrev pub symbol_in : List (List ℕ × Symbol) → List ℕ → Option Symbol
-symbol_in [] spelling = None
-symbol_in (row ∷ rows) spelling = if bytes_eq row.0 spelling then Some row.1 else symbol_in rows spelling
+-- the kind that stands beside a spelling in a table
+abbrev pub kind_in : List (List ℕ × Kind) → List ℕ → Option Kind
+kind_in [] spelling = None
+kind_in (row ∷ rows) spelling = if bytes_eq row.0 spelling then Some row.1 else kind_in rows spelling
 
--- the 44 keywords (C17 6.4.1), the two constants that are built in, and three names that have a rule of their own until
--- the reader reads the whole language
-unfoldable pub words : List (List ℕ × Symbol)
+-- the 44 keywords (C17 6.4.1) and the two constants that are built in; keywords that the language leaves out are of one
+-- kind
+unfoldable pub words : List (List ℕ × Kind)
 words =
-    (codes "auto", S.Auto) ∷ (codes "break", S.Break) ∷ (codes "case", S.Case) ∷ (codes "char", S.Char)
-    ∷ (codes "const", S.Const) ∷ (codes "continue", S.Continue) ∷ (codes "default", S.Default) ∷ (codes "do", S.Do)
-    ∷ (codes "double", S.Double) ∷ (codes "else", S.Else) ∷ (codes "enum", S.Enum) ∷ (codes "extern", S.Extern)
-    ∷ (codes "float", S.Float) ∷ (codes "for", S.For) ∷ (codes "goto", S.Goto) ∷ (codes "if", S.If)
-    ∷ (codes "inline", S.Inline) ∷ (codes "int", S.Int) ∷ (codes "long", S.Long) ∷ (codes "register", S.Register)
-    ∷ (codes "restrict", S.Restrict) ∷ (codes "return", S.Return) ∷ (codes "short", S.Short)
-    ∷ (codes "signed", S.Signed) ∷ (codes "sizeof", S.SizeOf) ∷ (codes "static", S.Static)
-    ∷ (codes "struct", S.Struct) ∷ (codes "switch", S.Switch) ∷ (codes "typedef", S.TypeDef)
-    ∷ (codes "union", S.Union) ∷ (codes "unsigned", S.Unsigned) ∷ (codes "void", S.Void)
-    ∷ (codes "volatile", S.Volatile) ∷ (codes "while", S.While) ∷ (codes "_Alignas", S.Alignas)
-    ∷ (codes "_Alignof", S.Alignof) ∷ (codes "_Atomic", S.Atomic) ∷ (codes "_Bool", S.Bool)
-    ∷ (codes "_Complex", S.Complex) ∷ (codes "_Generic", S.Generic) ∷ (codes "_Imaginary", S.Imaginary)
-    ∷ (codes "_Noreturn", S.Noreturn) ∷ (codes "_Static_assert", S.StaticAssert)
-    ∷ (codes "_Thread_local", S.ThreadLocal) ∷ (codes "NULL", S.Null) ∷ (codes "EOF", S.EndOfFile) ∷ []
+    (codes "auto", K.Reserved) ∷ (codes "break", K.Break) ∷ (codes "case", K.Case) ∷ (codes "char", K.Char)
+    ∷ (codes "const", K.Const) ∷ (codes "continue", K.Continue) ∷ (codes "default", K.Default) ∷ (codes "do", K.Do)
+    ∷ (codes "double", K.Reserved) ∷ (codes "else", K.Else) ∷ (codes "enum", K.Reserved) ∷ (codes "extern", K.Extern)
+    ∷ (codes "float", K.Reserved) ∷ (codes "for", K.For) ∷ (codes "goto", K.Reserved) ∷ (codes "if", K.If)
+    ∷ (codes "inline", K.Reserved) ∷ (codes "int", K.Int) ∷ (codes "long", K.Long) ∷ (codes "register", K.Reserved)
+    ∷ (codes "restrict", K.Reserved) ∷ (codes "return", K.Return) ∷ (codes "short", K.Short)
+    ∷ (codes "signed", K.Signed) ∷ (codes "sizeof", K.Sizeof) ∷ (codes "static", K.Static)
+    ∷ (codes "struct", K.Struct) ∷ (codes "switch", K.Switch) ∷ (codes "typedef", K.Reserved)
+    ∷ (codes "union", K.Reserved) ∷ (codes "unsigned", K.Unsigned) ∷ (codes "void", K.Void)
+    ∷ (codes "volatile", K.Reserved) ∷ (codes "while", K.While) ∷ (codes "_Alignas", K.Reserved)
+    ∷ (codes "_Alignof", K.Reserved) ∷ (codes "_Atomic", K.Reserved) ∷ (codes "_Bool", K.Reserved)
+    ∷ (codes "_Complex", K.Reserved) ∷ (codes "_Generic", K.Reserved) ∷ (codes "_Imaginary", K.Reserved)
+    ∷ (codes "_Noreturn", K.Reserved) ∷ (codes "_Static_assert", K.Reserved)
+    ∷ (codes "_Thread_local", K.Reserved) ∷ (codes "NULL", K.Null) ∷ (codes "EOF", K.EndOfFile) ∷ []
 
 -- the punctuators of the grammar (C17 6.4.6)
-unfoldable pub punctuators : List (List ℕ × Symbol)
+unfoldable pub punctuators : List (List ℕ × Kind)
 punctuators =
-    (codes "(", S.OpenParenthesis) ∷ (codes ")", S.CloseParenthesis) ∷ (codes "{", S.OpenBrace)
-    ∷ (codes "}", S.CloseBrace) ∷ (codes "[", S.OpenBracket) ∷ (codes "]", S.CloseBracket) ∷ (codes ";", S.Semicolon)
-    ∷ (codes ",", S.Comma) ∷ (codes ":", S.Colon) ∷ (codes "?", S.Question) ∷ (codes ".", S.Dot)
-    ∷ (codes "->", S.Arrow) ∷ (codes "++", S.PlusPlus) ∷ (codes "--", S.MinusMinus) ∷ (codes "&", S.Ampersand)
-    ∷ (codes "*", S.Star) ∷ (codes "+", S.Plus) ∷ (codes "-", S.Minus) ∷ (codes "~", S.Tilde)
-    ∷ (codes "!", S.Exclamation) ∷ (codes "/", S.Slash) ∷ (codes "%", S.Percent) ∷ (codes "<<", S.LessLess)
-    ∷ (codes ">>", S.GreaterGreater) ∷ (codes "<", S.Less) ∷ (codes ">", S.Greater) ∷ (codes "<=", S.LessEqual)
-    ∷ (codes ">=", S.GreaterEqual) ∷ (codes "==", S.EqualEqual) ∷ (codes "!=", S.ExclamationEqual)
-    ∷ (codes "^", S.Caret) ∷ (codes "|", S.Bar) ∷ (codes "&&", S.AmpersandAmpersand) ∷ (codes "||", S.BarBar)
-    ∷ (codes "=", S.Equal) ∷ (codes "*=", S.StarEqual) ∷ (codes "/=", S.SlashEqual) ∷ (codes "%=", S.PercentEqual)
-    ∷ (codes "+=", S.PlusEqual) ∷ (codes "-=", S.MinusEqual) ∷ (codes "<<=", S.LessLessEqual)
-    ∷ (codes ">>=", S.GreaterGreaterEqual) ∷ (codes "&=", S.AmpersandEqual) ∷ (codes "^=", S.CaretEqual)
-    ∷ (codes "|=", S.BarEqual) ∷ []
+    (codes "(", K.OpenParenthesis) ∷ (codes ")", K.CloseParenthesis) ∷ (codes "{", K.OpenBrace)
+    ∷ (codes "}", K.CloseBrace) ∷ (codes "[", K.OpenBracket) ∷ (codes "]", K.CloseBracket) ∷ (codes ";", K.Semicolon)
+    ∷ (codes ",", K.Comma) ∷ (codes ":", K.Colon) ∷ (codes "?", K.Question) ∷ (codes ".", K.Dot)
+    ∷ (codes "->", K.Arrow) ∷ (codes "++", K.PlusPlus) ∷ (codes "--", K.MinusMinus) ∷ (codes "&", K.Ampersand)
+    ∷ (codes "*", K.Star) ∷ (codes "+", K.Plus) ∷ (codes "-", K.Minus) ∷ (codes "~", K.Tilde)
+    ∷ (codes "!", K.Exclamation) ∷ (codes "/", K.Slash) ∷ (codes "%", K.Percent) ∷ (codes "<<", K.ShiftLeft)
+    ∷ (codes ">>", K.ShiftRight) ∷ (codes "<", K.Less) ∷ (codes ">", K.Greater) ∷ (codes "<=", K.LessEqual)
+    ∷ (codes ">=", K.GreaterEqual) ∷ (codes "==", K.EqualEqual) ∷ (codes "!=", K.ExclamationEqual)
+    ∷ (codes "^", K.Caret) ∷ (codes "|", K.Bar) ∷ (codes "&&", K.AmpersandAmpersand) ∷ (codes "||", K.BarBar)
+    ∷ (codes "=", K.Equal) ∷ (codes "*=", K.StarEqual) ∷ (codes "/=", K.SlashEqual) ∷ (codes "%=", K.PercentEqual)
+    ∷ (codes "+=", K.PlusEqual) ∷ (codes "-=", K.MinusEqual) ∷ (codes "<<=", K.ShiftLeftEqual)
+    ∷ (codes ">>=", K.ShiftRightEqual) ∷ (codes "&=", K.AmpersandEqual) ∷ (codes "^=", K.CaretEqual)
+    ∷ (codes "|=", K.BarEqual) ∷ []

@@ -1,112 +1,112 @@
 // The spellings of the grammar's words and punctuators.
 
 ghost use Rattle.std.specs.Prelude.{◌≡◌, map};
-ghost use Rattle.c_lexer.specs.Tables.{words, punctuators, symbol_in};
+ghost use Rattle.c_lexer.specs.Tables.{words, punctuators, kind_in};
 
-use c_token::Symbol;
+use c_grammar::Kind;
 
 /// The keywords (C17 6.4.1), `NULL` and `EOF`.
-const WORDS: [(&[u8], Symbol); 46] = [
-    (b"auto", Symbol::Auto),
-    (b"break", Symbol::Break),
-    (b"case", Symbol::Case),
-    (b"char", Symbol::Char),
-    (b"const", Symbol::Const),
-    (b"continue", Symbol::Continue),
-    (b"default", Symbol::Default),
-    (b"do", Symbol::Do),
-    (b"double", Symbol::Double),
-    (b"else", Symbol::Else),
-    (b"enum", Symbol::Enum),
-    (b"extern", Symbol::Extern),
-    (b"float", Symbol::Float),
-    (b"for", Symbol::For),
-    (b"goto", Symbol::Goto),
-    (b"if", Symbol::If),
-    (b"inline", Symbol::Inline),
-    (b"int", Symbol::Int),
-    (b"long", Symbol::Long),
-    (b"register", Symbol::Register),
-    (b"restrict", Symbol::Restrict),
-    (b"return", Symbol::Return),
-    (b"short", Symbol::Short),
-    (b"signed", Symbol::Signed),
-    (b"sizeof", Symbol::SizeOf),
-    (b"static", Symbol::Static),
-    (b"struct", Symbol::Struct),
-    (b"switch", Symbol::Switch),
-    (b"typedef", Symbol::TypeDef),
-    (b"union", Symbol::Union),
-    (b"unsigned", Symbol::Unsigned),
-    (b"void", Symbol::Void),
-    (b"volatile", Symbol::Volatile),
-    (b"while", Symbol::While),
-    (b"_Alignas", Symbol::Alignas),
-    (b"_Alignof", Symbol::Alignof),
-    (b"_Atomic", Symbol::Atomic),
-    (b"_Bool", Symbol::Bool),
-    (b"_Complex", Symbol::Complex),
-    (b"_Generic", Symbol::Generic),
-    (b"_Imaginary", Symbol::Imaginary),
-    (b"_Noreturn", Symbol::Noreturn),
-    (b"_Static_assert", Symbol::StaticAssert),
-    (b"_Thread_local", Symbol::ThreadLocal),
-    (b"NULL", Symbol::Null),
-    (b"EOF", Symbol::EndOfFile),
+const WORDS: [(&[u8], Kind); 46] = [
+    (b"auto", Kind::Reserved),
+    (b"break", Kind::Break),
+    (b"case", Kind::Case),
+    (b"char", Kind::Char),
+    (b"const", Kind::Const),
+    (b"continue", Kind::Continue),
+    (b"default", Kind::Default),
+    (b"do", Kind::Do),
+    (b"double", Kind::Reserved),
+    (b"else", Kind::Else),
+    (b"enum", Kind::Reserved),
+    (b"extern", Kind::Extern),
+    (b"float", Kind::Reserved),
+    (b"for", Kind::For),
+    (b"goto", Kind::Reserved),
+    (b"if", Kind::If),
+    (b"inline", Kind::Reserved),
+    (b"int", Kind::Int),
+    (b"long", Kind::Long),
+    (b"register", Kind::Reserved),
+    (b"restrict", Kind::Reserved),
+    (b"return", Kind::Return),
+    (b"short", Kind::Short),
+    (b"signed", Kind::Signed),
+    (b"sizeof", Kind::Sizeof),
+    (b"static", Kind::Static),
+    (b"struct", Kind::Struct),
+    (b"switch", Kind::Switch),
+    (b"typedef", Kind::Reserved),
+    (b"union", Kind::Reserved),
+    (b"unsigned", Kind::Unsigned),
+    (b"void", Kind::Void),
+    (b"volatile", Kind::Reserved),
+    (b"while", Kind::While),
+    (b"_Alignas", Kind::Reserved),
+    (b"_Alignof", Kind::Reserved),
+    (b"_Atomic", Kind::Reserved),
+    (b"_Bool", Kind::Reserved),
+    (b"_Complex", Kind::Reserved),
+    (b"_Generic", Kind::Reserved),
+    (b"_Imaginary", Kind::Reserved),
+    (b"_Noreturn", Kind::Reserved),
+    (b"_Static_assert", Kind::Reserved),
+    (b"_Thread_local", Kind::Reserved),
+    (b"NULL", Kind::Null),
+    (b"EOF", Kind::EndOfFile),
 ];
 
 /// The punctuators (C17 6.4.6).
-const PUNCTUATORS: [(&[u8], Symbol); 45] = [
-    (b"(", Symbol::OpenParenthesis),
-    (b")", Symbol::CloseParenthesis),
-    (b"{", Symbol::OpenBrace),
-    (b"}", Symbol::CloseBrace),
-    (b"[", Symbol::OpenBracket),
-    (b"]", Symbol::CloseBracket),
-    (b";", Symbol::Semicolon),
-    (b",", Symbol::Comma),
-    (b":", Symbol::Colon),
-    (b"?", Symbol::Question),
-    (b".", Symbol::Dot),
-    (b"->", Symbol::Arrow),
-    (b"++", Symbol::PlusPlus),
-    (b"--", Symbol::MinusMinus),
-    (b"&", Symbol::Ampersand),
-    (b"*", Symbol::Star),
-    (b"+", Symbol::Plus),
-    (b"-", Symbol::Minus),
-    (b"~", Symbol::Tilde),
-    (b"!", Symbol::Exclamation),
-    (b"/", Symbol::Slash),
-    (b"%", Symbol::Percent),
-    (b"<<", Symbol::LessLess),
-    (b">>", Symbol::GreaterGreater),
-    (b"<", Symbol::Less),
-    (b">", Symbol::Greater),
-    (b"<=", Symbol::LessEqual),
-    (b">=", Symbol::GreaterEqual),
-    (b"==", Symbol::EqualEqual),
-    (b"!=", Symbol::ExclamationEqual),
-    (b"^", Symbol::Caret),
-    (b"|", Symbol::Bar),
-    (b"&&", Symbol::AmpersandAmpersand),
-    (b"||", Symbol::BarBar),
-    (b"=", Symbol::Equal),
-    (b"*=", Symbol::StarEqual),
-    (b"/=", Symbol::SlashEqual),
-    (b"%=", Symbol::PercentEqual),
-    (b"+=", Symbol::PlusEqual),
-    (b"-=", Symbol::MinusEqual),
-    (b"<<=", Symbol::LessLessEqual),
-    (b">>=", Symbol::GreaterGreaterEqual),
-    (b"&=", Symbol::AmpersandEqual),
-    (b"^=", Symbol::CaretEqual),
-    (b"|=", Symbol::BarEqual),
+const PUNCTUATORS: [(&[u8], Kind); 45] = [
+    (b"(", Kind::OpenParenthesis),
+    (b")", Kind::CloseParenthesis),
+    (b"{", Kind::OpenBrace),
+    (b"}", Kind::CloseBrace),
+    (b"[", Kind::OpenBracket),
+    (b"]", Kind::CloseBracket),
+    (b";", Kind::Semicolon),
+    (b",", Kind::Comma),
+    (b":", Kind::Colon),
+    (b"?", Kind::Question),
+    (b".", Kind::Dot),
+    (b"->", Kind::Arrow),
+    (b"++", Kind::PlusPlus),
+    (b"--", Kind::MinusMinus),
+    (b"&", Kind::Ampersand),
+    (b"*", Kind::Star),
+    (b"+", Kind::Plus),
+    (b"-", Kind::Minus),
+    (b"~", Kind::Tilde),
+    (b"!", Kind::Exclamation),
+    (b"/", Kind::Slash),
+    (b"%", Kind::Percent),
+    (b"<<", Kind::ShiftLeft),
+    (b">>", Kind::ShiftRight),
+    (b"<", Kind::Less),
+    (b">", Kind::Greater),
+    (b"<=", Kind::LessEqual),
+    (b">=", Kind::GreaterEqual),
+    (b"==", Kind::EqualEqual),
+    (b"!=", Kind::ExclamationEqual),
+    (b"^", Kind::Caret),
+    (b"|", Kind::Bar),
+    (b"&&", Kind::AmpersandAmpersand),
+    (b"||", Kind::BarBar),
+    (b"=", Kind::Equal),
+    (b"*=", Kind::StarEqual),
+    (b"/=", Kind::SlashEqual),
+    (b"%=", Kind::PercentEqual),
+    (b"+=", Kind::PlusEqual),
+    (b"-=", Kind::MinusEqual),
+    (b"<<=", Kind::ShiftLeftEqual),
+    (b">>=", Kind::ShiftRightEqual),
+    (b"&=", Kind::AmpersandEqual),
+    (b"^=", Kind::CaretEqual),
+    (b"|=", Kind::BarEqual),
 ];
 
-/// The symbol that stands beside a spelling in a table.
-fn symbol_in(mut table: &[(&[u8], Symbol)], spelling: &[u8]) -> Option<Symbol>
-    ensures { result ≡ symbol_in (map (λ row. (row.0.now, row.1)) table.entry.now) spelling.now }
+/// The kind that stands beside a spelling in a table.
+fn kind_in(mut table: &[(&[u8], Kind)], spelling: &[u8]) -> Option<Kind>
+    ensures { result ≡ kind_in (map (λ row. (row.0.now, row.1)) table.entry.now) spelling.now }
 {
     while let [row, rest @ ..] = table {
         if row.0 == spelling {
@@ -117,16 +117,16 @@ fn symbol_in(mut table: &[(&[u8], Symbol)], spelling: &[u8]) -> Option<Symbol>
     None
 }
 
-/// The symbol that a word spells.
-pub(crate) fn word_symbol(word: &[u8]) -> Option<Symbol>
-    ensures { result ≡ symbol_in words word.now }
+/// The kind of a word that is not a name.
+pub(crate) fn word_kind(word: &[u8]) -> Option<Kind>
+    ensures { result ≡ kind_in words word.now }
 {
-    symbol_in(&WORDS, word)
+    kind_in(&WORDS, word)
 }
 
-/// The punctuator that these bytes spell.
-pub(crate) fn punctuator_symbol(spelling: &[u8]) -> Option<Symbol>
-    ensures { result ≡ symbol_in punctuators spelling.now }
+/// The kind of the punctuator that these bytes spell.
+pub(crate) fn punctuator_kind(spelling: &[u8]) -> Option<Kind>
+    ensures { result ≡ kind_in punctuators spelling.now }
 {
-    symbol_in(&PUNCTUATORS, spelling)
+    kind_in(&PUNCTUATORS, spelling)
 }

@@ -9,7 +9,7 @@ ghost use Rattle.c_lexer.specs.Tokens.{UnlessMemory};
 use crate::classes::is_word_byte;
 use crate::front::Front;
 use crate::lex_err::LexErr;
-use crate::tables::word_symbol;
+use crate::tables::word_kind;
 use c_token::{ByteString, Lexeme};
 use std::alloc::{AllocError, Global};
 use text_place::Pos;
@@ -45,12 +45,12 @@ fn word_run(text: &[u8]) -> usize
     length
 }
 
-/// What a word is: a symbol or a name.
+/// What a word is: a word of the grammar, or a name.
 fn word_lexeme(alloc: Global, word: &[u8]) -> Result<Lexeme, AllocError>
     ensures { IfOk result (λ lexeme. lexeme ≡ word_lexeme word.now) }
 {
-    if let Some(symbol) = word_symbol(word) {
-        return Ok(Lexeme::Symbol(symbol));
+    if let Some(kind) = word_kind(word) {
+        return Ok(Lexeme::Fixed(kind));
     }
     let bytes = Vec::from_slice(alloc, word)?;
     Ok(Lexeme::Name(ByteString::new(bytes)))

@@ -15,10 +15,10 @@ fn tokens_of(rt: &impl Abort, alloc: Global, text: &[u8]) -> Result<Vec<Token>, 
     tokens(alloc, text)
 }
 
-/// A lexeme as the rows below write it: a symbol by its variant, a name by its spelling.
+/// A lexeme as the rows below write it: a word or punctuator by its kind, a name by its spelling.
 fn write_lexeme(out: &mut String, lexeme: &Lexeme) -> Result<(), AllocError> {
     match lexeme {
-        Lexeme::Symbol(symbol) => write!(out, "{symbol:?}")?,
+        Lexeme::Fixed(kind) => write!(out, "{kind:?}")?,
         Lexeme::Name(name) => {
             for byte in name.as_slice() {
                 out.push(char::from(*byte))?;
@@ -283,7 +283,7 @@ fn finds_each_keyword(rt: HostRuntime) -> Result<(), Fail> {
     let rows = [
         (
             "auto break case char",
-            "1:1 Auto, 1:6 Break, 1:12 Case, 1:17 Char, 1:21 end",
+            "1:1 Reserved, 1:6 Break, 1:12 Case, 1:17 Char, 1:21 end",
         ),
         (
             "const continue default do",
@@ -291,44 +291,44 @@ fn finds_each_keyword(rt: HostRuntime) -> Result<(), Fail> {
         ),
         (
             "double else enum extern",
-            "1:1 Double, 1:8 Else, 1:13 Enum, 1:18 Extern, 1:24 end",
+            "1:1 Reserved, 1:8 Else, 1:13 Reserved, 1:18 Extern, 1:24 end",
         ),
         (
             "float for goto if",
-            "1:1 Float, 1:7 For, 1:11 Goto, 1:16 If, 1:18 end",
+            "1:1 Reserved, 1:7 For, 1:11 Reserved, 1:16 If, 1:18 end",
         ),
         (
             "inline int long register",
-            "1:1 Inline, 1:8 Int, 1:12 Long, 1:17 Register, 1:25 end",
+            "1:1 Reserved, 1:8 Int, 1:12 Long, 1:17 Reserved, 1:25 end",
         ),
         (
             "restrict return short signed",
-            "1:1 Restrict, 1:10 Return, 1:17 Short, 1:23 Signed, 1:29 end",
+            "1:1 Reserved, 1:10 Return, 1:17 Short, 1:23 Signed, 1:29 end",
         ),
         (
             "sizeof static struct switch",
-            "1:1 SizeOf, 1:8 Static, 1:15 Struct, 1:22 Switch, 1:28 end",
+            "1:1 Sizeof, 1:8 Static, 1:15 Struct, 1:22 Switch, 1:28 end",
         ),
         (
             "typedef union unsigned void",
-            "1:1 TypeDef, 1:9 Union, 1:15 Unsigned, 1:24 Void, 1:28 end",
+            "1:1 Reserved, 1:9 Reserved, 1:15 Unsigned, 1:24 Void, 1:28 end",
         ),
-        ("volatile while", "1:1 Volatile, 1:10 While, 1:15 end"),
+        ("volatile while", "1:1 Reserved, 1:10 While, 1:15 end"),
         (
             "_Alignas _Alignof _Atomic",
-            "1:1 Alignas, 1:10 Alignof, 1:19 Atomic, 1:26 end",
+            "1:1 Reserved, 1:10 Reserved, 1:19 Reserved, 1:26 end",
         ),
         (
             "_Bool _Complex _Generic",
-            "1:1 Bool, 1:7 Complex, 1:16 Generic, 1:24 end",
+            "1:1 Reserved, 1:7 Reserved, 1:16 Reserved, 1:24 end",
         ),
         (
             "_Imaginary _Noreturn",
-            "1:1 Imaginary, 1:12 Noreturn, 1:21 end",
+            "1:1 Reserved, 1:12 Reserved, 1:21 end",
         ),
         (
             "_Static_assert _Thread_local",
-            "1:1 StaticAssert, 1:16 ThreadLocal, 1:29 end",
+            "1:1 Reserved, 1:16 Reserved, 1:29 end",
         ),
         (
             "NULL EOF main getchar putchar",
@@ -352,7 +352,7 @@ fn finds_each_punctuator(rt: HostRuntime) -> Result<(), Fail> {
         ),
         (
             "/ % << >> < > <= >=",
-            "1:1 Slash, 1:3 Percent, 1:5 LessLess, 1:8 GreaterGreater, 1:11 Less, 1:13 Greater, 1:15 LessEqual, 1:18 GreaterEqual, 1:20 end",
+            "1:1 Slash, 1:3 Percent, 1:5 ShiftLeft, 1:8 ShiftRight, 1:11 Less, 1:13 Greater, 1:15 LessEqual, 1:18 GreaterEqual, 1:20 end",
         ),
         (
             "== != ^ | && || =",
@@ -364,7 +364,7 @@ fn finds_each_punctuator(rt: HostRuntime) -> Result<(), Fail> {
         ),
         (
             "<<= >>= &= ^= |=",
-            "1:1 LessLessEqual, 1:5 GreaterGreaterEqual, 1:9 AmpersandEqual, 1:12 CaretEqual, 1:15 BarEqual, 1:17 end",
+            "1:1 ShiftLeftEqual, 1:5 ShiftRightEqual, 1:9 AmpersandEqual, 1:12 CaretEqual, 1:15 BarEqual, 1:17 end",
         ),
     ];
     are_listed(&rt, rt.alloc(), &rows)?;
@@ -377,8 +377,8 @@ fn takes_the_longest_piece(rt: HostRuntime) -> Result<(), Fail> {
         ("a<=b", "1:1 a, 1:2 LessEqual, 1:4 b, 1:5 end"),
         ("a< =b", "1:1 a, 1:2 Less, 1:4 Equal, 1:5 b, 1:6 end"),
         ("===", "1:1 EqualEqual, 1:3 Equal, 1:4 end"),
-        ("<<<=", "1:1 LessLess, 1:3 LessEqual, 1:5 end"),
-        (">>>=", "1:1 GreaterGreater, 1:3 GreaterEqual, 1:5 end"),
+        ("<<<=", "1:1 ShiftLeft, 1:3 LessEqual, 1:5 end"),
+        (">>>=", "1:1 ShiftRight, 1:3 GreaterEqual, 1:5 end"),
         (
             "a+++++b",
             "1:1 a, 1:2 PlusPlus, 1:4 PlusPlus, 1:6 Plus, 1:7 b, 1:8 end",

@@ -10,7 +10,6 @@ use Rattle.c_grammar.specs.Forms
 use Rattle.c_grammar.specs.Kinds.{is}
 use Rattle.c_grammar.specs.Chooses.{take, begins_direct}
 use Rattle.c_grammar.specs.Language.{choose_at}
-use Rattle.c_token.specs.declared.token.Symbol.TheVariants as S
 use Rattle.c_token.specs.declared.token.Lexeme.TheVariants as L
 use Rattle.c_token.specs.Leaves.{Leaf, kind_of, leaves_of, sample}
 use Rattle.c_syntax.specs.declared.expr.Expr.{Expr}
@@ -81,7 +80,7 @@ ExtendsOperand form left room result = Extends form (operand_tree left) left.hei
 
 -- the expression of a `sizeof` at a place with this operand
 abbrev pub sizeof_of : Pos → Parse → Trees.ExprTree
-sizeof_of place operand = expr_of (Node Forms.SizeofRow (Then (Alone (record { lexeme = L.Symbol S.SizeOf; place = place })) (Then operand Nothing)))
+sizeof_of place operand = expr_of (Node Forms.SizeofRow (Then (Alone (record { lexeme = L.Fixed K.Sizeof; place = place })) (Then operand Nothing)))
 
 -- ---- declarators
 

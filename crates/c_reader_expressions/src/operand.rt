@@ -10,7 +10,7 @@ ghost use Rattle.c_reader_expressions.specs.Steps.{GivesOperand, Chooses, first_
 use c_grammar::Kind;
 use c_reader_tokens::{SyntaxErr, copy, first_kind, pass, room_below, token_bytes};
 use c_syntax::{Expr, Name};
-use c_token::{ByteString, Lexeme, Symbol, Token};
+use c_token::{ByteString, Lexeme, Token};
 use std::alloc::{AllocError, Global};
 use text_place::Pos;
 
@@ -61,7 +61,7 @@ fn single_token(alloc: Global, token: &Token) -> Result<Expr, AllocError>
             })
         }
         Lexeme::Character(byte) => Ok(Expr::Character { byte: *byte, place }),
-        Lexeme::Symbol(Symbol::EndOfFile) => Ok(Expr::EndOfFile { place }),
+        Lexeme::Fixed(Kind::EndOfFile) => Ok(Expr::EndOfFile { place }),
         _ => Ok(Expr::Null { place }),
     }
 }

@@ -1,11 +1,11 @@
 -- The literals of an expression stand in its tree of the grammar's rows.
 use Rattle.std.proofs.Common.{◌≡◌, [], ◌++◌, refl, sym, subst}
 use Rattle.grammar_table.specs.Table.{Alone, Nothing, Then, Node}
+use Rattle.c_grammar.specs.declared.kind.Kind.TheVariants as K
 use Rattle.c_grammar.specs.Forms
 use Rattle.c_token.specs.Leaves.{Leaf}
 use Rattle.c_token.specs.declared.token.Lexeme.{Lexeme}
 use Rattle.c_token.specs.declared.token.Lexeme.TheVariants as L
-use Rattle.c_token.specs.declared.token.Symbol.TheVariants as S
 use Rattle.c_rules.specs.Elaborated.{literals_in, literals_in_arguments, literals_in_type, literals_in_optional, literals_in_declarator, literals_in_direct, literals_in_suffixes, literals_in_length, literals_in_parameters}
 use Rattle.c_reader_tokens.specs.Grammar.{Parse}
 use Rattle.c_reader_tokens.specs.Shapes.{single_of, expr_of, arguments_of, type_of, optional_of, declarator_of, direct_of, suffixes_of, length_of, parameters_of}
@@ -16,7 +16,7 @@ single_none : (leaf : Leaf) (lexeme : Lexeme) → literals_in (single_of leaf le
 single_none leaf (L.Name bytes) = refl
 single_none leaf (L.Integer value int_type) = refl
 single_none leaf (L.Character byte) = refl
-single_none leaf (L.Symbol S.EndOfFile) = refl
+single_none leaf (L.Fixed K.EndOfFile) = refl
 single_none leaf _ = refl
 
 mutual

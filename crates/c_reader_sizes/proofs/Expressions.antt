@@ -1,11 +1,11 @@
 -- An expression has at most as many nodes as its tree has leaves.
 use Rattle.std.proofs.Common.{◌≤◌, arith}
 use Rattle.grammar_table.specs.Table.{Alone, Nothing, Then, Node}
+use Rattle.c_grammar.specs.declared.kind.Kind.TheVariants as K
 use Rattle.c_grammar.specs.Forms
 use Rattle.c_token.specs.Leaves.{Leaf}
 use Rattle.c_token.specs.declared.token.Lexeme.{Lexeme}
 use Rattle.c_token.specs.declared.token.Lexeme.TheVariants as L
-use Rattle.c_token.specs.declared.token.Symbol.TheVariants as S
 use Rattle.c_sizes.specs.SyntaxNodes.{expr_nodes, arguments_nodes}
 use Rattle.c_reader_tokens.specs.Grammar.{Parse}
 use Rattle.c_reader_tokens.specs.Shapes.{single_of, expr_of, arguments_of}
@@ -16,7 +16,7 @@ single_one : (leaf : Leaf) (lexeme : Lexeme) → expr_nodes (single_of leaf lexe
 single_one leaf (L.Name bytes) = omega arith
 single_one leaf (L.Integer value int_type) = omega arith
 single_one leaf (L.Character byte) = omega arith
-single_one leaf (L.Symbol S.EndOfFile) = omega arith
+single_one leaf (L.Fixed K.EndOfFile) = omega arith
 single_one leaf _ = omega arith
 
 mutual

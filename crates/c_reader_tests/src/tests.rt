@@ -1,39 +1,40 @@
 // Texts of which each character stands for a token.
 
+use c_grammar::Kind;
 use c_num::IntType;
 use c_reader::{SyntaxErr, read};
-use c_token::{ByteString, Lexeme, Symbol, Token};
+use c_token::{ByteString, Lexeme, Token};
 use std::alloc::{AllocError, Global};
 use std::test::Fail;
 use text_place::Pos;
 
-fn word(c: u8) -> Symbol {
+fn word(c: u8) -> Kind {
     match c {
-        b'i' => Symbol::Int,
-        b'v' => Symbol::Void,
-        b'r' => Symbol::Return,
-        b's' => Symbol::Struct,
-        b'c' => Symbol::Const,
-        b'f' => Symbol::If,
-        b'e' => Symbol::Else,
-        b'w' => Symbol::While,
-        b'd' => Symbol::Do,
-        b'o' => Symbol::For,
-        b'h' => Symbol::Switch,
-        b'k' => Symbol::Case,
-        b'u' => Symbol::Default,
-        b'b' => Symbol::Break,
-        b't' => Symbol::Static,
-        b'(' => Symbol::OpenParenthesis,
-        b')' => Symbol::CloseParenthesis,
-        b'{' => Symbol::OpenBrace,
-        b'}' => Symbol::CloseBrace,
-        b';' => Symbol::Semicolon,
-        b',' => Symbol::Comma,
-        b':' => Symbol::Colon,
-        b'*' => Symbol::Star,
-        b'+' => Symbol::Plus,
-        _ => Symbol::Equal,
+        b'i' => Kind::Int,
+        b'v' => Kind::Void,
+        b'r' => Kind::Return,
+        b's' => Kind::Struct,
+        b'c' => Kind::Const,
+        b'f' => Kind::If,
+        b'e' => Kind::Else,
+        b'w' => Kind::While,
+        b'd' => Kind::Do,
+        b'o' => Kind::For,
+        b'h' => Kind::Switch,
+        b'k' => Kind::Case,
+        b'u' => Kind::Default,
+        b'b' => Kind::Break,
+        b't' => Kind::Static,
+        b'(' => Kind::OpenParenthesis,
+        b')' => Kind::CloseParenthesis,
+        b'{' => Kind::OpenBrace,
+        b'}' => Kind::CloseBrace,
+        b';' => Kind::Semicolon,
+        b',' => Kind::Comma,
+        b':' => Kind::Colon,
+        b'*' => Kind::Star,
+        b'+' => Kind::Plus,
+        _ => Kind::Equal,
     }
 }
 
@@ -50,7 +51,7 @@ fn lexeme(alloc: Global, c: u8) -> Result<Lexeme, AllocError> {
     if c == b'$' {
         return Ok(Lexeme::EndOfText);
     }
-    Ok(Lexeme::Symbol(word(c)))
+    Ok(Lexeme::Fixed(word(c)))
 }
 
 /// The items of the program, or the column of the token that is refused, and 1000 more where nesting is too deep.

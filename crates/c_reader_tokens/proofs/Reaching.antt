@@ -1,14 +1,13 @@
 -- What a reader comes to by a row, step by step.
-use Rattle.std.proofs.Common.{◌≡◌, ℕ, ◌+◌, ◌<◌, ◌≤◌, Bool, true, false, List, [], ◌∷◌, ◌++◌, map, Option, Some, None, sym, refl, ◌∙◌, ap, subst, arith, Result, Ok, Err}
-use Rattle.std.specs.Result.{IsErrAnd}
+use Rattle.std.proofs.Common.{◌≡◌, ℕ, ◌+◌, ◌<◌, ◌≤◌, Bool, true, false, List, [], ◌∷◌, ◌++◌, map, Option, Some, None, sym, refl, ◌∙◌, ap, subst, Result, Ok, Err}
 use Rattle.text_place.specs.declared.place.Pos.{Pos}
-use Rattle.grammar_table.specs.Table.{Symbol, Terminal, Nonterminal, Choice, Never, Take, Stuck, Tree, Alone, Nothing, Then, Node}
-use Rattle.grammar_table.specs.Runs.{Job, Parts, Whole, More, Fault, Bad, Deep, Memory, Outcome, Done, Failed, fits_first, Run, at_end, unfit, token_done, token_failed, part_done, part_failed, then_failed, never, first_deep, row_failed, row_done, no_more}
+use Rattle.grammar_table.specs.Table.{Symbol, Terminal, Nonterminal, Choice, Never, Alone, Nothing, Then, Node}
+use Rattle.grammar_table.specs.Runs.{Job, Parts, Whole, More, Fault, Bad, Deep, Done, Failed, fits_first, Run, at_end, unfit, token_done, token_failed, part_done, part_failed, then_failed, never, first_deep, row_failed, row_done, no_more}
 use Rattle.c_grammar.specs.declared.kind.Kind.{Kind}
-use Rattle.c_grammar.specs.Forms.{Sort, Production, Expr, symbols_of, weight_of, row_need, level_of_form}
+use Rattle.c_grammar.specs.Forms.{Sort, Production, symbols_of, weight_of, row_need}
 use Rattle.c_grammar.specs.Kinds.{is}
 use Rattle.c_grammar.specs.Chooses.{take_if, choose_by, goes_on_by}
-use Rattle.c_grammar.specs.Language.{choose_at, language}
+use Rattle.c_grammar.specs.Language.{choose_at}
 use Rattle.c_grammar.proofs.LanguageTells.{choose_cons, second_of, is_self}
 use Rattle.c_token.specs.Leaves.{Leaf, kind_of, sample, leaves_of}
 use Rattle.c_reader_tokens.specs.declared.syntax_err.SyntaxErr.{SyntaxErr}

@@ -1,8 +1,8 @@
 -- Rows of the grammar, read symbol after symbol.
-use Rattle.std.proofs.Common.{◌≡◌, ℕ, ◌+◌, ◌<◌, ◌≤◌, Bool, true, false, List, [], ◌∷◌, Option, None, refl, sym, ◌∙◌, ap, subst, arith}
+use Rattle.std.proofs.Common.{◌≡◌, ℕ, ◌+◌, ◌<◌, ◌≤◌, true, false, List, [], ◌∷◌, None, refl, sym, ◌∙◌, ap, subst, arith}
 use Rattle.text_place.specs.declared.place.Pos.{Pos}
-use Rattle.grammar_table.specs.Table.{Symbol, Terminal, Nonterminal, Alone, Nothing, Then, Node, Choice, Never, Take, Stuck, height, leaves}
-use Rattle.grammar_table.specs.Runs.{Job, Parts, Whole, More, Fault, Bad, Deep, Memory, Outcome, Done, Failed, fits_first, next_row, Run, no_memory, at_end, unfit, token_done, token_failed, part_done, part_failed, then_failed, never, stuck, stuck_deep, first_deep, second_deep, row_failed, row_done, no_more}
+use Rattle.grammar_table.specs.Table.{Symbol, Terminal, Nonterminal, Alone, Nothing, Then, Node, Choice, Never, Take, height}
+use Rattle.grammar_table.specs.Runs.{Job, Parts, Whole, More, Fault, Bad, Deep, Outcome, Done, Failed, fits_first, next_row, Run, at_end, unfit, token_done, token_failed, part_done, part_failed, then_failed, never, first_deep, row_failed, row_done, no_more}
 use Rattle.grammar_table.proofs.Sound.{sound}
 use Rattle.c_grammar.specs.declared.kind.Kind.{Kind}
 use Rattle.c_grammar.specs.declared.kind.Kind.TheVariants.{Name}
@@ -17,7 +17,7 @@ use Rattle.c_reader_tokens.specs.declared.syntax_err.SyntaxErr.{SyntaxErr}
 use Rattle.c_reader_tokens.specs.declared.syntax_err.SyntaxErr.TheVariants.{At, TooDeep, OutOfMemory}
 use Rattle.c_reader_tokens.specs.Grammar.{grammar, Parse}
 use Rattle.c_reader_tokens.specs.Shapes.{place_of}
-use Rattle.c_reader_tokens.specs.Readings.{FailsAt, Fails, IsRead, Begins, Passes}
+use Rattle.c_reader_tokens.specs.Readings.{Fails, Begins, Passes}
 use Rattle.c_reader_tokens.specs.Steps.{second_kind_of, IsUnfit, Onto}
 
 -- ---- faults

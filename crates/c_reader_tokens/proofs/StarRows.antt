@@ -1,23 +1,22 @@
 -- The stars of a declarator, read one after another.
-use Rattle.std.proofs.Common.{◌≡◌, ℕ, suc, ◌+◌, ◌≤◌, List, [], ◌∷◌, refl, sym, ◌∙◌, ap, subst, arith}
+use Rattle.std.proofs.Common.{◌≡◌, ℕ, ◌+◌, List, [], refl, ◌∙◌, ap, arith}
 use Rattle.text_place.specs.declared.place.Pos.{Pos}
-use Rattle.grammar_table.specs.Table.{Terminal, Nonterminal, Alone, Nothing, Then, Node, Choice, Never, Take, height}
-use Rattle.grammar_table.specs.Runs.{Parts, Whole, Run, row_done, no_more, at_end}
+use Rattle.grammar_table.specs.Table.{Alone, Nothing, Then, Node, Take, height}
+use Rattle.grammar_table.specs.Runs.{Whole}
 use Rattle.c_grammar.specs.declared.kind.Kind.{Kind}
 use Rattle.c_grammar.specs.declared.kind.Kind.TheVariants as K
 use Rattle.c_grammar.specs.Kinds.{is}
 use Rattle.c_grammar.specs.Forms
-use Rattle.c_grammar.specs.Chooses.{take, take_if, choose_by}
-use Rattle.c_grammar.specs.Language.{choose_at}
-use Rattle.c_token.specs.Leaves.{Leaf, kind_of, sample}
+use Rattle.c_grammar.specs.Chooses.{take, take_if}
+use Rattle.c_token.specs.Leaves.{Leaf}
 use Rattle.c_reader_tokens.specs.declared.syntax_err.SyntaxErr.{SyntaxErr}
 use Rattle.c_reader_tokens.specs.declared.syntax_err.SyntaxErr.TheVariants.{At}
 use Rattle.c_reader_tokens.specs.Grammar.{grammar, Parse}
 use Rattle.c_reader_tokens.specs.Shapes.{place_of, stars_of, stars_after}
 use Rattle.c_reader_tokens.specs.Readings.{Fails, IsRead, Begins, Passes}
-use Rattle.c_reader_tokens.specs.Steps.{second_kind_of, Onto}
+use Rattle.c_reader_tokens.specs.Steps.{Onto}
 use Rattle.c_reader_tokens.proofs.KindTests.{is_other}
-use Rattle.c_reader_tokens.proofs.Rows.{Within, Chosen, chosen, no_tokens, no_row, lift, onto_lifts, begin, behind_token, behind_part, tail, nothing_yet, finished, part_fault}
+use Rattle.c_reader_tokens.proofs.Rows.{Chosen, chosen, no_tokens, no_row, lift, onto_lifts, begin, behind_token, behind_part, tail, nothing_yet, finished, part_fault}
 
 -- so many stars were read of what stands behind a star
 pub record StarsSoFar (room : ℕ) (text rest : List Leaf) (count : ℕ) : Type 0 where

@@ -1,28 +1,26 @@
 -- The words of a type, read one after another.
-use Rattle.std.proofs.Common.{◌≡◌, ℕ, ◌+◌, ◌<◌, ◌≤◌, Bool, true, false, ◌&&◌, ◌⊎◌, inl, inr, List, [], ◌∷◌, Option, Some, None, refl, sym, ◌∙◌, ap, subst, arith}
+use Rattle.std.proofs.Common.{◌≡◌, ℕ, ◌<◌, Bool, true, false, ◌&&◌, ◌⊎◌, inl, inr, List, [], ◌∷◌, Some, None, refl, sym, ◌∙◌, ap, subst, arith}
 use Rattle.text_place.specs.declared.place.Pos.{Pos}
-use Rattle.grammar_table.specs.Table.{Terminal, Nonterminal, Alone, Nothing, Then, Node, Choice, Never, Take, height, leaves}
-use Rattle.grammar_table.specs.Runs.{Parts, Whole, Run, Done, fits_first}
+use Rattle.grammar_table.specs.Table.{Terminal, Nonterminal, Alone, Nothing, Then, Node, Never, Take, height, leaves}
+use Rattle.grammar_table.specs.Runs.{Whole, fits_first}
 use Rattle.c_grammar.specs.declared.kind.Kind.{Kind}
 use Rattle.c_grammar.specs.declared.kind.Kind.TheVariants as K
 use Rattle.c_grammar.specs.Kinds.{is}
-use Rattle.c_grammar.specs.declared.words.Sign.TheVariants.{NoSign, IsSigned, IsUnsigned}
-use Rattle.c_grammar.specs.declared.words.Size.TheVariants.{NoSize, CharSize, ShortSize, LongSize}
 use Rattle.c_grammar.specs.declared.words.Words.{Words}
 use Rattle.c_grammar.specs.declared.words.Words.TheVariants.{NoWord, FullType, Integers}
 use Rattle.c_grammar.specs.Forms
-use Rattle.c_grammar.specs.Chooses.{take, take_if, is_start, by_word, choose_by}
-use Rattle.c_grammar.proofs.LanguageTells.{is_same, is_swap}
-use Rattle.c_token.specs.Leaves.{Leaf, kind_of, sample}
+use Rattle.c_grammar.specs.Chooses.{take_if, is_start, by_word}
+use Rattle.c_grammar.proofs.LanguageTells.{is_swap}
+use Rattle.c_token.specs.Leaves.{Leaf, kind_of}
 use Rattle.c_syntax.specs.Trees
 use Rattle.c_reader_tokens.specs.declared.syntax_err.SyntaxErr.{SyntaxErr}
-use Rattle.c_reader_tokens.specs.declared.syntax_err.SyntaxErr.TheVariants.{At, TooDeep, OutOfMemory}
+use Rattle.c_reader_tokens.specs.declared.syntax_err.SyntaxErr.TheVariants.{At}
 use Rattle.c_reader_tokens.specs.Grammar.{grammar, Parse}
-use Rattle.c_reader_tokens.specs.Shapes.{place_of, name_of, simple_of, words_of, base_from, type_of_words}
+use Rattle.c_reader_tokens.specs.Shapes.{place_of, simple_of, words_of, type_of_words}
 use Rattle.c_reader_tokens.specs.Readings.{Fails, IsRead, Begins, Passes}
-use Rattle.c_reader_tokens.specs.Steps.{second_kind_of, IsUnfit, Onto, PassesName, PassesWord, PassesWords, EndsWords}
+use Rattle.c_reader_tokens.specs.Steps.{IsUnfit, PassesName, PassesWord, PassesWords, EndsWords}
 use Rattle.c_reader_tokens.proofs.KindTests.{is_other, by_test}
-use Rattle.c_reader_tokens.proofs.Rows.{Within, Chosen, chosen, no_tokens, no_row, lift, onto_lifts, part_lifts, begin, behind_token, behind_part, tail, nothing_yet, finished, misfit, bad, unfit_fault}
+use Rattle.c_reader_tokens.proofs.Rows.{Within, Chosen, chosen, no_tokens, no_row, lift, onto_lifts, part_lifts, begin, behind_token, behind_part, tail, nothing_yet, finished, unfit_fault}
 
 pub no_words : (own : Bool) (room : ℕ) (text : List Leaf) (words : Words) → PassesWords own room text words text words
 no_words own room text words = record {

@@ -1,21 +1,20 @@
 -- The syntax tree that a tree of the grammar's rows stands for: what is told by places in the row, and the punctuation,
 -- are left out.
-use Rattle.std.specs.Prelude.{ℕ, suc, List, [], ◌∷◌, ◌++◌, Option, Some, None, Bool, true, false}
+use Rattle.std.specs.Prelude.{ℕ, suc, List, [], ◌∷◌, ◌++◌, Option, Some, None}
 use Rattle.text_place.specs.declared.place.Pos.{Pos}
 use Rattle.text_place.specs.Places.{first_place}
 use Rattle.c_num.specs.declared.IntType.{IntType}
 use Rattle.c_num.specs.declared.IntType.TheVariants as T
-use Rattle.grammar_table.specs.Table.{Tree, Alone, Nothing, Then, Node, leaves}
+use Rattle.grammar_table.specs.Table.{Alone, Nothing, Then, Node, leaves}
 use Rattle.c_grammar.specs.declared.kind.Kind.{Kind}
 use Rattle.c_grammar.specs.declared.kind.Kind.TheVariants as K
 use Rattle.c_grammar.specs.declared.words.Sign.{Sign}
-use Rattle.c_grammar.specs.declared.words.Sign.TheVariants.{NoSign, IsSigned, IsUnsigned}
+use Rattle.c_grammar.specs.declared.words.Sign.TheVariants.{IsUnsigned}
 use Rattle.c_grammar.specs.declared.words.Size.{Size}
 use Rattle.c_grammar.specs.declared.words.Size.TheVariants.{NoSize, CharSize, ShortSize, LongSize}
 use Rattle.c_grammar.specs.declared.words.Words.{Words}
-use Rattle.c_grammar.specs.declared.words.Words.TheVariants.{NoWord, FullType, Integers}
+use Rattle.c_grammar.specs.declared.words.Words.TheVariants.{Integers}
 use Rattle.c_grammar.specs.Forms
-use Rattle.c_token.specs.declared.token.Symbol.TheVariants as S
 use Rattle.c_token.specs.declared.token.Lexeme.{Lexeme}
 use Rattle.c_token.specs.declared.token.Lexeme.TheVariants as L
 use Rattle.c_token.specs.Leaves.{Leaf}
@@ -47,7 +46,7 @@ abbrev pub single_of : Leaf → Lexeme → Trees.ExprTree
 single_of leaf (L.Name bytes) = Trees.Named (name_of leaf)
 single_of leaf (L.Integer value int_type) = Trees.Integer value int_type leaf.place
 single_of leaf (L.Character byte) = Trees.Character byte leaf.place
-single_of leaf (L.Symbol S.EndOfFile) = Trees.EndOfFile leaf.place
+single_of leaf (L.Fixed K.EndOfFile) = Trees.EndOfFile leaf.place
 single_of leaf _ = Trees.Null leaf.place
 
 abbrev pub prefix_of : Kind → PrefixOperator

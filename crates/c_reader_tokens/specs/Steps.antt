@@ -8,7 +8,6 @@ use Rattle.c_grammar.specs.declared.kind.Kind.TheVariants as K
 use Rattle.c_grammar.specs.declared.words.Words.{Words}
 use Rattle.c_grammar.specs.Forms
 use Rattle.c_grammar.specs.declared.words.Words.TheVariants.{NoWord, FullType}
-use Rattle.c_grammar.specs.Kinds.{is}
 use Rattle.c_grammar.specs.Language.{choose_at}
 use Rattle.c_token.specs.Leaves.{Leaf, kind_of, leaves_of, sample}
 use Rattle.c_syntax.specs.Trees
@@ -18,7 +17,6 @@ use Rattle.c_reader_tokens.specs.declared.syntax_err.SyntaxErr.TheVariants.{At, 
 use Rattle.c_reader_tokens.specs.declared.name.PassedName.{PassedName}
 use Rattle.c_reader_tokens.specs.declared.second.DirectRow.{DirectRow}
 use Rattle.c_reader_tokens.specs.declared.second.DirectRow.TheVariants as D
-use Rattle.c_reader_tokens.specs.declared.token.Read.{Read}
 use Rattle.c_reader_tokens.specs.declared.stars.Stars.{Stars}
 use Rattle.c_reader_tokens.specs.Grammar.{grammar, Parse}
 use Rattle.c_reader_tokens.specs.Shapes.{place_of, bytes_of, name_of, simple_of, words_of, base_from}

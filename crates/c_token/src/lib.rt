@@ -4,4 +4,4 @@
 mod token;
 
 pub use byte_string::ByteString;
-pub use token::{Lexeme, Symbol, Token};
+pub use token::{Lexeme, Token};

@@ -1,4 +1,4 @@
-use Rattle.std.proofs.Common.{Err, sym, ◌∙◌, ap, refl, rules}
+use Rattle.std.proofs.Common.{sym, ◌∙◌, ap}
 use Rattle.std.specs.Result.{IfErr}
 use Rattle.grammar_table.specs.Runs.{Whole}
 use Rattle.c_grammar.specs.Forms as forms

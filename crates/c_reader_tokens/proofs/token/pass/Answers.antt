@@ -1,7 +1,6 @@
-use Rattle.std.proofs.Common.{◌≡◌, true, false, refl, sym, ◌∙◌, ap, rules}
+use Rattle.std.proofs.Common.{refl, sym, ◌∙◌, ap, rules}
 use denote.Enum.Bare.{same_true, same_false}
 use Rattle.c_grammar.specs.contracts.kind.Kind.{the_type}
-use Rattle.c_grammar.specs.Kinds.{is}
 use Rattle.c_token.specs.Leaves.{leaf_of, leaves_of, kind_of}
 use Rattle.grammar_table.specs.Runs.{fits_first}
 use Rattle.c_reader_tokens.specs.Grammar.{grammar}
