@@ -11,11 +11,10 @@ ghost use Rattle.machine.specs.Promises.{entry_of, frame_number, with_frame_word
 
 use crate::ends::{RunEnd, Step};
 use crate::heap::Heap;
-use crate::outside::next_word;
-use crate::words::number_in;
+use crate::words::{input_word, number_in};
 use byteorder::{ByteOrder, LittleEndian};
 use image_form::PoolKind;
-use pcc_outside::Source;
+use pcc_outside::{Source, read_byte};
 use pool_isa::Site;
 use pool_runtime::OutOfMemory;
 use std::alloc::{AllocError, Global};
@@ -153,9 +152,9 @@ impl Activation {
         if self.operands.reserve(1).is_err() {
             return Step::Over(RunEnd::OutOfMemory);
         }
-        match next_word(input) {
-            Ok(word) => {
-                self.operands.push(word).unwrap();
+        match read_byte(input) {
+            Ok(byte) => {
+                self.operands.push(input_word(byte)).unwrap();
                 self.place += 1;
                 Step::On
             }

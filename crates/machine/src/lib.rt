@@ -11,7 +11,6 @@ mod heap;
 mod loaded;
 mod memory;
 mod operands;
-mod outside;
 mod pools;
 mod report;
 mod tally;

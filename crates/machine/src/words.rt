@@ -1,9 +1,11 @@
 // Words of memory: the sizes of types, and the words of values.
 
-ghost use Rattle.std.specs.Prelude.{◌≡◌, ◌^◌, ◌<◌, ◌≤◌, pos, length};
+ghost use Rattle.std.specs.Prelude.{◌≡◌, ℕ, ◌^◌, ◌<◌, ◌≤◌, pos, List, length, Option};
 ghost use Rattle.byteorder.specs.Endian.{little_number};
 ghost use Rattle.c_num.specs.Conversion.{word_of};
+ghost use Rattle.pcc_outside.specs.Outside.{TakesByte};
 ghost use Rattle.pool_isa.specs.Machine.{size_of, bytes_in};
+ghost use Rattle.machine.specs.Promises.{TakesWord};
 
 use byteorder::{ByteOrder, LittleEndian};
 use c_num::IntType;
@@ -49,6 +51,13 @@ pub(crate) fn number_in(bytes: &[u8]) -> u64
     } else {
         LittleEndian::read_uint(bytes, size)
     }
+}
+
+/// The word that `getchar` gives: that of the byte that was read, or of -1 at the end of the input.
+pub(crate) fn input_word(byte: Option<u8>) -> u64
+    ensures { (before after : Option (List ℕ)) → TakesByte before byte after → TakesWord result before after }
+{
+    byte.map_or(u64::MAX, u64::from)
 }
 
 /// The word of a number that is converted to a type: of the value whose bits are the number's lowest ones.

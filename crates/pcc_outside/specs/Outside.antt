@@ -1,5 +1,5 @@
 -- What a call on the outside gives and takes. A source or sink that tells nothing has None for its bytes.
-use Rattle.std.specs.Prelude.{◌≡◌, ℕ, ◌+◌, ◌-◌, ◌^◌, ◌<◌, max, ◌⊎◌, List, [], ◌++◌, drop, length, Option, Some, None, ⊤}
+use Rattle.std.specs.Prelude.{◌≡◌, ℕ, ◌+◌, ◌-◌, ◌^◌, ◌<◌, max, ◌⊎◌, List, [], ◌∷◌, ◌++◌, drop, length, Option, Some, None, ⊤}
 
 -- A count of faults rose, or stands at the last value of its 64 bits.
 abbrev pub Rose : ℕ → ℕ → Type 0
@@ -9,6 +9,12 @@ Rose old new = (old < new) ⊎ (new ≡ 2 ^ 64 - 1)
 abbrev pub Takes : Option (List ℕ) → List ℕ → Option (List ℕ) → Type 0
 Takes None got new = new ≡ None
 Takes (Some left) got new = (rest : List ℕ) × (left ≡ got ++ rest) × (new ≡ Some rest) × (got ≡ [] → left ≡ [])
+
+-- The first byte was taken from what was left; none only where nothing was left.
+abbrev pub TakesByte : Option (List ℕ) → Option ℕ → Option (List ℕ) → Type 0
+TakesByte None byte new = new ≡ None
+TakesByte (Some left) (Some byte) new = (rest : List ℕ) × (left ≡ byte ∷ rest) × (new ≡ Some rest)
+TakesByte (Some left) None new = (left ≡ []) × (new ≡ Some [])
 
 -- These bytes were added to what is written.
 abbrev pub Adds : Option (List ℕ) → List ℕ → Option (List ℕ) → Type 0

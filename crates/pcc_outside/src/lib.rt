@@ -4,11 +4,13 @@
 ghost use Rattle.std.specs.Prelude.{◌≡◌, ℕ, ◌<◌, ◌≤◌, ◌^◌, List, Option, length, take, IfOk, OnOk, OnErr};
 ghost use Rattle.pcc_outside.specs.Outside.{Rose, Takes, Adds, Told, Gives, Reaches};
 
+pub mod bytes;
 mod counts;
 pub mod host;
 pub mod memory;
 pub mod whole;
 
+pub use bytes::{read_byte, write_byte};
 pub use host::{HostFiles, StdSink, StdSource};
 pub use memory::{MemFiles, MemSink, MemSource, NullSink};
 pub use whole::{ReadErr, read_all, write_all};

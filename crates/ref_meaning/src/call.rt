@@ -1,7 +1,7 @@
 // Calls (C17 6.5.2.2, 6.9.1).
 
-ghost use Rattle.std.specs.Prelude.{◌≡◌, ◌≢◌, ◌≤◌, ℕ, suc, List, [], ◌∷◌, length, drop, slice_get, Option, None, option_map, Err, IsOk, IfOk, IfSome, OnOk};
-ghost use Rattle.pcc_outside.specs.Outside.{Rose};
+ghost use Rattle.std.specs.Prelude.{◌≡◌, ◌≢◌, ◌≤◌, ℕ, suc, List, [], ◌∷◌, length, drop, slice_get, Option, Some, None, option_map, Err, IsOk, IfOk, IfSome, OnOk};
+ghost use Rattle.pcc_outside.specs.Outside.{Rose, TakesByte};
 ghost use Rattle.c_typed.specs.declared.typed.LibraryFunction.TheVariants as Functions;
 ghost use Rattle.c_typed.specs.Types.{same_type};
 ghost use Rattle.c_typed.specs.Table.{Interned, Stands, type_in};
@@ -24,15 +24,14 @@ ghost use Rattle.ref_meaning.specs.declared.run.Halt.TheVariants as Halts;
 ghost use Rattle.ref_meaning.specs.Views.{table_of, part_in, completion_in, waiting, arguments_of, arguments_from, newest, operands_of, operands_after, stack_of, around_run, functions_of, function_of, config_in};
 ghost use Rattle.ref_meaning.specs.Holding.{IsConsistent, NodeStands, CompletionStands, IsCall, IsBody};
 ghost use Rattle.ref_meaning.specs.Doing.{TakesNone, IsOwnCall, IsInnermost, innermost, taking, acting};
-ghost use Rattle.ref_meaning.specs.Moving.{Moves, Acts, IsKept, Becomes};
+ghost use Rattle.ref_meaning.specs.Moving.{Moves, Acts, IsKept, Becomes, IsNext};
 ghost use Rattle.ref_meaning.specs.Calling.{is_own_call, IsArgument, OptionalNode, arguments_in, GoesOn, Evaluates, IsStored, Remains, only_of};
 
 use crate::control::{Completion, Control, Final, Frame, Given, Node, Stage, Task};
-use crate::outside::{next_byte, write_byte};
 use crate::run::{GREATEST_DEPTH, Halt, RefRun};
 use c_num::IntType;
 use c_typed::{CType, FunctionDef, LibraryFunction, Shape, Value};
-use pcc_outside::{Sink, Source};
+use pcc_outside::{Sink, Source, read_byte, write_byte};
 use ref_store::Scalar;
 use run_theory::UbKind;
 use text_place::Pos;
@@ -507,14 +506,21 @@ impl<'a> RefRun<'a> {
                 if count > 0 {
                     return Ok(Scalar::Null);
                 }
-                match next_byte(input) {
-                    Ok(value) => Ok(Scalar::Integer(value)),
+                match read_byte(input) {
+                    Ok(byte) => Ok(Scalar::Integer(input_value(byte))),
                     Err(_) => Err(Halt::ReadFault),
                 }
             }
             _ => Ok(Scalar::Null),
         }
     }
+}
+
+/// What `getchar` gives: the byte that was read, or -1 at the end of the input (C17 7.21.7.6).
+fn input_value(byte: Option<u8>) -> i128
+    ensures { (before after : Option (List ℕ)) → TakesByte before byte after → (told : List ℕ) → before ≡ Some told → IsNext told result after }
+{
+    byte.map_or(-1, i128::from)
 }
 
 /// The low byte of an integer.

@@ -7,7 +7,6 @@ mod entry;
 mod first;
 mod label;
 mod operand;
-mod outside;
 mod run;
 mod statement;
 

@@ -14,9 +14,9 @@ pub returns-in-Ok-clause-evaluates : goal.returns-in-Ok-clause-evaluates
 returns-in-Ok-clause-evaluates g c = λ place given told count none.
     let old = c.args.self.now in
     let is_left = g.I.Source.left c.args.input.now in
-    let is_left' = g.I.Source.left c.next_byte.new.input in
-    let fits : FitsSigned w128 c.in-Ok.value = search rules in
-    let value = to_z w128 (of_z w128 c.in-Ok.value) in
+    let is_left' = g.I.Source.left c.read_byte.new.input in
+    let fits : FitsSigned w128 c.input_value.result = search rules in
+    let value = to_z w128 (of_z w128 c.input_value.result) in
     subst (λ (function : LibraryFunction). Evaluates old old (library (around_run old) function place given) (Ok (M.Integer value)) is_left told is_left' told) (sym c.in-GetChar.is)
     (subst (λ (eval : Eval Scalar). Evaluates old old eval (Ok (M.Integer value)) is_left told is_left' told) (sym (none-next (around_run old) place given (omega (arith, count, c.if-count-gt0.false))))
-    (next-evaluates old c.in-Ok.value value is_left is_left' told (to_z-of_z fits) c.in-Ok.ensures.read))
+    (next-evaluates old c.input_value.result value is_left is_left' told (to_z-of_z fits) (c.input_value.ensures is_left is_left' c.in-Ok.ensures.read)))
