@@ -1,0 +1,40 @@
+-- What a program's meaning presumes of its typed tree holds of that of an accepted text.
+use Rattle.std.proofs.Common.{◌≡◌, ℕ, false, is_some, List, [], Option, Some, None, refl, sym, ap, subst, ◌∙◌}
+use Rattle.std.proofs.lemmas.Bool.{true≢false}
+use Rattle.text_place.specs.Places.{first_place}
+use Rattle.c_token.specs.Leaves.{Leaf}
+use Rattle.c_lexer.specs.Tokens.{Divides}
+use Rattle.c_syntax.specs.Trees.{ProgramTree}
+use Rattle.c_reader.specs.Readings.{IsProgram}
+use Rattle.c_reader_literals.proofs.Programs.{literals_apart}
+use Rattle.c_typed.specs.Typed.{Program}
+use Rattle.c_well_typed.specs.Programs.{IsWellTyped}
+use Rattle.c_well_typed.specs.Sizes.{HasSmallTypes}
+use Rattle.c_rules.specs.Programs.{violations}
+use Rattle.c_rules.specs.Elaborated.{typed_of}
+use Rattle.c_rules_typing.proofs.ProgramsFit.{elaboration_keeps_types}
+use Rattle.c_types_expressions.specs.Named.{NamedType}
+use Rattle.c_types.specs.NamedItems.{named_types}
+use Rattle.c_types_limits.specs.Limits.{exceeded}
+use Rattle.c_types_sizes.proofs.Program.{limits_give_small_types}
+
+none_from : {A : Type 0} (option : Option A) → is_some option ≡ false → option ≡ None
+none_from None e = refl
+none_from (Some a) e = absurd (true≢false e)
+
+-- The typed tree is well typed, and its types have exact sizes.
+pub record Premises (typed : Program) : Type 0 where
+  pub well_typed : IsWellTyped typed
+  pub small : HasSmallTypes typed
+
+-- So is that of a program that a text spells, which violates no rule and exceeds no limit.
+pub accepted_premises : (text : List ℕ) (leaves : List Leaf) (program : ProgramTree) (typed : Program) (named : List NamedType)
+    → Divides first_place text leaves → IsProgram leaves program
+    → violations program ≡ [] → typed ≡ typed_of program → named ≡ named_types program → is_some (exceeded typed named) ≡ false → Premises typed
+accepted_premises text leaves program typed named divides spelled none elaborated listed within =
+    let same = ap (λ types. exceeded typed types) listed ∙ ap (λ (tree : Program). exceeded tree (named_types program)) elaborated in
+    subst (λ (tree : Program). Premises tree) (sym elaborated)
+    (record {
+      well_typed = elaboration_keeps_types program (literals_apart text leaves program divides spelled) none;
+      small = limits_give_small_types program none (sym same ∙ none_from (exceeded typed named) within);
+    })
