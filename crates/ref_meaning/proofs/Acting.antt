@@ -24,7 +24,7 @@ use Rattle.ref_meaning.specs.declared.run.Halt.{Halt}
 use Rattle.ref_meaning.specs.declared.run.Halt.TheVariants as H
 use Rattle.ref_meaning.specs.declared.run.RefRun.{RefRun}
 use Rattle.ref_meaning.specs.Views.{config_in, around_run, functions_of, table_of, operands_of, stack_of, part_in, task_in, frames_in, operands_after, at_item}
-use Rattle.ref_meaning.specs.Holding.{IsConsistent, TaskFits, FramesHold, HasItems}
+use Rattle.ref_meaning.specs.Holding.{IsConsistent, TaskFits, TaskFinds, FramesHold, HasItems}
 use Rattle.ref_meaning.specs.Doing.{acting, performing, evaluating, IsExpression, TakesNone}
 use Rattle.ref_meaning.specs.Moving.{Becomes, IsSame, Arrives, Moves, Acts, IsTold}
 use Rattle.ref_meaning.proofs.Moves.{becomes-config, becomes-holds, becomes-arrives, same-stays}
@@ -103,7 +103,7 @@ body-begins old new function (Ok done) holds is_node is_task begins same only =
     }) in
     λ state at. subst (λ (eval : Eval Config). Arrives new eval state) (sym (acting-at old (N.Body function) K.Enter is_node is_task))
     (becomes-arrives old new _ _ config begins is
-    (becomes-holds old new _ _ begins holds holds.node tt
+    (becomes-holds old new _ _ begins holds ((λ awaits. absurd awaits), ((λ awaits. subst (λ n. TaskFinds table n K.Enter) is_node (subst (λ task. TaskFinds table old.control.node task) is_task (holds.found.0 awaits))), holds.found.1)) holds.node tt
     (holds.node, subst HasItems (sym is_node) tt, tt, tt, subst (λ task. FramesHold table old.base (operands_after task operands) (stack_of old)) is_task holds.frames)
     holds.calls)
     state at)

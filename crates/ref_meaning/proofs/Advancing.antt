@@ -40,11 +40,12 @@ use Rattle.ref_meaning.specs.declared.run.RefRun.{RefRun}
 use Rattle.ref_meaning.specs.declared.run.Halt.{Halt}
 use Rattle.ref_meaning.specs.declared.run.Halt.TheVariants as H
 use Rattle.ref_meaning.specs.Views.{config_in, around_run, functions_of, table_of, operands_of, stack_of, part_in, given_in, completion_in, task_in, items_from, case_items_from, case_items_of, at_item, behind_body, loop_of, locals_of}
-use Rattle.ref_meaning.specs.Holding.{IsConsistent, NodeStands, GivenStands, CompletionStands, Waits, Fits, HasItems, IsSwitch, IsLoop, IsTurning, StageStands, HasRoom, TaskFits, FramesHold}
+use Rattle.ref_meaning.specs.Holding.{IsConsistent, NodeStands, GivenStands, CompletionStands, Waits, Fits, HasItems, IsSwitch, IsLoop, IsTurning, StageStands, HasRoom, TaskFits, FramesHold, AwaitsAt}
 use Rattle.ref_meaning.specs.Doing.{TakesNone, IsInnermost, IsOfStatement, innermost, taking, beginning_turn, popped}
 use Rattle.ref_meaning.specs.Items.{IsBlock, block_of, start_of, ThisCaseItem, declaring, ending_turn}
 use Rattle.ref_meaning.specs.Moving.{Becomes, Moves, Stays, halt_of}
-use Rattle.ref_meaning.proofs.Moves.{Alters, IsPlain, behind-alters, stored-alters, becomes-alters, stops, innermost-hold, becomes-arrives, alters-config, alters-holds, arrives-behind, innermost-popped, plain-hold, plain-depth, stage-config, stage-holds, done-config, done-holds, ok-moves, becomes-then, alters-stays}
+use Rattle.ref_meaning.proofs.Moves.{Alters, IsPlain, behind-alters, stored-alters, becomes-alters, stops, innermost-hold, behind-found, becomes-arrives, alters-config, alters-holds, arrives-behind, innermost-popped, plain-hold, plain-depth, stage-config, stage-holds, done-config, done-holds, ok-moves, becomes-then, alters-stays}
+use Rattle.ref_meaning.proofs.Finding.{statement-unfound}
 use Rattle.ref_meaning.proofs.Placing.{set-newest}
 
 enters-fits : (table : Interned) (node : memory_node.Node) (operands : ℕ) → Waits node → TaskFits table node operands K.Enter
@@ -53,8 +54,17 @@ enters-fits table _ operands waits = tt
 
 -- ---- the innermost comes to another stage
 
+of-plain : (stage : memory_stage.Stage) → IsOfStatement stage → IsPlain stage
+of-plain (S.Argument function count) is = is
+of-plain (S.Call is_used place base) is = is
+of-plain _ is = tt
+
+of-unplaced : (node : memory_node.Node) (stage : memory_stage.Stage) → IsOfStatement stage → AwaitsAt node stage → ⊥
+of-unplaced node S.First is awaits = is
+of-unplaced node _ is awaits = awaits
+
 stage-moves : (old new : RefRun) (next : Control) (top : ℕ) (part : Part) (stage : memory_stage.Stage) (waits : IsInnermost old top part stage) (node : memory_node.Node) (later : memory_stage.Stage) (result : Result (Unit {0}) Halt)
-    → IsPlain stage → IsPlain later → TakesNone next.task → IsOk result → IsConsistent old → TakesNone old.control.task
+    → IsOfStatement stage → IsOfStatement later → TakesNone next.task → IsOk result → IsConsistent old → TakesNone old.control.task
     → NodeStands (table_of old) node → Fits node later → StageStands (table_of old) later → HasRoom later old.base (length (operands_of old))
     → NodeStands (table_of old) next.node → TaskFits (table_of old) next.node (length (operands_of old)) next.task
     → Becomes old new next (record { node = node; stage = later } ∷ waits.others)
@@ -64,12 +74,13 @@ stage-moves old new next top part stage waits node later result plain plainly fr
     let config : Config = record (popped (config_in old)) { task = task_in (table_of old) (operands_of old) (part_in (table_of old) next.node) next.task; frames = innermost old (part_in (table_of old) node) later ∷ (popped (config_in old)).frames } in
     let alters = becomes-alters old new next frames holds becomes in
     ok-moves old new (give config) result ok (becomes-arrives old new next frames config becomes
-    (stage-config old new next top part stage waits node later alters free freed plain plainly holds stands fits staged room)
-    (stage-holds old new next top part stage waits node later alters free freed plain plainly holds stands fits staged room entered task holds.state (subst (λ s. At (around_run old) s old.base holds.state) (sym becomes.store) holds.at)))
+    (stage-config old new next top part stage waits node later alters free freed (of-plain stage plain) (of-plain later plainly) holds stands fits staged room)
+    (stage-holds old new next top part stage waits node later alters free freed (of-plain stage plain) (of-plain later plainly) holds stands fits staged room
+    (λ awaits. absurd (of-unplaced node later plainly awaits)) (λ awaits. absurd (statement-unfound waits.node stage plain ((behind-found old top part stage waits holds).0 awaits))) entered task holds.state (subst (λ s. At (around_run old) s old.base holds.state) (sym becomes.store) holds.at)))
 
 -- and a part is entered
 pub enters-moves : (old mid new : RefRun) (top : ℕ) (part : Part) (stage : memory_stage.Stage) (waits : IsInnermost old top part stage) (node : memory_node.Node) (later : memory_stage.Stage) (inner : memory_node.Node) (result : Result (Unit {0}) Halt)
-    → IsPlain stage → IsPlain later → Waits inner → IsOk result → IsConsistent old → TakesNone old.control.task
+    → IsOfStatement stage → IsOfStatement later → Waits inner → IsOk result → IsConsistent old → TakesNone old.control.task
     → NodeStands (table_of old) node → Fits node later → StageStands (table_of old) later → HasRoom later old.base (length (operands_of old)) → NodeStands (table_of old) inner
     → Becomes old mid old.control (record { node = node; stage = later } ∷ waits.others) → Becomes mid new (record { node = inner; task = K.Enter }) (stack_of mid)
     → Moves old new (give (steps.enters (around_run old) (functions_of old) (part_in (table_of old) inner) (steps.waits (around_run old) (functions_of old) (innermost old (part_in (table_of old) node) later) (popped (config_in old))))) result
@@ -79,7 +90,7 @@ enters-moves old mid new top part stage waits node later inner result plain plai
 
 -- and what is before it ends so
 pub goes-moves : (old mid new : RefRun) (top : ℕ) (part : Part) (stage : memory_stage.Stage) (waits : IsInnermost old top part stage) (node : memory_node.Node) (later : memory_stage.Stage) (way : memory_completion.Completion) (result : Result (Unit {0}) Halt)
-    → IsPlain stage → IsPlain later → IsOk result → IsConsistent old → TakesNone old.control.task
+    → IsOfStatement stage → IsOfStatement later → IsOk result → IsConsistent old → TakesNone old.control.task
     → NodeStands (table_of old) node → Fits node later → StageStands (table_of old) later → HasRoom later old.base (length (operands_of old)) → CompletionStands (table_of old) way
     → Becomes old mid old.control (record { node = node; stage = later } ∷ waits.others) → Becomes mid new (record { node = mid.control.node; task = K.Give (G.Completion way) }) (stack_of mid)
     → Moves old new (give (steps.came (around_run old) (functions_of old) (WayGiven (completion_in (table_of old) way)) (steps.waits (around_run old) (functions_of old) (innermost old (part_in (table_of old) node) later) (popped (config_in old))))) result
@@ -91,7 +102,7 @@ goes-moves old mid new top part stage waits node later way result plain plainly 
 -- ---- the innermost waits no more
 
 pub done-moves : (old new : RefRun) (top : ℕ) (part : Part) (stage : memory_stage.Stage) (waits : IsInnermost old top part stage) (given : memory_given.Given) (result : Result (Unit {0}) Halt)
-    → IsPlain stage → IsOk result → IsConsistent old → TakesNone old.control.task → GivenStands (table_of old) given
+    → IsOfStatement stage → IsOk result → IsConsistent old → TakesNone old.control.task → GivenStands (table_of old) given
     → Becomes old new (record { node = old.control.node; task = K.Give given }) waits.others
     → Moves old new (give (steps.came (around_run old) (functions_of old) (given_in (table_of old) given) (popped (config_in old)))) result
 done-moves old new top part stage waits given result plain ok holds free stands becomes =
@@ -99,13 +110,13 @@ done-moves old new top part stage waits given result plain ok holds free stands 
     let config : Config = steps.came (around_run old) (functions_of old) (given_in (table_of old) given) (popped (config_in old)) in
     let alters = becomes-alters old new next waits.others holds becomes in
     ok-moves old new (give config) result ok (becomes-arrives old new next waits.others config becomes
-    (done-config old new next top part stage waits alters free tt plain holds)
-    (done-holds old new next top part stage waits alters free tt plain holds holds.node stands holds.state (subst (λ s. At (around_run old) s old.base holds.state) (sym becomes.store) holds.at)))
+    (done-config old new next top part stage waits alters free tt (of-plain stage plain) holds)
+    (done-holds old new next top part stage waits alters free tt (of-plain stage plain) holds (λ awaits. absurd (statement-unfound waits.node stage plain ((behind-found old top part stage waits holds).0 awaits))) holds.node stands holds.state (subst (λ s. At (around_run old) s old.base holds.state) (sym becomes.store) holds.at)))
 
 -- behind a call on the store
 pub stored-moves : {A : Type 0} (old new : RefRun) (mid : Store) (top : ℕ) (part : Part) (stage : memory_stage.Stage) (waits : IsInnermost old top part stage) (given : memory_given.Given) (result : Result (Unit {0}) Halt)
     (first : Eval A) (next : A → Eval Config) (a : A)
-    → IsPlain stage → IsOk result → IsConsistent old → TakesNone old.control.task → GivenStands (table_of old) given
+    → IsOfStatement stage → IsOk result → IsConsistent old → TakesNone old.control.task → GivenStands (table_of old) given
     → Alters old new (record { node = old.control.node; task = K.Give given }) waits.others → new.store ≡ mid
     → ((state : State) → At (around_run old) old.store old.base state → Comes (around_run old) mid old.base first state a)
     → next a ≡ give (steps.came (around_run old) (functions_of old) (given_in (table_of old) given) (popped (config_in old)))
@@ -114,8 +125,8 @@ stored-moves old new mid top part stage waits given result first next a plain ok
     let control : Control = record { node = old.control.node; task = K.Give given } in
     let held = comes holds.state holds.at in
     ok-moves old new (first >>= next) result ok (λ state at. arrives-behind old new mid first next a state alters.kept store alters.base
-    (is ∙ ap (λ c. give c) (sym (done-config old new control top part stage waits alters free tt plain holds)))
-    (done-holds old new control top part stage waits alters free tt plain holds holds.node stands held.after (subst (λ s. At (around_run old) s old.base held.after) (sym store) held.at))
+    (is ∙ ap (λ c. give c) (sym (done-config old new control top part stage waits alters free tt (of-plain stage plain) holds)))
+    (done-holds old new control top part stage waits alters free tt (of-plain stage plain) holds (λ awaits. absurd (statement-unfound waits.node stage plain ((behind-found old top part stage waits holds).0 awaits))) holds.node stands held.after (subst (λ s. At (around_run old) s old.base held.after) (sym store) held.at))
     (comes state at))
 
 -- the newest locals die
@@ -177,7 +188,7 @@ bare-moves old new mid top part number waits node local place control result ok 
     arrives-behind old new mid (rules.new_local local.c_type) (λ p. give (steps.first_value (around_run old) (functions_of old) local.first config p)) (place_in (table_of old) place) state alters.kept store alters.base
     (ap (λ first. give (steps.first_value (around_run old) (functions_of old) first config (place_in (table_of old) place))) none
     ∙ ap (λ c. give c) (sym (stage-config old new next top part (S.Item number) waits node (S.Item (suc number)) alters free tt tt tt holds stands items tt tt)))
-    (stage-holds old new next top part (S.Item number) waits node (S.Item (suc number)) alters free tt tt tt holds stands items tt tt (subst (λ n. NodeStands (table_of old) n) (sym same) holds.node) tt held.after (subst (λ s. At (around_run old) s old.base held.after) (sym store) held.at))
+    (stage-holds old new next top part (S.Item number) waits node (S.Item (suc number)) alters free tt tt tt holds stands items tt tt (λ awaits. absurd awaits) (behind-found old top part (S.Item number) waits holds).0 (subst (λ n. NodeStands (table_of old) n) (sym same) holds.node) tt held.after (subst (λ s. At (around_run old) s old.base held.after) (sym store) held.at))
     (comes state at))
 
 -- with one
@@ -203,7 +214,7 @@ first-moves old new mid top part number waits node inner local v place result ok
     arrives-behind old new mid (rules.new_local local.c_type) (λ p. give (steps.first_value around functions local.first config p)) (place_in table place) state alters.kept store alters.base
     (ap (λ first. give (steps.first_value around functions first config (place_in table place))) some
     ∙ (ap (λ p. give (steps.enters around functions p (steps.waits around functions (steps.ToHold (place_in table place)) config))) (sym is) ∙ ap (λ c. give c) (sym at_new)))
-    (alters-holds old new next frames alters holds entered (enters-fits table inner _ waiting) hold (plain-depth old top part (S.Item number) tt waits holds) held.after (subst (λ s. At around s old.base held.after) (sym store) held.at))
+    (alters-holds old new next frames alters holds ((λ awaits. absurd awaits), ((λ awaits. absurd awaits), behind-found old top part (S.Item number) waits holds)) entered (enters-fits table inner _ waiting) hold (plain-depth old top part (S.Item number) tt waits holds) held.after (subst (λ s. At around s old.base held.after) (sym store) held.at))
     (comes state at))
 
 -- ---- what waits at an item

@@ -25,7 +25,7 @@ use Rattle.ref_meaning.specs.declared.run.RefRun.{RefRun}
 use Rattle.ref_meaning.specs.declared.run.Halt.{Halt}
 use Rattle.ref_meaning.specs.declared.run.Halt.TheVariants as H
 use Rattle.ref_meaning.specs.Views.{config_in, around_run, functions_of, table_of, operands_of, operands_after, stack_of, part_in, value_of, callee_of, newest, task_in, frames_in}
-use Rattle.ref_meaning.specs.Holding.{IsConsistent, TaskFits, FramesHold, IsCall}
+use Rattle.ref_meaning.specs.Holding.{IsConsistent, TaskFits, TaskFinds, FramesHold, IsCall}
 use Rattle.ref_meaning.specs.Doing.{acting}
 use Rattle.ref_meaning.specs.Moving.{IsKept, Becomes, Stays, Acts, IsTold, ArrivesTold}
 use Rattle.ref_meaning.specs.Promises.{IsCallOf, CallsNext}
@@ -154,7 +154,7 @@ module _ (old mid new : RefRun) (call : memory_node.Node) (function : memory_sca
   pub given-holds : Remains old mid → IsConsistent new
   given-holds remains =
       let rest = remains holds.state holds.at in
-      turns-holds old new _ _ _ _ _ turns holds holds.node stands (scalars-dropped (table_of old) count (operands_of old) holds.operands)
+      turns-holds old new _ _ _ _ _ turns holds ((λ awaits. absurd (subst (λ (c : Control). TaskFinds (table_of old) c.node c.task) is_control (holds.found.0 awaits))), holds.found.1) holds.node stands (scalars-dropped (table_of old) count (operands_of old) holds.operands)
       (subst (λ operands. FramesHold (table_of old) old.base operands (stack_of old)) after-task holds.frames)
       (subst (λ l. old.base ≤ length l) (sym locals) holds.within) holds.calls holds.shallow rest.0 (subst (λ s. At (around_run old) s old.base rest.0) (sym becomes.store) rest.1)
 

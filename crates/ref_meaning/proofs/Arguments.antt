@@ -27,11 +27,12 @@ use Rattle.ref_meaning.specs.declared.control.Stage.TheVariants as S
 use Rattle.ref_meaning.specs.declared.control.Task.TheVariants as K
 use Rattle.ref_meaning.specs.declared.run.RefRun.{RefRun}
 use Rattle.ref_meaning.specs.Views.{config_in, around_run, functions_of, table_of, operands_of, part_in, value_of, callee_of, arguments_of, arguments_from, newest, frames_in, waiting, base_behind, operands_behind}
-use Rattle.ref_meaning.specs.Holding.{IsConsistent, NodeStands, Fits, StageStands, HasRoom, ScalarsStand, FramesHold, IsCall, calls_among}
+use Rattle.ref_meaning.specs.Holding.{IsConsistent, NodeStands, Fits, StageStands, HasRoom, ScalarsStand, FramesHold, IsCall, IsBehindFirst, Awaits, FindsAt, FramesFind, calls_among}
 use Rattle.ref_meaning.specs.Doing.{TakesNone, IsOwnCall, IsInnermost, innermost, popped, taking}
 use Rattle.ref_meaning.specs.Moving.{IsKept, Arrives}
 use Rattle.ref_meaning.specs.Calling.{IsArgument, OptionalNode, arguments_in, Goes, GoesOn}
-use Rattle.ref_meaning.proofs.Moves.{innermost-popped, innermost-hold, innermost-calls}
+use Rattle.ref_meaning.proofs.Moves.{innermost-popped, innermost-hold, innermost-calls, behind-found}
+use Rattle.ref_meaning.proofs.Finding.{same-first}
 use Rattle.ref_meaning.proofs.Numbered.{argument-there, argument-past, found-there, found-past}
 use Rattle.ref_meaning.proofs.Turns.{Turns, turns-config, turns-holds, still-arrives}
 
@@ -78,14 +79,14 @@ goes-by : (old new : RefRun) (call : memory_node.Node) (function : memory_scalar
     (arguments : Values) (next : Option memory_node.Node) → arguments_in (table_of old) call count ≡ arguments → IsArgument (table_of old) arguments next → OptionalNode (table_of old) next
     → (o : Vec memory_scalar.Scalar Global) → reverse o.items ≡ operands → Goes (record old { operands = o }) new call function count others next → new.store ≡ old.store → IsConsistent old
     → NodeStands (table_of old) call → IsCall call → ScalarStands (table_of old) function → ScalarsStand (table_of old) operands → count ≤ length operands
-    → FramesHold (table_of old) old.base (drop count operands) others → old.depth ≡ calls_among others
+    → FramesHold (table_of old) old.base (drop count operands) others → old.depth ≡ calls_among others → (Awaits others → ⊥) × FramesFind others
     → (config_in new ≡ steps.next_argument (around_run old) (functions_of old) (callee_of (value_of (part_in (table_of old) call)) (scalar_in (table_of old) function)) (newest (table_of old) count operands) arguments
     (record { task = task; frames = frames_in (table_of old) old.store.locals.items old.base (drop count operands) others; depth = greatest_depth - old.depth })) × IsConsistent new
-goes-by old new call function count others operands task T.NoValues None is argument stands o given goes store holds node fits function_stands scalars there waiting calls = (
+goes-by old new call function count others operands task T.NoValues None is argument stands o given goes store holds node fits function_stands scalars there waiting calls found = (
   turns-config old new _ others operands old.base old.depth turns
       ∙ ap (λ locals. record { task = steps.Apply (callee_of (value_of (part_in (table_of old) call)) (scalar_in (table_of old) function)) (newest (table_of old) count operands); frames = frames_in (table_of old) locals old.base (drop count operands) others; depth = greatest_depth - old.depth })
       (ap (λ s. s.locals.items) store),
-  turns-holds old new _ others operands old.base old.depth turns holds node (fits, function_stands, there) scalars waiting
+  turns-holds old new _ others operands old.base old.depth turns holds ((λ awaits. absurd (found.0 awaits)), found.1) node (fits, function_stands, there) scalars waiting
       (subst (λ s. old.base ≤ length s.locals.items) (sym store) holds.within) calls holds.shallow holds.state (subst (λ s. At (around_run old) s old.base holds.state) (sym store) holds.at),
 )
   where
@@ -99,7 +100,7 @@ goes-by old new call function count others operands task T.NoValues None is argu
       control = goes.control;
       stack = goes.stack;
     }
-goes-by old new call function count others operands task (T.MoreValues first more) (Some (N.Value v)) is argument stands o given goes store holds node fits function_stands scalars there waiting calls = (
+goes-by old new call function count others operands task (T.MoreValues first more) (Some (N.Value v)) is argument stands o given goes store holds node fits function_stands scalars there waiting calls found = (
   turns-config old new _ _ operands old.base old.depth turns
       ∙ (λ i. record {
         task = steps.Enter (ValuePart (argument i));
@@ -107,7 +108,7 @@ goes-by old new call function count others operands task (T.MoreValues first mor
             ∷ frames_in (table_of old) (store i).locals.items old.base (drop count operands) others;
         depth = greatest_depth - old.depth;
       }),
-  turns-holds old new _ _ operands old.base old.depth turns holds stands tt scalars (node, fits, function_stands, there, waiting)
+  turns-holds old new _ _ operands old.base old.depth turns holds ((λ awaits. absurd awaits), found) stands tt scalars (node, fits, function_stands, there, waiting)
       (subst (λ s. old.base ≤ length s.locals.items) (sym store) holds.within) calls holds.shallow holds.state (subst (λ s. At (around_run old) s old.base holds.state) (sym store) holds.at),
 )
   where
@@ -121,14 +122,14 @@ goes-by old new call function count others operands task (T.MoreValues first mor
       control = goes.control;
       stack = goes.stack;
     }
-goes-by old new call function count others operands task T.NoValues (Some next) is argument stands o given goes store holds node fits function_stands scalars there waiting calls = absurd argument
-goes-by old new call function count others operands task (T.MoreValues first more) None is argument stands o given goes store holds node fits function_stands scalars there waiting calls = absurd argument
-goes-by old new call function count others operands task (T.MoreValues first more) (Some (N.Object object)) is argument stands o given goes store holds node fits function_stands scalars there waiting calls = absurd argument
-goes-by old new call function count others operands task (T.MoreValues first more) (Some (N.Address object)) is argument stands o given goes store holds node fits function_stands scalars there waiting calls = absurd argument
-goes-by old new call function count others operands task (T.MoreValues first more) (Some (N.Designator designator)) is argument stands o given goes store holds node fits function_stands scalars there waiting calls = absurd argument
-goes-by old new call function count others operands task (T.MoreValues first more) (Some (N.Stmt s)) is argument stands o given goes store holds node fits function_stands scalars there waiting calls = absurd argument
-goes-by old new call function count others operands task (T.MoreValues first more) (Some (N.Body body)) is argument stands o given goes store holds node fits function_stands scalars there waiting calls = absurd argument
-goes-by old new call function count others operands task (T.MoreValues first more) (Some N.Nothing) is argument stands o given goes store holds node fits function_stands scalars there waiting calls = absurd argument
+goes-by old new call function count others operands task T.NoValues (Some next) is argument stands o given goes store holds node fits function_stands scalars there waiting calls found = absurd argument
+goes-by old new call function count others operands task (T.MoreValues first more) None is argument stands o given goes store holds node fits function_stands scalars there waiting calls found = absurd argument
+goes-by old new call function count others operands task (T.MoreValues first more) (Some (N.Object object)) is argument stands o given goes store holds node fits function_stands scalars there waiting calls found = absurd argument
+goes-by old new call function count others operands task (T.MoreValues first more) (Some (N.Address object)) is argument stands o given goes store holds node fits function_stands scalars there waiting calls found = absurd argument
+goes-by old new call function count others operands task (T.MoreValues first more) (Some (N.Designator designator)) is argument stands o given goes store holds node fits function_stands scalars there waiting calls found = absurd argument
+goes-by old new call function count others operands task (T.MoreValues first more) (Some (N.Stmt s)) is argument stands o given goes store holds node fits function_stands scalars there waiting calls found = absurd argument
+goes-by old new call function count others operands task (T.MoreValues first more) (Some (N.Body body)) is argument stands o given goes store holds node fits function_stands scalars there waiting calls found = absurd argument
+goes-by old new call function count others operands task (T.MoreValues first more) (Some N.Nothing) is argument stands o given goes store holds node fits function_stands scalars there waiting calls found = absurd argument
 
 goes-store : (old new : RefRun) (call : memory_node.Node) (function : memory_scalar.Scalar) (count : ℕ) (others : List memory_frame.Frame) (next : Option memory_node.Node) → Goes old new call function count others next → (new.store ≡ old.store) × (new.base ≡ old.base) × IsKept old new
 goes-store old new call function count others None goes = (goes.store, goes.base, goes.kept)
@@ -138,11 +139,11 @@ goes-store old new call function count others (Some next) goes = (goes.store, go
 pub goes-arrives : (old new : RefRun) (call : memory_node.Node) (function : memory_scalar.Scalar) (count : ℕ) (others : List memory_frame.Frame) (operands : List memory_scalar.Scalar) (config : Config)
     (o : Vec memory_scalar.Scalar Global) → reverse o.items ≡ operands → GoesOn (record old { operands = o }) new call function count others → IsConsistent old
     → NodeStands (table_of old) call → IsCall call → ScalarStands (table_of old) function → ScalarsStand (table_of old) operands → count ≤ length operands
-    → FramesHold (table_of old) old.base (drop count operands) others → old.depth ≡ calls_among others
+    → FramesHold (table_of old) old.base (drop count operands) others → old.depth ≡ calls_among others → (Awaits others → ⊥) × FramesFind others
     → config ≡ record { task = config.task; frames = frames_in (table_of old) old.store.locals.items old.base (drop count operands) others; depth = greatest_depth - old.depth }
     → (state : State) → At (around_run old) old.store old.base state
     → Arrives new (give (steps.next_argument (around_run old) (functions_of old) (callee_of (value_of (part_in (table_of old) call)) (scalar_in (table_of old) function)) (newest (table_of old) count operands) (arguments_in (table_of old) call count) config)) state
-goes-arrives old new call function count others operands config o given goes holds node fits function_stands scalars there waiting calls is state at =
+goes-arrives old new call function count others operands config o given goes holds node fits function_stands scalars there waiting calls found is state at =
     still-arrives old new _ (record { program = kept.2.program; functions = kept.2.functions; main = kept.2.main; spent = kept.2.spent }) kept.0 kept.1
     (by.0 ∙ ap (steps.next_argument (around_run old) (functions_of old) (callee_of (value_of (part_in (table_of old) call)) (scalar_in (table_of old) function)) (newest (table_of old) count operands) (arguments_in (table_of old) call count)) (sym is)) by.1 state at
   where
@@ -151,7 +152,7 @@ goes-arrives old new call function count others operands config o given goes hol
 
     by : (config_in new ≡ steps.next_argument (around_run old) (functions_of old) (callee_of (value_of (part_in (table_of old) call)) (scalar_in (table_of old) function)) (newest (table_of old) count operands) (arguments_in (table_of old) call count)
         (record { task = config.task; frames = frames_in (table_of old) old.store.locals.items old.base (drop count operands) others; depth = greatest_depth - old.depth })) × IsConsistent new
-    by = goes-by old new call function count others operands config.task (arguments_in (table_of old) call count) goes.next refl goes.is goes.stands o given goes.goes kept.0 holds node fits function_stands scalars there waiting calls
+    by = goes-by old new call function count others operands config.task (arguments_in (table_of old) call count) goes.next refl goes.is goes.stands o given goes.goes kept.0 holds node fits function_stands scalars there waiting calls found
 
 -- one more operand
 newest-more : (table : Interned) (count : ℕ) (a : memory_scalar.Scalar) (operands : List memory_scalar.Scalar) → newest table (suc count) (a ∷ operands) ≡ newest table count operands ++ scalar_in table a ∷ []
@@ -168,7 +169,7 @@ argument-given old new top call function count a o holds free node function_stan
     (newest-more (table_of old) count a (operands_of old))
     (goes-arrives old new call function (suc count) waits.others (a ∷ operands_of old) (popped (config_in old)) o (ap reverse pushed ∙ reverse-append old.operands.items (a ∷ []))
     (subst (λ n. GoesOn (record old { operands = o }) new call function n waits.others) (add-one count) goes) holds node fits function_stands (a_stands, holds.operands) more
-    behind.4 (innermost-calls old top _ _ waits holds) (innermost-popped old top _ _ free waits) state at)
+    behind.4 (innermost-calls old top _ _ waits holds) (behind-found old top (part_in (table_of old) call) (S.Argument function count) waits holds) (innermost-popped old top _ _ free waits) state at)
   where
     behind : NodeStands (table_of old) waits.node × Fits waits.node (S.Argument function count) × StageStands (table_of old) (S.Argument function count) × HasRoom (S.Argument function count) old.base (length (operands_of old))
         × FramesHold (table_of old) (base_behind (S.Argument function count) old.base) (operands_behind (S.Argument function count) (operands_of old)) waits.others
@@ -208,6 +209,11 @@ own-call (N.Stmt s) own = absurd own
 own-call (N.Body body) own = absurd own
 own-call N.Nothing own = absurd own
 
+-- it isn't found as an object
+own-unfound : (call : memory_node.Node) → IsOwnCall call → IsBehindFirst call → ⊥
+own-unfound (N.Object object) own is = own
+own-unfound _ own is = is
+
 pub function-given : (old new : RefRun) (top : ℕ) (call : memory_node.Node) (function : memory_scalar.Scalar) → IsConsistent old → TakesNone old.control.task
     → NodeStands (table_of old) call → ScalarStands (table_of old) function → IsOwnCall call
     → (waits : IsInnermost old top (part_in (table_of old) call) S.First) → GoesOn old new call function 0 waits.others
@@ -216,8 +222,11 @@ pub function-given : (old new : RefRun) (top : ℕ) (call : memory_node.Node) (f
 function-given old new top call function holds free node function_stands own waits goes state at =
     subst (λ eval. Arrives new eval state) (sym (own-waits (table_of old) call function (around_run old) (functions_of old) (popped (config_in old)) own state))
     (goes-arrives old new call function 0 waits.others (operands_of old) (popped (config_in old)) old.operands refl goes holds node (own-call call own) function_stands holds.operands (omega arith)
-    behind.4 (innermost-calls old top _ _ waits holds) (innermost-popped old top _ _ free waits) state at)
+    behind.4 (innermost-calls old top _ _ waits holds) ((λ awaits. own-unfound call own (same-first (table_of old) waits.node call waits.is (found.0 awaits))), found.1) (innermost-popped old top _ _ free waits) state at)
   where
+    found : (Awaits waits.others → FindsAt waits.node S.First) × FramesFind waits.others
+    found = behind-found old top (part_in (table_of old) call) S.First waits holds
+
     behind : NodeStands (table_of old) waits.node × Fits waits.node S.First × StageStands (table_of old) S.First × HasRoom S.First old.base (length (operands_of old))
         × FramesHold (table_of old) (base_behind S.First old.base) (operands_behind S.First (operands_of old)) waits.others
     behind = innermost-hold old top (part_in (table_of old) call) S.First free waits holds

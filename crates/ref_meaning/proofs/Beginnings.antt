@@ -18,7 +18,7 @@ use Rattle.ref_meaning.specs.declared.control.Stage.TheVariants as S
 use Rattle.ref_meaning.specs.declared.control.Task.TheVariants as K
 use Rattle.ref_meaning.specs.declared.run.RefRun.{RefRun}
 use Rattle.ref_meaning.specs.Views.{config_in, around_run, functions_of, table_of, operands_of, stack_of, operands_after, frames_in, newest}
-use Rattle.ref_meaning.specs.Holding.{IsConsistent, FramesHold}
+use Rattle.ref_meaning.specs.Holding.{IsConsistent, Awaits, FramesHold}
 use Rattle.ref_meaning.specs.Moving.{Arrives, IsOver}
 use Rattle.ref_meaning.proofs.Moves.{same-around}
 use Rattle.ref_meaning.proofs.Turns.{Turns, turns-config, turns-holds}
@@ -41,19 +41,19 @@ too-deep run is_used here number function given frames deep state =
     (record { there = state; is = λ units input. refl; quiet = refl })
 
 -- a call begins
-pub begins : (old new : RefRun) (is_used : Bool) (here : Pos) (number : ℕ) (function : Bor memory_function.FunctionDef) (count : ℕ) → IsConsistent old → FunctionFits (table_of old) function.now
+pub begins : (old new : RefRun) (is_used : Bool) (here : Pos) (number : ℕ) (function : Bor memory_function.FunctionDef) (count : ℕ) → IsConsistent old → (Awaits (stack_of old) → ⊥) → FunctionFits (table_of old) function.now
     → count ≤ length (operands_of old) → operands_after old.control.task (operands_of old) ≡ drop count (operands_of old) → old.depth < greatest_depth
     → Turns old new (record { node = N.Body function; task = K.Bind count 0 }) (record { node = N.Body function; stage = S.Call is_used here old.base } ∷ stack_of old) (operands_of old) (length old.store.locals.items) (old.depth + 1)
     → new.store ≡ old.store → (state : State) → At (around_run old) old.store old.base state
     → Arrives new (steps.begin_call (around_run old) (functions_of old) is_used here number (function_in (table_of old) function.now) (newest (table_of old) count (operands_of old)) (config_in old).frames (greatest_depth - old.depth)) state
-begins old new is_used here number function count holds stands there operands shallow turns store state at =
+begins old new is_used here number function count holds unawaited stands there operands shallow turns store state at =
     subst (λ depth. Arrives new (steps.begin_call (around_run old) (functions_of old) is_used here number (function_in (table_of old) function.now) (newest (table_of old) count (operands_of old)) (config_in old).frames depth) state) (sym (some-depth old.depth shallow))
     (record {
       after = after state;
       does = λ units input. ap (λ c. Then c (left units input (after state))) (ap (λ locals. bound locals (config_in old).frames) at.locals ∙ is);
       at = subst (λ a. At a new.store new.base (after state)) (sym around_same) (subst (λ b. At (around_run old) new.store b (after state)) (sym turns.based) (subst (λ s. At (around_run old) s (length old.store.locals.items) (after state)) (sym store) (at_after state at)));
       quiet = unheard state.trace (Runs.Called number ∷ []) refl;
-      holds = turns-holds old new _ _ (operands_of old) (length old.store.locals.items) (old.depth + 1) turns holds stands (tt, there) holds.operands
+      holds = turns-holds old new _ _ (operands_of old) (length old.store.locals.items) (old.depth + 1) turns holds ((λ awaits. absurd awaits), (unawaited, holds.found.1)) stands (tt, there) holds.operands
           (stands, tt, tt, holds.within, waits)
           (subst (λ s. length old.store.locals.items ≤ length s.locals.items) (sym store) (omega arith))
           (add-one old.depth ∙ ap suc holds.calls) (omega (arith, shallow)) (after holds.state)

@@ -24,10 +24,10 @@ use Rattle.ref_meaning.specs.declared.control.Task.TheVariants as K
 use Rattle.ref_meaning.specs.declared.run.Halt.{Halt}
 use Rattle.ref_meaning.specs.declared.run.RefRun.{RefRun}
 use Rattle.ref_meaning.specs.Views.{part_in, given_in, loop_of, stmt_of, waiting, behind_body, frame_in, frames_in, task_in, operands_after, operands_behind, base_behind, table_of, operands_of, stack_of, around_run, functions_of, config_in}
-use Rattle.ref_meaning.specs.Holding.{IsConsistent, NodeStands, GivenStands, Waits, Fits, StageStands, HasRoom, TaskFits, FramesHold, IsCall, IsBody, IsLoop, IsTurning, calls_in, calls_among}
+use Rattle.ref_meaning.specs.Holding.{IsConsistent, NodeStands, GivenStands, Waits, Fits, StageStands, HasRoom, TaskFits, FramesHold, IsCall, IsBody, IsLoop, IsTurning, IsPlaced, IsBehindFirst, IsBehindBoth, AwaitsAt, Awaits, FindsAt, FramesFind, calls_in, calls_among}
 use Rattle.ref_meaning.specs.Doing.{TakesNone, IsOnTop, body_in, without_first, popped, turning, asking}
 use Rattle.ref_meaning.specs.Moving.{Becomes, Arrives, Moves}
-use Rattle.ref_meaning.proofs.Moves.{becomes-config, becomes-holds, becomes-arrives, becomes-then, IsPlain, plain-base, plain-operands, plain-calls, takes-none, ok-moves}
+use Rattle.ref_meaning.proofs.Moves.{becomes-config, becomes-holds, becomes-arrives, becomes-then, IsPlain, plain-base, plain-operands, plain-calls, takes-none, all-frames, all-hold, ok-moves}
 
 -- ---- one after the other
 
@@ -54,15 +54,19 @@ pub record Behind (run : RefRun) (others : List memory_frame.Frame) (config : Co
   pub hold : FramesHold (table_of run) run.base (operands_of run) others
   pub calls : run.depth ≡ calls_among others
   pub depth : greatest_depth - run.depth ≡ config.depth
+  pub unawaited : Awaits others → ⊥
+  pub finding : FramesFind others
 
 -- all but the innermost
-pub popped-behind : (run : RefRun) (first : memory_frame.Frame) (others : List memory_frame.Frame) → IsConsistent run → TakesNone run.control.task → stack_of run ≡ first ∷ others → IsPlain first.stage → Behind run others (popped (config_in run))
-popped-behind run first others holds free stack is = record {
+pub popped-behind : (run : RefRun) (first : memory_frame.Frame) (others : List memory_frame.Frame) → IsConsistent run → TakesNone run.control.task → stack_of run ≡ first ∷ others → IsPlain first.stage → (FindsAt first.node first.stage → ⊥) → Behind run others (popped (config_in run))
+popped-behind run first others holds free stack is unfound = record {
   frames = (λ i. frames_in (table_of run) run.store.locals.items (sym (besides.bases run.base) i) (sym none i) others)
       ∙ sym (ap (λ s. without_first (frames_in (table_of run) run.store.locals.items run.base taken s)) stack);
   hold = subst (λ b. FramesHold (table_of run) b (operands_of run) others) (besides.bases run.base) (subst (λ o. FramesHold (table_of run) (base_behind first.stage run.base) o others) none all.4);
   calls = holds.calls ∙ (ap calls_among stack ∙ besides.calls (calls_among others));
   depth = refl;
+  unawaited = λ awaits. unfound (found.0 awaits);
+  finding = found.1;
 }
   where
     taken : List memory_scalar.Scalar
@@ -77,11 +81,25 @@ popped-behind run first others holds free stack is = record {
     all : FramesHold (table_of run) run.base taken (first ∷ others)
     all = subst (λ s. FramesHold (table_of run) run.base taken s) stack holds.frames
 
+    found : (Awaits others → FindsAt first.node first.stage) × FramesFind others
+    found = subst (λ s. FramesFind s) stack holds.found.1
+
+-- all of them
+pub all-behind : (run : RefRun) → IsConsistent run → TakesNone run.control.task → (Awaits (stack_of run) → ⊥) → Behind run (stack_of run) (config_in run)
+all-behind run holds free unawaited = record {
+  frames = sym (all-frames run free);
+  hold = all-hold run free holds;
+  calls = holds.calls;
+  depth = refl;
+  unawaited = unawaited;
+  finding = holds.found.1;
+}
+
 -- one more waits
-pub pushed-behind : (run : RefRun) (others : List memory_frame.Frame) (config : Config) (node : memory_node.Node) (stage : memory_stage.Stage) → Behind run others config → IsPlain stage
+pub pushed-behind : (run : RefRun) (others : List memory_frame.Frame) (config : Config) (node : memory_node.Node) (stage : memory_stage.Stage) → Behind run others config → IsPlain stage → (AwaitsAt node stage → ⊥)
     → NodeStands (table_of run) node → Fits node stage → StageStands (table_of run) stage → HasRoom stage run.base (length (operands_of run))
     → Behind run (record { node = node; stage = stage } ∷ others) (record config { frames = frame_in (table_of run) run.store.locals.items run.base (operands_of run) (part_in (table_of run) node) stage ∷ config.frames })
-pushed-behind run others config node stage behind is stands fits known room = record {
+pushed-behind run others config node stage behind is unplaced stands fits known room = record {
   frames = ap (λ fs. frame_in (table_of run) run.store.locals.items run.base (operands_of run) (part_in (table_of run) node) stage ∷ fs)
       ((λ i. frames_in (table_of run) run.store.locals.items (besides.bases run.base i) (besides.operands (operands_of run) i) others) ∙ behind.frames);
   hold = (
@@ -93,6 +111,8 @@ pushed-behind run others config node stage behind is stands fits known room = re
   );
   calls = behind.calls ∙ sym (besides.calls (calls_among others));
   depth = behind.depth;
+  unawaited = unplaced;
+  finding = ((λ awaits. absurd (behind.unawaited awaits)), behind.finding);
 }
   where
     besides : IsBesides stage
@@ -112,7 +132,7 @@ config-so old new next others config behind free becomes = becomes-config old ne
 
 holds-so : (old new : RefRun) (next : Control) (others : List memory_frame.Frame) (config : Config) → IsConsistent old → Behind old others config → TakesNone next.task → NodeStands (table_of old) next.node
     → TaskFits (table_of old) next.node (length (operands_of old)) next.task → Becomes old new next others → IsConsistent new
-holds-so old new next others config holds behind free node task becomes = becomes-holds old new next others becomes holds node task
+holds-so old new next others config holds behind free node task becomes = becomes-holds old new next others becomes holds ((λ awaits. absurd (behind.unawaited awaits)), behind.finding) node task
     (subst (λ o. FramesHold (table_of old) old.base o others) (sym (takes-none next.task (operands_of old) free)) behind.hold) behind.calls
 
 pub arrives-so : (old new : RefRun) (next : Control) (others : List memory_frame.Frame) (config : Config) → IsConsistent old → Behind old others config → TakesNone next.task → NodeStands (table_of old) next.node
@@ -172,10 +192,44 @@ stmt-plain table node S.Step part fits = tt
 stmt-plain table node (S.Scope height) part fits = tt
 stmt-plain table node (S.Call is_used place base) part fits = no-body table node part fits
 
+-- and isn't found as an object, nor awaits one
+stmt-unplaced : (table : Interned) (node : memory_node.Node) → IsStmtPart (part_in table node) → IsPlaced node → ⊥
+stmt-unplaced table (N.Stmt s) part is = is
+stmt-unplaced table (N.Value v) part is = part
+stmt-unplaced table (N.Object object) part is = part
+stmt-unplaced table (N.Address object) part is = part
+stmt-unplaced table (N.Designator function) part is = is
+stmt-unplaced table (N.Body function) part is = is
+stmt-unplaced table N.Nothing part is = is
+
+no-first : (table : Interned) (node : memory_node.Node) → IsStmtPart (part_in table node) → IsBehindFirst node → ⊥
+no-first table (N.Object object) part is = part
+no-first table (N.Value v) part is = is
+no-first table (N.Address object) part is = is
+no-first table (N.Designator function) part is = is
+no-first table (N.Stmt s) part is = is
+no-first table (N.Body function) part is = is
+no-first table N.Nothing part is = is
+
+no-both : (table : Interned) (node : memory_node.Node) → IsStmtPart (part_in table node) → IsBehindBoth node → ⊥
+no-both table (N.Object object) part is = part
+no-both table (N.Value v) part is = is
+no-both table (N.Address object) part is = is
+no-both table (N.Designator function) part is = is
+no-both table (N.Stmt s) part is = is
+no-both table (N.Body function) part is = is
+no-both table N.Nothing part is = is
+
+pub stmt-unfound : (table : Interned) (node : memory_node.Node) (stage : memory_stage.Stage) → IsStmtPart (part_in table node) → FindsAt node stage → ⊥
+stmt-unfound table node S.First part finds = no-first table node part finds
+stmt-unfound table node (S.Second a) part finds = no-both table node part finds
+stmt-unfound table node _ part finds = finds
+
 -- what waits behind a statement on top
 pub top-behind : (run : RefRun) (top : ℕ) (part : Part) → IsConsistent run → TakesNone run.control.task → IsStmtPart part → (on : IsOnTop run top part) → Behind run on.innermost.others (popped (config_in run))
 top-behind run top part holds free is on = popped-behind run (record { node = on.innermost.node; stage = on.stage }) on.innermost.others holds free on.innermost.stack
     (stmt-plain (table_of run) on.innermost.node on.stage (subst IsStmtPart (sym on.innermost.is) is) all.1)
+    (stmt-unfound (table_of run) on.innermost.node on.stage (subst IsStmtPart (sym on.innermost.is) is))
   where
     all : FramesHold (table_of run) run.base (operands_after run.control.task (operands_of run)) (record { node = on.innermost.node; stage = on.stage } ∷ on.innermost.others)
     all = subst (λ s. FramesHold (table_of run) run.base (operands_after run.control.task (operands_of run)) s) on.innermost.stack holds.frames
@@ -233,7 +287,7 @@ pub moves-turning : (old new : RefRun) (top : ℕ) (node body : memory_node.Node
 moves-turning old new top node body result holds free stands is on part body_stands becomes ok =
     subst (λ c. Moves old new (give c) result) same
     (moves-enters old new body (record { node = node; stage = S.Turn } ∷ on.innermost.others) (record rest { frames = behind_body (part_in (table_of old) node) ∷ rest.frames }) result holds
-    (pushed-behind old on.innermost.others rest node S.Turn (top-behind old top (part_in (table_of old) node) holds free loop.part on) tt stands loop.turns tt tt)
+    (pushed-behind old on.innermost.others rest node S.Turn (top-behind old top (part_in (table_of old) node) holds free loop.part on) tt (λ is. is) stands loop.turns tt tt)
     body_stands (stmt-fits (table_of old) body (length (operands_of old)) (subst IsStmtPart (sym part) tt)) becomes ok)
   where
     rest : Config
@@ -254,7 +308,7 @@ pub moves-asking : (old new : RefRun) (top : ℕ) (node condition : memory_node.
 moves-asking old new top node condition v result holds free stands is on part condition_stands fits becomes ok =
     subst (λ c. Moves old new (give c) result) same
     (moves-enters old new condition (record { node = node; stage = S.First } ∷ on.innermost.others) (record rest { frames = waiting (part_in (table_of old) node) ∷ rest.frames }) result holds
-    (pushed-behind old on.innermost.others rest node S.First (top-behind old top (part_in (table_of old) node) holds free loop.part on) tt stands loop.waits tt tt)
+    (pushed-behind old on.innermost.others rest node S.First (top-behind old top (part_in (table_of old) node) holds free loop.part on) tt (stmt-unplaced (table_of old) node loop.part) stands loop.waits tt tt)
     condition_stands fits becomes ok)
   where
     rest : Config

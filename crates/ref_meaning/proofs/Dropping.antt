@@ -10,7 +10,7 @@ use Rattle.ref_store.specs.Holding.{At}
 use Rattle.ref_meaning.specs.declared.control.Control.{Control}
 use Rattle.ref_meaning.specs.declared.run.RefRun.{RefRun}
 use Rattle.ref_meaning.specs.Views.{config_in, around_run, table_of, operands_of, operands_after, stack_of, part_in, task_in, frames_in}
-use Rattle.ref_meaning.specs.Holding.{IsConsistent, NodeStands, TaskFits, FramesHold, ScalarsStand}
+use Rattle.ref_meaning.specs.Holding.{IsConsistent, NodeStands, TaskFits, TaskFinds, Awaits, FramesHold, ScalarsStand}
 use Rattle.ref_meaning.specs.Doing.{TakesNone}
 use Rattle.ref_meaning.specs.Moving.{Becomes, Arrives}
 use Rattle.ref_meaning.proofs.Binding.{rest-dropped}
@@ -59,12 +59,12 @@ module _ (old new : RefRun) (o : Vec memory_scalar.Scalar Global) (count : ℕ) 
         depth = greatest_depth - old.depth;
       })
 
-  pub dropped-arrives : NodeStands (table_of old) next.node → TaskFits (table_of old) next.node (length left_over) next.task → (eval : Eval Config) → eval ≡ give task_then
+  pub dropped-arrives : (Awaits (stack_of old) → TaskFinds (table_of old) next.node next.task) → NodeStands (table_of old) next.node → TaskFits (table_of old) next.node (length left_over) next.task → (eval : Eval Config) → eval ≡ give task_then
       → (state : State) → At (around_run old) old.store old.base state → Arrives new eval state
-  dropped-arrives node task eval is state at =
+  dropped-arrives finds node task eval is state at =
       subst (λ e. Arrives new e state) (sym is)
       (still-arrives old new task_then turns.kept becomes.store becomes.base dropped-config
-      (turns-holds old new next (stack_of old) left_over old.base old.depth turns holds node task (scalars-dropped (table_of old) count (operands_of old) holds.operands)
+      (turns-holds old new next (stack_of old) left_over old.base old.depth turns holds (finds, holds.found.1) node task (scalars-dropped (table_of old) count (operands_of old) holds.operands)
       (subst (λ operands. FramesHold (table_of old) old.base operands (stack_of old)) (sym after-next) holds.frames)
       (subst (λ s. old.base ≤ length s.locals.items) (sym becomes.store) holds.within) holds.calls holds.shallow holds.state
       (subst (λ s. At (around_run old) s old.base holds.state) (sym becomes.store) holds.at))

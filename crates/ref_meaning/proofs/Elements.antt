@@ -1,16 +1,28 @@
--- What is no end of a row is an element.
-use Rattle.std.proofs.Common.{◌≡◌, ◌<◌, ◌^◌, Bool, true, false, not, nat_lt, refl, true≢false}
-use Rattle.std.proofs.lemmas.Bool.{ltb-true}
+-- Objects are found as elements.
+use Rattle.std.proofs.Common.{◌≡◌, Result, Ok, Err, IfOk, sym, subst}
 use Rattle.c_typed.specs.Table.{Interned, structs_in}
-use Rattle.ref_semantics.specs.Values.{is_end}
+use Rattle.ref_semantics.specs.Values.{Place, place_of}
 use Rattle.ref_store.specs.declared.value.Place as memory_place
-use Rattle.ref_store.specs.Views.{row_in, place_in, PlaceStands, IsElement}
-use Rattle.ref_store.proofs.Fitting.{room_below}
+use Rattle.ref_store.specs.declared.value.Scalar as memory_scalar
+use Rattle.ref_store.specs.declared.value.Scalar.TheVariants as A
+use Rattle.ref_store.specs.declared.value.Stop.{Stop}
+use Rattle.ref_store.specs.Fitting.{HasRoom}
+use Rattle.ref_store.specs.Views.{place_in, scalar_in, IsElement}
+use Rattle.ref_meaning.specs.declared.control.Node as memory_node
+use Rattle.ref_meaning.specs.declared.first.Next as memory_next
+use Rattle.ref_meaning.specs.Holding.{PointsToElement}
+use Rattle.ref_meaning.specs.Doing.{NextFinds}
+use Rattle.ref_meaning.specs.Nexts.{place_next}
 
-pub no_end : (table : Interned) (place : memory_place.Place) → PlaceStands table place → place.row.count < 2 ^ 64 → is_end (place_in table place) ≡ false → IsElement table place
-no_end table place stands small h =
-    room_below (structs_in table) (row_in table place.row) place.index stands.fits (ltb-true place.index place.row.count (before (nat_lt place.index place.row.count) h)) small
-  where
-    before : (b : Bool) → not b ≡ false → b ≡ true
-    before true e = refl
-    before false e = absurd (true≢false e)
+-- the place of a pointer to an element
+pub pointed-element : (table : Interned) (a : memory_scalar.Scalar) (place : memory_place.Place) → place_in table place ≡ place_of (scalar_in table a) → PointsToElement table a → IsElement table place
+pointed-element table (A.Pointer p) place e element = subst (λ (q : Place). HasRoom (structs_in table) q.row q.index) (sym e) element
+pointed-element table (A.Integer value) place e element = absurd element
+pointed-element table A.Null place e element = absurd element
+pointed-element table (A.Function name) place e element = absurd element
+pointed-element table (A.Raw number) place e element = absurd element
+
+-- what is found is an element, and a pointer to it comes next
+pub found-next : (table : Interned) (node : memory_node.Node) (r : Result memory_place.Place Stop) (r' : Result memory_next.Next Stop) → r' ≡ place_next r → IfOk r (λ p. IsElement table p) → IfOk r' (λ next. NextFinds table node next)
+found-next table node (Ok place) r' e element = subst (λ (x : Result memory_next.Next Stop). IfOk x (λ next. NextFinds table node next)) (sym e) element
+found-next table node (Err stop) r' e element = subst (λ (x : Result memory_next.Next Stop). IfOk x (λ next. NextFinds table node next)) (sym e) tt

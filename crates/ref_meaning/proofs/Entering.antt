@@ -11,7 +11,7 @@ use Rattle.ref_steps.specs.Steps.{Config}
 use Rattle.ref_store.specs.declared.value.Place as memory_place
 use Rattle.ref_store.specs.declared.value.Scalar as memory_scalar
 use Rattle.ref_store.specs.declared.value.Scalar.TheVariants as M
-use Rattle.ref_store.specs.Views.{place_in, scalar_in, ScalarStands, PlaceStands}
+use Rattle.ref_store.specs.Views.{place_in, scalar_in, ScalarStands, PlaceStands, IsElement}
 use Rattle.ref_store.specs.Holding.{At, Comes}
 use Rattle.ref_meaning.specs.declared.control.Control.{Control}
 use Rattle.ref_meaning.specs.declared.control.Frame as memory_frame
@@ -25,7 +25,7 @@ use Rattle.ref_meaning.specs.declared.run.Halt.{Halt}
 use Rattle.ref_meaning.specs.declared.run.RefRun.{RefRun}
 use Rattle.ref_meaning.specs.Views as views
 use Rattle.ref_meaning.specs.Views.{config_in, around_run, functions_of, table_of, stack_of, part_in, entry_in, waiting}
-use Rattle.ref_meaning.specs.Holding.{IsConsistent, NodeStands, Waits, TaskFits, IsLibraryCall}
+use Rattle.ref_meaning.specs.Holding.{IsConsistent, NodeStands, Waits, TaskFits, IsLibraryCall, IsObject, IsPlaced, IsBehindFirst, PointsToElement, Awaits}
 use Rattle.ref_meaning.specs.Doing.{TakesNone, IsExpression, evaluating}
 use Rattle.ref_meaning.specs.Moving.{Becomes, Arrives, Moves}
 use Rattle.ref_meaning.proofs.Moves.{becomes-alters, becomes-arrives, task-config, task-holds, wait-config, wait-holds, arrives-behind}
@@ -73,60 +73,60 @@ evaluates {A = A} old new node found entry result means is moves =
     subst (λ e. Moves {A = A} old new (steps.evaluate (around_run old) (functions_of old) (part_in (table_of old) node) (config_in old) e) result) (sym (ap (entry_in (table_of old)) is) ∙ means) moves
 
 -- it is a value
-pub gives-value : (old new : RefRun) (a : memory_scalar.Scalar) → IsConsistent old → TakesNone old.control.task → ScalarStands (table_of old) a → Becomes old new (record { node = old.control.node; task = K.Give (G.Scalar a) }) (stack_of old)
+pub gives-value : (old new : RefRun) (a : memory_scalar.Scalar) → IsConsistent old → TakesNone old.control.task → (Awaits (stack_of old) → PointsToElement (table_of old) a) → ScalarStands (table_of old) a → Becomes old new (record { node = old.control.node; task = K.Give (G.Scalar a) }) (stack_of old)
     → (state : State) → At (around_run old) old.store old.base state → Arrives new (give (steps.came (around_run old) (functions_of old) (steps.ScalarGiven (scalar_in (table_of old) a)) (config_in old))) state
-gives-value old new a holds free stands becomes state at =
+gives-value old new a holds free finds stands becomes state at =
     let next : Control = record { node = old.control.node; task = K.Give (G.Scalar a) } in
     let alters = becomes-alters old new next (stack_of old) holds becomes in
     becomes-arrives old new next (stack_of old) (steps.came (around_run old) (functions_of old) (steps.ScalarGiven (scalar_in (table_of old) a)) (config_in old)) becomes
     (task-config old new next alters free tt holds)
-    (task-holds old new next alters free tt holds holds.node stands holds.state (subst (λ s. At (around_run old) s old.base holds.state) (sym becomes.store) holds.at)) state at
+    (task-holds old new next alters free tt holds finds holds.node stands holds.state (subst (λ s. At (around_run old) s old.base holds.state) (sym becomes.store) holds.at)) state at
 
 -- it is an object that is found
-pub finds-place : (old new : RefRun) (p : memory_place.Place) (found : Eval V.Place) → IsConsistent old → TakesNone old.control.task → ((state : State) → At (around_run old) old.store old.base state → PlaceStands (table_of old) p)
+pub finds-place : (old new : RefRun) (p : memory_place.Place) (found : Eval V.Place) → IsConsistent old → TakesNone old.control.task → ((state : State) → At (around_run old) old.store old.base state → IsElement (table_of old) p) → ((state : State) → At (around_run old) old.store old.base state → PlaceStands (table_of old) p)
     → ((state : State) → At (around_run old) old.store old.base state → Comes (around_run old) old.store old.base found state (place_in (table_of old) p))
     → Becomes old new (record { node = old.control.node; task = K.Give (G.Scalar (M.Pointer p)) }) (stack_of old)
     → (state : State) → At (around_run old) old.store old.base state
     → Arrives new (found >>= λ p'. give (steps.came (around_run old) (functions_of old) (steps.ScalarGiven (V.PointerValue p')) (config_in old))) state
-finds-place old new p found holds free stands comes becomes state at =
+finds-place old new p found holds free element stands comes becomes state at =
     let next : Control = record { node = old.control.node; task = K.Give (G.Scalar (M.Pointer p)) } in
     let alters = becomes-alters old new next (stack_of old) holds becomes in
     arrives-behind old new old.store found (λ p'. give (steps.came (around_run old) (functions_of old) (steps.ScalarGiven (V.PointerValue p')) (config_in old))) (place_in (table_of old) p) state becomes.kept becomes.store becomes.base
     (ap (λ c. give c) (sym (task-config old new next alters free tt holds)))
-    (task-holds old new next alters free tt holds holds.node (stands state at) holds.state (subst (λ s. At (around_run old) s old.base holds.state) (sym becomes.store) holds.at))
+    (task-holds old new next alters free tt holds (λ awaits. element state at) holds.node (stands state at) holds.state (subst (λ s. At (around_run old) s old.base holds.state) (sym becomes.store) holds.at))
     (comes state at)
 
 -- it comes to what another does
-pub enters-other : (old new : RefRun) (part : memory_node.Node) → IsConsistent old → TakesNone old.control.task → NodeStands (table_of old) part → Waits part → Becomes old new (record { node = part; task = K.Enter }) (stack_of old)
+pub enters-other : (old new : RefRun) (part : memory_node.Node) → IsConsistent old → TakesNone old.control.task → (Awaits (stack_of old) → IsObject part) → NodeStands (table_of old) part → Waits part → Becomes old new (record { node = part; task = K.Enter }) (stack_of old)
     → (state : State) → At (around_run old) old.store old.base state → Arrives new (give (steps.enters (around_run old) (functions_of old) (part_in (table_of old) part) (config_in old))) state
-enters-other old new part holds free stands waits becomes state at =
+enters-other old new part holds free finds stands waits becomes state at =
     let next : Control = record { node = part; task = K.Enter } in
     let alters = becomes-alters old new next (stack_of old) holds becomes in
     becomes-arrives old new next (stack_of old) (steps.enters (around_run old) (functions_of old) (part_in (table_of old) part) (config_in old)) becomes
     (task-config old new next alters free tt holds)
-    (task-holds old new next alters free tt holds stands (enter-fits (table_of old) part _ waits) holds.state (subst (λ s. At (around_run old) s old.base holds.state) (sym becomes.store) holds.at)) state at
+    (task-holds old new next alters free tt holds finds stands (enter-fits (table_of old) part _ waits) holds.state (subst (λ s. At (around_run old) s old.base holds.state) (sym becomes.store) holds.at)) state at
 
 -- it waits for another
-pub awaits-other : (old new : RefRun) (node part : memory_node.Node) → IsConsistent old → TakesNone old.control.task → NodeStands (table_of old) node → IsExpression node → NodeStands (table_of old) part → Waits part
+pub awaits-other : (old new : RefRun) (node part : memory_node.Node) → IsConsistent old → TakesNone old.control.task → (IsPlaced node → IsObject part) → (Awaits (stack_of old) → IsBehindFirst node) → NodeStands (table_of old) node → IsExpression node → NodeStands (table_of old) part → Waits part
     → Becomes old new (record { node = part; task = K.Enter }) (record { node = node; stage = S.First } ∷ stack_of old)
     → (state : State) → At (around_run old) old.store old.base state
     → Arrives new (give (steps.enters (around_run old) (functions_of old) (part_in (table_of old) part) (steps.waits (around_run old) (functions_of old) (steps.first_frame (around_run old) (functions_of old) (part_in (table_of old) node)) (config_in old)))) state
-awaits-other old new node part holds free stands is entered waits becomes state at =
+awaits-other old new node part holds free finds before stands is entered waits becomes state at =
     let next : Control = record { node = part; task = K.Enter } in
     let frames : List memory_frame.Frame = record { node = node; stage = S.First } ∷ stack_of old in
     let alters = becomes-alters old new next frames holds becomes in
     becomes-arrives old new next frames _ becomes
     (wait-config old new next node S.First alters free tt tt holds stands (expression-waits node is) tt tt
     ∙ ap (λ frame. steps.enters (around_run old) (functions_of old) (part_in (table_of old) part) (steps.waits (around_run old) (functions_of old) frame (config_in old))) (first-waiting (around_run old) (functions_of old) (table_of old) node is))
-    (wait-holds old new next node S.First alters free tt tt holds stands (expression-waits node is) tt tt entered (enter-fits (table_of old) part _ waits) holds.state (subst (λ s. At (around_run old) s old.base holds.state) (sym becomes.store) holds.at)) state at
+    (wait-holds old new next node S.First alters free tt tt holds stands (expression-waits node is) tt tt finds before entered (enter-fits (table_of old) part _ waits) holds.state (subst (λ s. At (around_run old) s old.base holds.state) (sym becomes.store) holds.at)) state at
 
 -- it is a call of a library function
-pub names-call : (old new : RefRun) (node : memory_node.Node) (groups : ℕ) → IsConsistent old → TakesNone old.control.task → NodeStands (table_of old) node → IsLibraryCall node
+pub names-call : (old new : RefRun) (node : memory_node.Node) (groups : ℕ) → IsConsistent old → TakesNone old.control.task → (Awaits (stack_of old) → ⊥) → NodeStands (table_of old) node → IsLibraryCall node
     → Becomes old new (record { node = node; task = K.Library groups }) (stack_of old)
     → (state : State) → At (around_run old) old.store old.base state → Arrives new (give (steps.named_call (around_run old) (functions_of old) (part_in (table_of old) node) groups (config_in old))) state
-names-call old new node groups holds free stands is becomes state at =
+names-call old new node groups holds free unawaited stands is becomes state at =
     let next : Control = record { node = node; task = K.Library groups } in
     let alters = becomes-alters old new next (stack_of old) holds becomes in
     becomes-arrives old new next (stack_of old) (steps.named_call (around_run old) (functions_of old) (part_in (table_of old) node) groups (config_in old)) becomes
     (task-config old new next alters free tt holds ∙ part-named (around_run old) (functions_of old) (part_in (table_of old) node) groups (config_in old))
-    (task-holds old new next alters free tt holds stands is holds.state (subst (λ s. At (around_run old) s old.base holds.state) (sym becomes.store) holds.at)) state at
+    (task-holds old new next alters free tt holds (λ awaits. absurd (unawaited awaits)) stands is holds.state (subst (λ s. At (around_run old) s old.base holds.state) (sym becomes.store) holds.at)) state at

@@ -174,6 +174,7 @@ respent run n holds = record {
   task = holds.task;
   operands = holds.operands;
   frames = holds.frames;
+  found = holds.found;
   within = holds.within;
   calls = holds.calls;
   shallow = holds.shallow;

@@ -16,7 +16,7 @@ use Rattle.ref_meaning.specs.declared.control.Node.TheVariants as N
 use Rattle.ref_meaning.specs.declared.control.Task.TheVariants as K
 use Rattle.ref_meaning.specs.declared.run.RefRun.{RefRun}
 use Rattle.ref_meaning.specs.Views.{table_of, operands_of, config_in, around_run, functions_of, frames_in, operands_after, part_in, task_in}
-use Rattle.ref_meaning.specs.Holding.{NodeStands, TaskFits, ScalarsStand, FramesHold, calls_among}
+use Rattle.ref_meaning.specs.Holding.{NodeStands, TaskFits, ScalarsStand, FramesHold, IsFound, calls_among}
 use Rattle.ref_meaning.specs.Numbers.{number_from, HasNumbers}
 use Rattle.ref_meaning.specs.Running.{StandsFor, reached, behaviour_of}
 use Rattle.ref_meaning.proofs.Numbering.{number-means}
@@ -50,6 +50,7 @@ stands-first run control frames operands base depth program types numbered main 
         task = subst (λ c. TaskFits (table_of run) c.node (length (operands_of run)) c.task) (sym control) tt;
         operands = subst (λ items. ScalarsStand (table_of run) (reverse items)) (sym operands) tt;
         frames = subst (λ items. FramesHold (table_of run) run.base (operands_after run.control.task (operands_of run)) (reverse items)) (sym frames) tt;
+        found = subst (λ items. IsFound (table_of run) run.control (reverse items)) (sym frames) ((λ awaits. absurd awaits), tt);
         within = subst (λ n. n ≤ length run.store.locals.items) (sym base) (omega arith);
         calls = depth ∙ ap (λ items. calls_among (reverse items)) (sym frames);
         shallow = subst (λ n. n ≤ greatest_depth) (sym depth) (omega arith);

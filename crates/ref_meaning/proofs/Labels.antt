@@ -30,7 +30,7 @@ use Rattle.ref_meaning.specs.declared.run.RefRun.{RefRun}
 use Rattle.ref_meaning.specs.declared.run.Halt.{Halt}
 use Rattle.ref_meaning.specs.declared.run.Halt.TheVariants as H
 use Rattle.ref_meaning.specs.Views.{part_in, task_in, frames_in, at_item, stmt_of, case_items_of, case_items_from, config_in, around_run, functions_of, table_of, operands_of, operands_after, stack_of}
-use Rattle.ref_meaning.specs.Holding.{IsConsistent, NodeStands, TaskFits, FramesHold, IsSwitch, HasItems}
+use Rattle.ref_meaning.specs.Holding.{IsConsistent, NodeStands, TaskFits, TaskFinds, Awaits, FramesHold, IsSwitch, HasItems}
 use Rattle.ref_meaning.specs.Items.{ThisCaseItem}
 use Rattle.ref_meaning.specs.Doing.{acting}
 use Rattle.ref_meaning.specs.Moving.{Becomes, IsSame, Moves, Arrives}
@@ -111,6 +111,9 @@ module _ (old : RefRun) (holds : IsConsistent old) (switch : memory_node.Node) (
   pub switch-stands : NodeStands table switch
   switch-stands = subst (λ (c : Control). NodeStands table c.node) control holds.node
 
+  unawaited : Awaits (stack_of old) → ⊥
+  unawaited awaits = subst (λ (c : Control). TaskFinds table c.node c.task) control (holds.found.0 awaits)
+
   frames-are : (config_in old).frames ≡ frames_in table old.store.locals.items old.base (operands_of old) (stack_of old)
   frames-are = ap (λ (c : Control). frames_in table old.store.locals.items old.base (operands_after c.task (operands_of old)) (stack_of old)) control
 
@@ -131,7 +134,7 @@ module _ (old : RefRun) (holds : IsConsistent old) (switch : memory_node.Node) (
 
     found-arrives : Becomes old new found-next found-frames → (state : State) → At (around_run old) old.store old.base state → Arrives new (acting old) state
     found-arrives becomes state at =
-        let holds' = becomes-holds old new found-next found-frames becomes holds holds.node tt (switch-stands, switch-items switch is-switch, tt, tt, frames-hold) holds.calls in
+        let holds' = becomes-holds old new found-next found-frames becomes holds ((λ awaits. absurd awaits), (unawaited, holds.found.1)) holds.node tt (switch-stands, switch-items switch is-switch, tt, tt, frames-hold) holds.calls in
         let config = go_in (around_run old) (functions_of old) (Some (case_items_from from all)) (config_in old) in
         let same : config_in new ≡ config = becomes-config old new found-next found-frames becomes ∙ (λ i. record {
           task = steps.Give (WayGiven Normal);
@@ -152,7 +155,7 @@ module _ (old : RefRun) (holds : IsConsistent old) (switch : memory_node.Node) (
 
     pub on-arrives : Becomes old new on-next (stack_of old) → (state : State) → At (around_run old) old.store old.base state → Arrives new (acting old) state
     on-arrives becomes state at =
-        let holds' = becomes-holds old new on-next (stack_of old) becomes holds switch-stands is-switch frames-hold holds.calls in
+        let holds' = becomes-holds old new on-next (stack_of old) becomes holds (unawaited, holds.found.1) switch-stands is-switch frames-hold holds.calls in
         let config = next_task (around_run old) (functions_of old) (steps.Search value (case_items_from (suc number) all) (at_default later)) (config_in old) in
         let same : config_in new ≡ config = becomes-config old new on-next (stack_of old) becomes ∙ (λ i. record {
           task = steps.Search value (case_items_from (suc number) all) (at_default later);
@@ -179,6 +182,13 @@ module _ (old : RefRun) (value : ℤ) (items : SwitchItems) where
   looks-other here others label default is other =
       ap (λ x. looking x default) is
       ∙ ap (λ (b : Bool). if b then go_in (around_run old) (functions_of old) (Some (T.Case label others)) (config_in old) else next_task (around_run old) (functions_of old) (steps.Search value others default) (config_in old)) other
+
+  -- behind the last it goes on at `default`
+  pub looks-last : (here all : SwitchItems) (known : Option ℕ) (from : ℕ) → here ≡ T.SwitchEnd → known ≡ Some from
+      → looking here (option_map (λ n. case_items_from n all) known) ≡ go_in (around_run old) (functions_of old) (Some (case_items_from from all)) (config_in old)
+  looks-last here all known from is found =
+      ap (λ x. looking x (option_map (λ n. case_items_from n all) known)) is
+      ∙ ap (λ n. go_in (around_run old) (functions_of old) (option_map (λ n. case_items_from n all) n) (config_in old)) found
 
   pub looks-default : (here others : SwitchItems) (default : Option SwitchItems) → here ≡ T.Default others
       → looking here default ≡ next_task (around_run old) (functions_of old) (steps.Search value others (first_of default (Some here))) (config_in old)

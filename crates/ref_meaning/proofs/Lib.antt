@@ -8,6 +8,7 @@ pub mod Both
 pub mod Called
 pub mod Entering
 pub mod Initial
+pub mod Finding
 pub mod Firsts
 pub mod Going
 pub mod Handing
@@ -18,6 +19,7 @@ pub mod Moves
 pub mod Nexts
 pub mod Numbered
 pub mod Numbering
+pub mod Performing
 pub mod Performs
 pub mod Placing
 pub mod Stepping

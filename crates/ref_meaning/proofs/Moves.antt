@@ -30,7 +30,7 @@ use Rattle.ref_meaning.specs.declared.run.RefRun.{RefRun}
 use Rattle.ref_meaning.specs.declared.run.Halt.{Halt}
 use Rattle.ref_meaning.specs.declared.run.Halt.TheVariants as H
 use Rattle.ref_meaning.specs.Views.{config_in, around_run, functions_of, table_of, operands_of, stack_of, operands_after, operands_behind, base_behind, function_of, part_in, task_in, frame_in, frames_in}
-use Rattle.ref_meaning.specs.Holding.{IsConsistent, NodeStands, Fits, StageStands, HasRoom, TaskFits, FramesHold, ScalarsStand, calls_in, calls_among}
+use Rattle.ref_meaning.specs.Holding.{IsConsistent, NodeStands, Fits, StageStands, HasRoom, TaskFits, FramesHold, ScalarsStand, AwaitsAt, Awaits, FindsAt, FramesFind, TaskFinds, IsFound, calls_in, calls_among}
 use Rattle.ref_meaning.specs.Doing.{TakesNone, IsInnermost, innermost, popped, without_first}
 use Rattle.ref_meaning.specs.Moving.{IsKept, Becomes, IsSame, Arrives, IsOver, Stays, Moves, halt_of}
 
@@ -48,12 +48,12 @@ becomes-config old new next frames becomes = λ i. record {
 }
 
 -- a run of the same program with the same types holds where what is its own does
-pub kept-holds : (old new : RefRun) → IsKept old new → new.store.types ≡ old.store.types → IsConsistent old
+pub kept-holds : (old new : RefRun) → IsKept old new → new.store.types ≡ old.store.types → IsConsistent old → IsFound (table_of new) new.control (stack_of new)
     → NodeStands (table_of new) new.control.node → TaskFits (table_of new) new.control.node (length (operands_of new)) new.control.task
     → ScalarsStand (table_of new) (operands_of new) → FramesHold (table_of new) new.base (operands_after new.control.task (operands_of new)) (stack_of new)
     → new.base ≤ length new.store.locals.items → new.depth ≡ calls_among (stack_of new) → new.depth ≤ greatest_depth
     → (state : State) → At (around_run new) new.store new.base state → IsConsistent new
-kept-holds old new kept types holds node task operands frames within calls shallow state at = record {
+kept-holds old new kept types holds found node task operands frames within calls shallow state at = record {
   program = subst (λ p. ProgramFits p.now) (sym kept.program) holds.program;
   types = ap (λ t. t.now) types ∙ (holds.types ∙ sym (ap (λ p. p.now.types) kept.program));
   numbered = λ name.
@@ -64,6 +64,7 @@ kept-holds old new kept types holds node task operands frames within calls shall
   task = task;
   operands = operands;
   frames = frames;
+  found = found;
   within = within;
   calls = calls;
   shallow = shallow;
@@ -81,11 +82,12 @@ becomes-at old new next frames becomes state at =
     (subst (λ store. At (around_run old) store new.base state) (sym becomes.store) (subst (λ base. At (around_run old) old.store base state) (sym becomes.base) at))
 
 -- it holds where what is next and what waits do
-pub becomes-holds : (old new : RefRun) (next : Control) (frames : List memory_frame.Frame) → Becomes old new next frames → IsConsistent old
+pub becomes-holds : (old new : RefRun) (next : Control) (frames : List memory_frame.Frame) → Becomes old new next frames → IsConsistent old → IsFound (table_of old) next frames
     → NodeStands (table_of old) next.node → TaskFits (table_of old) next.node (length (operands_of old)) next.task
     → FramesHold (table_of old) old.base (operands_after next.task (operands_of old)) frames → old.depth ≡ calls_among frames → IsConsistent new
-becomes-holds old new next frames becomes holds node task waiting calls =
+becomes-holds old new next frames becomes holds found node task waiting calls =
     kept-holds old new becomes.kept (ap (λ s. s.types) becomes.store) holds
+    (subst (λ s. IsFound s.types.now new.control (stack_of new)) (sym becomes.store) (subst (λ c. IsFound (table_of old) c (stack_of new)) (sym becomes.control) (subst (λ f. IsFound (table_of old) next f) (sym becomes.stack) found)))
     (subst (λ s. NodeStands s.types.now new.control.node) (sym becomes.store) (subst (λ c. NodeStands (table_of old) c.node) (sym becomes.control) node))
     (subst (λ s. TaskFits s.types.now new.control.node (length (operands_of new)) new.control.task) (sym becomes.store)
     (subst (λ c. TaskFits (table_of old) c.node (length (operands_of new)) c.task) (sym becomes.control)
@@ -118,7 +120,7 @@ pub same-stays : (old new : RefRun) → Becomes old new old.control (stack_of ol
 same-stays old new same holds = record {
   same = becomes-config old new old.control (stack_of old) same;
   at = λ state at. becomes-at old new old.control (stack_of old) same state at;
-  holds = becomes-holds old new old.control (stack_of old) same holds holds.node holds.task holds.frames holds.calls;
+  holds = becomes-holds old new old.control (stack_of old) same holds holds.found holds.node holds.task holds.frames holds.calls;
 }
 
 -- ---- what is kept
@@ -213,12 +215,13 @@ at-new old new mid kept store base state at =
     subst (λ around. At around new.store new.base state) (sym (same-around old new kept))
     (subst (λ s. At (around_run old) s new.base state) (sym store) (subst (λ b. At (around_run old) mid b state) (sym base) at))
 
-pub alters-holds : (old new : RefRun) (next : Control) (frames : List memory_frame.Frame) → Alters old new next frames → IsConsistent old
+pub alters-holds : (old new : RefRun) (next : Control) (frames : List memory_frame.Frame) → Alters old new next frames → IsConsistent old → IsFound (table_of old) next frames
     → NodeStands (table_of old) next.node → TaskFits (table_of old) next.node (length (operands_of old)) next.task
     → FramesHold (table_of old) old.base (operands_after next.task (operands_of old)) frames → old.depth ≡ calls_among frames
     → (state : State) → At (around_run old) new.store old.base state → IsConsistent new
-alters-holds old new next frames alters holds node task waiting calls state at =
+alters-holds old new next frames alters holds found node task waiting calls state at =
     kept-holds old new alters.kept alters.types holds
+    (subst (λ t. IsFound t.now new.control (stack_of new)) (sym alters.types) (subst (λ c. IsFound (table_of old) c (stack_of new)) (sym alters.control) (subst (λ f. IsFound (table_of old) next f) (sym alters.stack) found)))
     (subst (λ t. NodeStands t.now new.control.node) (sym alters.types) (subst (λ c. NodeStands (table_of old) c.node) (sym alters.control) node))
     (subst (λ t. TaskFits t.now new.control.node (length (operands_of new)) new.control.task) (sym alters.types)
     (subst (λ c. TaskFits (table_of old) c.node (length (operands_of new)) c.task) (sym alters.control)
@@ -255,7 +258,7 @@ pub alters-stays : (old new : RefRun) → Alters old new old.control (stack_of o
 alters-stays old new alters holds keeps = record {
   same = alters-config old new old.control (stack_of old) alters holds.frames;
   at = λ state at. at-new old new new.store alters.kept refl alters.base state (keeps state at);
-  holds = alters-holds old new old.control (stack_of old) alters holds holds.node holds.task holds.frames holds.calls holds.state (keeps holds.state holds.at);
+  holds = alters-holds old new old.control (stack_of old) alters holds holds.found holds.node holds.task holds.frames holds.calls holds.state (keeps holds.state holds.at);
 }
 
 -- what `?` hands on of a call on the store
@@ -330,6 +333,10 @@ innermost-hold run top part stage free waits holds = subst (FramesHold (table_of
 pub innermost-calls : (run : RefRun) (top : ℕ) (part : Part) (stage : memory_stage.Stage) (waits : IsInnermost run top part stage) → IsConsistent run → run.depth ≡ calls_in stage (calls_among waits.others)
 innermost-calls run top part stage waits holds = holds.calls ∙ ap calls_among waits.stack
 
+-- what is behind it is found
+pub behind-found : (run : RefRun) (top : ℕ) (part : Part) (stage : memory_stage.Stage) (waits : IsInnermost run top part stage) → IsConsistent run → (Awaits waits.others → FindsAt waits.node stage) × FramesFind waits.others
+behind-found run top part stage waits holds = subst FramesFind waits.stack holds.found.1
+
 -- what is behind a plain one
 pub plain-frames : (run : RefRun) (stage : memory_stage.Stage) (others : List memory_frame.Frame) → IsPlain stage → behind_frames run stage others ≡ frames_in (table_of run) run.store.locals.items run.base (operands_of run) others
 plain-frames run stage others plain = λ i. frames_in (table_of run) run.store.locals.items (plain-base stage run.base plain i) (plain-operands stage (operands_of run) plain i) others
@@ -376,9 +383,10 @@ task-config old new next alters free freed holds =
     same = ap (λ o. frames_in (table_of old) old.store.locals.items old.base o (stack_of old)) (takes-none next.task (operands_of old) freed) ∙ sym (all-frames old free)
 
 pub task-holds : (old new : RefRun) (next : Control) → Alters old new next (stack_of old) → TakesNone old.control.task → TakesNone next.task → IsConsistent old
+    → (Awaits (stack_of old) → TaskFinds (table_of old) next.node next.task)
     → NodeStands (table_of old) next.node → TaskFits (table_of old) next.node (length (operands_of old)) next.task → (state : State) → At (around_run old) new.store old.base state → IsConsistent new
-task-holds old new next alters free freed holds node task state at =
-    alters-holds old new next (stack_of old) alters holds node task (free-hold old next.task (stack_of old) freed (all-hold old free holds)) holds.calls state at
+task-holds old new next alters free freed holds finds node task state at =
+    alters-holds old new next (stack_of old) alters holds (finds, holds.found.1) node task (free-hold old next.task (stack_of old) freed (all-hold old free holds)) holds.calls state at
 
 -- it does this next, and one more waits
 pub wait-config : (old new : RefRun) (next : Control) (node : memory_node.Node) (stage : memory_stage.Stage) → Alters old new next (record { node = node; stage = stage } ∷ stack_of old)
@@ -392,9 +400,10 @@ wait-config old new next node stage alters free freed plain holds stands fits st
 pub wait-holds : (old new : RefRun) (next : Control) (node : memory_node.Node) (stage : memory_stage.Stage) → Alters old new next (record { node = node; stage = stage } ∷ stack_of old)
     → TakesNone old.control.task → TakesNone next.task → IsPlain stage → IsConsistent old
     → NodeStands (table_of old) node → Fits node stage → StageStands (table_of old) stage → HasRoom stage old.base (length (operands_of old))
+    → (AwaitsAt node stage → TaskFinds (table_of old) next.node next.task) → (Awaits (stack_of old) → FindsAt node stage)
     → NodeStands (table_of old) next.node → TaskFits (table_of old) next.node (length (operands_of old)) next.task → (state : State) → At (around_run old) new.store old.base state → IsConsistent new
-wait-holds old new next node stage alters free freed plain holds stands fits staged room entered task state at =
-    alters-holds old new next (record { node = node; stage = stage } ∷ stack_of old) alters holds entered task
+wait-holds old new next node stage alters free freed plain holds stands fits staged room finds before entered task state at =
+    alters-holds old new next (record { node = node; stage = stage } ∷ stack_of old) alters holds (finds, (before, holds.found.1)) entered task
     (free-hold old next.task (record { node = node; stage = stage } ∷ stack_of old) freed (wait-hold old node stage (stack_of old) plain stands fits staged room (all-hold old free holds)))
     (holds.calls ∙ sym (plain-calls stage (calls_among (stack_of old)) plain)) state at
 
@@ -410,9 +419,10 @@ done-config old new next top part stage waits alters free freed plain holds =
 
 pub done-holds : (old new : RefRun) (next : Control) (top : ℕ) (part : Part) (stage : memory_stage.Stage) (waits : IsInnermost old top part stage) → Alters old new next waits.others
     → TakesNone old.control.task → TakesNone next.task → IsPlain stage → IsConsistent old
+    → (Awaits waits.others → TaskFinds (table_of old) next.node next.task)
     → NodeStands (table_of old) next.node → TaskFits (table_of old) next.node (length (operands_of old)) next.task → (state : State) → At (around_run old) new.store old.base state → IsConsistent new
-done-holds old new next top part stage waits alters free freed plain holds node task state at =
-    alters-holds old new next waits.others alters holds node task (free-hold old next.task waits.others freed (plain-hold old top part stage free plain waits holds)) (plain-depth old top part stage plain waits holds) state at
+done-holds old new next top part stage waits alters free freed plain holds finds node task state at =
+    alters-holds old new next waits.others alters holds (finds, (behind-found old top part stage waits holds).1) node task (free-hold old next.task waits.others freed (plain-hold old top part stage free plain waits holds)) (plain-depth old top part stage plain waits holds) state at
 
 -- it does this next, and the innermost comes to another stage
 pub stage-config : (old new : RefRun) (next : Control) (top : ℕ) (part : Part) (stage : memory_stage.Stage) (waits : IsInnermost old top part stage) (node : memory_node.Node) (later : memory_stage.Stage)
@@ -429,9 +439,10 @@ stage-config old new next top part stage waits node later alters free freed plai
 pub stage-holds : (old new : RefRun) (next : Control) (top : ℕ) (part : Part) (stage : memory_stage.Stage) (waits : IsInnermost old top part stage) (node : memory_node.Node) (later : memory_stage.Stage)
     → Alters old new next (record { node = node; stage = later } ∷ waits.others) → TakesNone old.control.task → TakesNone next.task → IsPlain stage → IsPlain later → IsConsistent old
     → NodeStands (table_of old) node → Fits node later → StageStands (table_of old) later → HasRoom later old.base (length (operands_of old))
+    → (AwaitsAt node later → TaskFinds (table_of old) next.node next.task) → (Awaits waits.others → FindsAt node later)
     → NodeStands (table_of old) next.node → TaskFits (table_of old) next.node (length (operands_of old)) next.task → (state : State) → At (around_run old) new.store old.base state → IsConsistent new
-stage-holds old new next top part stage waits node later alters free freed plain plainly holds stands fits staged room entered task state at =
-    alters-holds old new next (record { node = node; stage = later } ∷ waits.others) alters holds entered task
+stage-holds old new next top part stage waits node later alters free freed plain plainly holds stands fits staged room finds before entered task state at =
+    alters-holds old new next (record { node = node; stage = later } ∷ waits.others) alters holds (finds, (before, (behind-found old top part stage waits holds).1)) entered task
     (free-hold old next.task (record { node = node; stage = later } ∷ waits.others) freed (wait-hold old node later waits.others plainly stands fits staged room (plain-hold old top part stage free plain waits holds)))
     (plain-depth old top part stage plain waits holds ∙ sym (plain-calls later (calls_among waits.others) plainly)) state at
 

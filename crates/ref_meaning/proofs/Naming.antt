@@ -20,7 +20,7 @@ use Rattle.ref_meaning.specs.declared.run.RefRun.{RefRun}
 use Rattle.ref_meaning.specs.declared.run.Halt.{Halt}
 use Rattle.ref_meaning.specs.declared.run.Halt.TheVariants as H
 use Rattle.ref_meaning.specs.Views.{config_in, around_run, functions_of, table_of, operands_of, operands_after, stack_of, part_in, value_of, callee_of, named_call, task_in, frames_in}
-use Rattle.ref_meaning.specs.Holding.{IsConsistent, NodeStands, TaskFits, FramesHold, IsCall, IsLibraryCall}
+use Rattle.ref_meaning.specs.Holding.{IsConsistent, NodeStands, TaskFits, TaskFinds, FramesHold, IsCall, IsLibraryCall}
 use Rattle.ref_meaning.specs.Doing.{acting}
 use Rattle.ref_meaning.specs.Moving.{Becomes, IsSame, Arrives, Moves}
 use Rattle.ref_meaning.specs.Calling.{IsArgument, arguments_in}
@@ -69,6 +69,7 @@ first-moves old new call first groups result holds is_control is_last argument s
     (goes-arrives old new call M.Null 0 (stack_of old) (operands_of old) (config_in old) old.operands refl (record { next = Some first; is = argument; stands = stands; goes = becomes }) holds
     (subst (λ (c : Control). NodeStands (table_of old) c.node) is_control holds.node) (library-call call library) tt holds.operands (omega arith)
     (subst (λ (c : Control). FramesHold (table_of old) old.base (operands_after c.task (operands_of old)) (stack_of old)) is_control holds.frames) holds.calls
+    ((λ awaits. subst (λ (c : Control). TaskFinds (table_of old) c.node c.task) is_control (holds.found.0 awaits)), holds.found.1)
     (ap (λ (c : Control). record (config_in old) { frames = frames_in (table_of old) old.store.locals.items old.base (operands_after c.task (operands_of old)) (stack_of old) }) is_control)
     state at))
   where

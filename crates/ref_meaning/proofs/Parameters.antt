@@ -25,7 +25,7 @@ use Rattle.ref_meaning.specs.declared.run.Halt.{Halt}
 use Rattle.ref_meaning.specs.declared.run.Halt.TheVariants as H
 use Rattle.ref_meaning.specs.declared.run.RefRun.{RefRun}
 use Rattle.ref_meaning.specs.Views.{config_in, around_run, functions_of, table_of, operands_of, operands_after, stack_of, part_in, task_in, frames_in, function_of, newest}
-use Rattle.ref_meaning.specs.Holding.{IsConsistent, NodeStands, TaskFits, ScalarsStand, FramesHold, IsBody}
+use Rattle.ref_meaning.specs.Holding.{IsConsistent, NodeStands, TaskFits, TaskFinds, Awaits, ScalarsStand, FramesHold, IsBody}
 use Rattle.ref_meaning.specs.Doing.{acting}
 use Rattle.ref_meaning.specs.Moving.{Moves, Becomes, Arrives}
 use Rattle.ref_meaning.proofs.Binding.{last-taken, drop-there, get-dropped, get-mapped, bound-types, bound-given}
@@ -130,6 +130,9 @@ module _ (old : RefRun) (node : memory_node.Node) (count number : ℕ) (is : old
   pub bind-after : operands_after old.control.task (operands_of old) ≡ drop count (operands_of old)
   bind-after = ap (λ control. operands_after control.task (operands_of old)) is
 
+  pub unawaited : Awaits (stack_of old) → ⊥
+  unawaited awaits = subst (λ control. TaskFinds (table_of old) control.node control.task) is (holds.found.0 awaits)
+
   -- the body is entered
   abbrev entering : Config
   entering = record (config_in old) { task = steps.Enter (part_in (table_of old) node) }
@@ -179,7 +182,7 @@ module _ (old : RefRun) (node : memory_node.Node) (count number : ℕ) (is : old
     new-holds : IsConsistent new
     new-holds =
         let came = comes holds.state holds.at in
-        alters-holds old new next (stack_of old) alters holds bind-node bind-fits waiting holds.calls came.after
+        alters-holds old new next (stack_of old) alters holds (unawaited, holds.found.1) bind-node bind-fits waiting holds.calls came.after
         (subst (λ s. At (around_run old) s old.base came.after) (sym becomes.store) came.at)
 
     pub binds : (state : State) → At (around_run old) old.store old.base state → Arrives new (acting old) state

@@ -28,10 +28,10 @@ use Rattle.ref_meaning.specs.Views.{part_in, given_in, loop_of, case_items_of, b
 use Rattle.ref_meaning.specs.Holding.{IsConsistent, NodeStands, GivenStands, TaskFits, IsLoop, IsSwitch, IsTurning}
 use Rattle.ref_meaning.specs.Doing.{TakesNone, IsInnermost, popped, taking, turning, beginning_turn}
 use Rattle.ref_meaning.specs.Moving.{Becomes, Moves, Arrives}
-use Rattle.ref_meaning.proofs.Behind.{Behind, popped-behind, pushed-behind, arrives-so, moves-given, moves-enters, WaitsAsLoop, waits-as-loop}
+use Rattle.ref_meaning.proofs.Behind.{Behind, IsStmtPart, stmt-unfound, popped-behind, pushed-behind, arrives-so, moves-given, moves-enters, WaitsAsLoop, waits-as-loop}
 
 value-behind : (old : RefRun) (top : ℕ) (stmt : Bor memory_stmt.Stmt) → IsConsistent old → TakesNone old.control.task → (on : IsInnermost old top (StmtPart (stmt_in (table_of old) stmt.now)) S.First) → Behind old on.others (popped (config_in old))
-value-behind old top stmt holds free on = popped-behind old (record { node = on.node; stage = S.First }) on.others holds free on.stack tt
+value-behind old top stmt holds free on = popped-behind old (record { node = on.node; stage = S.First }) on.others holds free on.stack tt (stmt-unfound (table_of old) on.node S.First (subst IsStmtPart (sym on.is) tt))
 
 pub value-given : (old new : RefRun) (top : ℕ) (stmt : Bor memory_stmt.Stmt) (m : memory_stmt.Stmt) (given : memory_given.Given) (a : Scalar) (result : Result (Unit {0}) Halt) → stmt.now ≡ m
     → (on : IsInnermost old top (StmtPart (stmt_in (table_of old) stmt.now)) S.First) → Becomes old new (record { node = old.control.node; task = K.Give given }) on.others → IsOk result
@@ -102,7 +102,7 @@ value-searches old mid top stmt m z a is on becomes holds free stands turns is_s
     })) ∙ (so ∙ ap (λ s. taking old (waiting (StmtPart (stmt_in (table_of old) s))) (ScalarGiven a)) (sym is)))
     (arrives-so old new next (record { node = N.Stmt stmt; stage = S.Turn } ∷ on.others)
     (record (popped (config_in old)) { frames = behind_body (StmtPart (stmt_in (table_of old) stmt.now)) ∷ (popped (config_in old)).frames }) holds
-    (pushed-behind old on.others (popped (config_in old)) (N.Stmt stmt) S.Turn (value-behind old top stmt holds free on) tt stands (subst (λ s. IsTurning (N.Stmt (record stmt { now = s }))) (sym is) turns) tt tt)
+    (pushed-behind old on.others (popped (config_in old)) (N.Stmt stmt) S.Turn (value-behind old top stmt holds free on) tt (λ is. is) stands (subst (λ s. IsTurning (N.Stmt (record stmt { now = s }))) (sym is) turns) tt tt)
     tt stands (subst (λ s. IsSwitch (N.Stmt (record stmt { now = s }))) (sym is) is_switch)
     (record {
       kept = record { program = becomes.kept.program; functions = becomes.kept.functions; main = becomes.kept.main; spent = becomes.kept.spent };

@@ -28,10 +28,10 @@ use Rattle.ref_meaning.specs.declared.control.Completion as memory_completion
 use Rattle.ref_meaning.specs.declared.control.Completion.TheVariants as W
 use Rattle.ref_meaning.specs.declared.run.RefRun.{RefRun}
 use Rattle.ref_meaning.specs.Views.{config_in, around_run, functions_of, table_of, operands_of, part_in, completion_in, function_of, own_locals, frames_in}
-use Rattle.ref_meaning.specs.Holding.{IsConsistent, NodeStands, Fits, StageStands, HasRoom, FramesHold, CompletionStands, IsBody, calls_among}
+use Rattle.ref_meaning.specs.Holding.{IsConsistent, NodeStands, Fits, StageStands, HasRoom, FramesHold, Awaits, FramesFind, CompletionStands, IsBody, calls_among}
 use Rattle.ref_meaning.specs.Doing.{TakesNone, IsInnermost, innermost, popped, taking}
 use Rattle.ref_meaning.specs.Moving.{Becomes, Arrives, IsOver}
-use Rattle.ref_meaning.proofs.Moves.{innermost-popped, innermost-hold, innermost-calls, frames-front, same-around}
+use Rattle.ref_meaning.proofs.Moves.{innermost-popped, innermost-hold, innermost-calls, behind-found, frames-front, same-around}
 use Rattle.ref_meaning.proofs.Turns.{Turns, turns-config, turns-holds}
 
 -- ---- what is returned
@@ -208,6 +208,9 @@ module _ (old : RefRun) (node : memory_node.Node) (is_used : Bool) (here : Pos) 
         × FramesHold (table_of old) base (operands_of old) waits.others
     behind = innermost-hold old top (part_in (table_of old) node) (S.Call is_used here base) free waits holds
 
+    found : (Awaits waits.others → ⊥) × FramesFind waits.others
+    found = behind-found old top (part_in (table_of old) node) (S.Call is_used here base) waits holds
+
     room : base ≤ old.base
     room = behind.3
 
@@ -244,7 +247,7 @@ module _ (old : RefRun) (node : memory_node.Node) (is_used : Bool) (here : Pos) 
 
     new-holds : IsConsistent new
     new-holds =
-        turns-holds old new _ waits.others (operands_of old) base (old.depth - 1) turns holds holds.node used.1 holds.operands behind.4
+        turns-holds old new _ waits.others (operands_of old) base (old.depth - 1) turns holds ((λ awaits. absurd (found.0 awaits)), found.1) holds.node used.1 holds.operands behind.4
         (subst (λ s. base ≤ length s.locals.items) (sym becomes.store) (back-within old mid base room leaves locals holds.within))
         (omega (arith, calls)) (omega (arith, holds.shallow)) (back old base holds.state) (new-at holds.state holds.at)
 

@@ -9,7 +9,7 @@ use Rattle.ref_meaning.specs.declared.control.Control.{Control}
 use Rattle.ref_meaning.specs.declared.control.Frame as memory_frame
 use Rattle.ref_meaning.specs.declared.run.RefRun.{RefRun}
 use Rattle.ref_meaning.specs.Views.{config_in, around_run, table_of, operands_of, stack_of, operands_after, part_in, task_in, frames_in}
-use Rattle.ref_meaning.specs.Holding.{IsConsistent, NodeStands, TaskFits, FramesHold, ScalarsStand, calls_among}
+use Rattle.ref_meaning.specs.Holding.{IsConsistent, NodeStands, TaskFits, FramesHold, ScalarsStand, IsFound, calls_among}
 use Rattle.ref_meaning.specs.Moving.{IsKept, Arrives}
 use Rattle.ref_meaning.proofs.Moves.{kept-holds, same-around, at-new}
 
@@ -35,11 +35,12 @@ module _ (old new : RefRun) (next : Control) (frames : List memory_frame.Frame) 
     depth = greatest_depth - turns.nested i;
   }
 
-  pub turns-holds : IsConsistent old → NodeStands (table_of old) next.node → TaskFits (table_of old) next.node (length operands) next.task → ScalarsStand (table_of old) operands
+  pub turns-holds : IsConsistent old → IsFound (table_of old) next frames → NodeStands (table_of old) next.node → TaskFits (table_of old) next.node (length operands) next.task → ScalarsStand (table_of old) operands
       → FramesHold (table_of old) base (operands_after next.task operands) frames → base ≤ length new.store.locals.items → depth ≡ calls_among frames → depth ≤ greatest_depth
       → (state : State) → At (around_run old) new.store base state → IsConsistent new
-  turns-holds holds node task scalars waiting within calls shallow state at =
+  turns-holds holds found node task scalars waiting within calls shallow state at =
       kept-holds old new turns.kept turns.types holds
+      (subst (λ t. IsFound t.now new.control (stack_of new)) (sym turns.types) (subst (λ c. IsFound (table_of old) c (stack_of new)) (sym turns.control) (subst (λ f. IsFound (table_of old) next f) (sym turns.stack) found)))
       (subst (λ t. NodeStands t.now new.control.node) (sym turns.types) (subst (λ c. NodeStands (table_of old) c.node) (sym turns.control) node))
       (subst (λ t. TaskFits t.now new.control.node (length (operands_of new)) new.control.task) (sym turns.types)
       (subst (λ c. TaskFits (table_of old) c.node (length (operands_of new)) c.task) (sym turns.control)

@@ -1,5 +1,5 @@
 -- What is done next, from the configuration of a run.
-use Rattle.std.specs.Prelude.{◌≡◌, ℕ, suc, List, [], ◌∷◌, length}
+use Rattle.std.specs.Prelude.{◌≡◌, ℕ, suc, true, false, List, [], ◌∷◌, length}
 use Rattle.c_typed.specs.declared.typed.Value as memory_value
 use Rattle.c_typed.specs.declared.typed.Value.TheVariants as V
 use Rattle.c_typed.specs.Typed as T
@@ -28,7 +28,7 @@ use Rattle.ref_meaning.specs.declared.first.Role as memory_role
 use Rattle.ref_meaning.specs.declared.first.Role.TheVariants as O
 use Rattle.ref_meaning.specs.declared.run.RefRun.{RefRun}
 use Rattle.ref_meaning.specs.Views.{part_in, value_of, loop_of, frame_in, table_of, operands_of, stack_of, around_run, functions_of, config_in}
-use Rattle.ref_meaning.specs.Holding.{NodeStands, Waits, IsLibraryCall}
+use Rattle.ref_meaning.specs.Holding.{NodeStands, Waits, IsLibraryCall, IsObject, IsBehindFirst, IsBehindBoth, PointsToElement}
 
 -- ---- entries and what follows a first operand
 
@@ -37,6 +37,20 @@ EntryStands table node (E.Give a) = ScalarStands table a
 EntryStands table node (E.Enter part waits) = NodeStands table part × Waits part
 EntryStands table node (E.Library groups) = IsLibraryCall node
 EntryStands table node _ = Unit {0}
+
+-- the entry of an object comes to an element
+abbrev pub EntryFinds : Interned → memory_node.Node → memory_entry.Entry → Type 0
+EntryFinds table node (E.Give a) = PointsToElement table a
+EntryFinds table node (E.Local number) = Unit {0}
+EntryFinds table node (E.Named name) = Unit {0}
+EntryFinds table node (E.Enter part true) = IsBehindFirst node
+EntryFinds table node (E.Enter part false) = IsObject part
+EntryFinds table node (E.Library groups) = ⊥
+
+-- it enters an object
+abbrev pub EntersObject : memory_entry.Entry → Type 0
+EntersObject (E.Enter part true) = IsObject part
+EntersObject _ = ⊥
 
 -- it enters another, and waits for that
 abbrev pub IsAwaited : parts.Entry → Type 0
@@ -84,6 +98,12 @@ abbrev pub body_in : Loop → Stmt
 body_in (steps.WhileLoop condition body) = body
 body_in (steps.DoLoop body condition) = body
 body_in (steps.ForLoop condition step body) = body
+
+-- what is done once its first operand is known comes to an element
+abbrev pub NextFinds : Interned → memory_node.Node → memory_next.Next → Type 0
+NextFinds table node (X.Given a) = PointsToElement table a
+NextFinds table node (X.Enter part O.Second) = IsBehindBoth node
+NextFinds table node (X.Enter part _) = ⊥
 
 -- ---- the innermost
 

@@ -3,6 +3,8 @@ use Rattle.std.specs.Prelude.{◌≡◌, ℕ, suc, ◌≤◌, List, [], ◌∷�
 use Rattle.indexmap.specs.IndexMap.{get_by}
 use Rattle.c_typed.specs.declared.typed.Value.TheVariants as V
 use Rattle.c_typed.specs.declared.typed.Value as memory_value
+use Rattle.c_typed.specs.declared.typed.Object as memory_object
+use Rattle.c_typed.specs.declared.typed.Object.TheVariants as O
 use Rattle.c_typed.specs.declared.statement.Stmt as memory_stmt
 use Rattle.c_typed.specs.declared.statement.Stmt.TheVariants as M
 use Rattle.c_typed.specs.Table.{Interned}
@@ -10,8 +12,10 @@ use Rattle.ref_meaning.specs.Trees.{ValueFits, ObjectFits, DesignatorFits, StmtF
 use Rattle.ref_semantics.specs.Meaning.{function_from, greatest_depth}
 use Rattle.ref_semantics.specs.Store.{State}
 use Rattle.ref_store.specs.declared.value.Scalar as memory_scalar
-use Rattle.ref_store.specs.Views.{ScalarStands, PlaceStands}
+use Rattle.ref_store.specs.declared.value.Scalar.TheVariants as A
+use Rattle.ref_store.specs.Views.{ScalarStands, PlaceStands, IsElement}
 use Rattle.ref_store.specs.Holding.{At}
+use Rattle.ref_meaning.specs.declared.control.Control.{Control}
 use Rattle.ref_meaning.specs.declared.control.Node as memory_node
 use Rattle.ref_meaning.specs.declared.control.Node.TheVariants as N
 use Rattle.ref_meaning.specs.declared.control.Completion as memory_completion
@@ -67,6 +71,53 @@ IsLibraryCall (N.Value v) = by v.now
     by (V.LibraryCall' function groups place shape arguments) = Unit {0}
     by _ = ⊥
 IsLibraryCall _ = ⊥
+
+abbrev pub IsObject : memory_node.Node → Type 0
+IsObject (N.Object object) = Unit {0}
+IsObject _ = ⊥
+
+abbrev pub IsMember : memory_object.Object → Type 0
+IsMember (O.MemberOf' place p object number) = Unit {0}
+IsMember _ = ⊥
+
+-- it works on what an object is found as: an array that decays, or a member
+abbrev pub IsPlaced : memory_node.Node → Type 0
+IsPlaced (N.Value v) = by v.now
+  where
+    by : memory_value.Value → Type 0
+    by (V.Decay' place p object) = Unit {0}
+    by _ = ⊥
+IsPlaced (N.Object object) = IsMember object.now
+IsPlaced (N.Address object) = IsMember object.now
+IsPlaced _ = ⊥
+
+-- an object that is found once its first operand is known, or the next one
+abbrev pub IsBehindFirst : memory_node.Node → Type 0
+IsBehindFirst (N.Object object) = by object.now
+  where
+    by : memory_object.Object → Type 0
+    by (O.Pointed' place p pointer) = Unit {0}
+    by (O.Element' place p pointer q number) = Unit {0}
+    by (O.ElementOf' place p number q pointer) = Unit {0}
+    by (O.MemberOf' place p object number) = Unit {0}
+    by (O.PointedMember' place p pointer number) = Unit {0}
+    by _ = ⊥
+IsBehindFirst _ = ⊥
+
+-- an object that is found once both operands are known
+abbrev pub IsBehindBoth : memory_node.Node → Type 0
+IsBehindBoth (N.Object object) = by object.now
+  where
+    by : memory_object.Object → Type 0
+    by (O.Element' place p pointer q number) = Unit {0}
+    by (O.ElementOf' place p number q pointer) = Unit {0}
+    by _ = ⊥
+IsBehindBoth _ = ⊥
+
+-- a pointer to an element
+abbrev pub PointsToElement : Interned → memory_scalar.Scalar → Type 0
+PointsToElement table (A.Pointer place) = IsElement table place
+PointsToElement table _ = ⊥
 
 abbrev pub IsBody : memory_node.Node → Type 0
 IsBody (N.Body function) = Unit {0}
@@ -172,6 +223,41 @@ TaskFits table node operands (K.Over final) = Unit {0}
 abbrev pub AreNumbered : RefRun → Type 0
 AreNumbered run = (name : List ℕ) → get_by (λ key. bytes_eq name key.now) run.functions ≡ option_map (λ found. found.0) (function_from 0 (functions_of run) name)
 
+-- ---- what is found as an object is an element
+
+-- it awaits what an object is found as
+abbrev pub AwaitsAt : memory_node.Node → memory_stage.Stage → Type 0
+AwaitsAt node S.First = IsPlaced node
+AwaitsAt node _ = ⊥
+
+abbrev pub Awaits : List memory_frame.Frame → Type 0
+Awaits [] = ⊥
+Awaits (frame ∷ frames) = AwaitsAt frame.node frame.stage
+
+-- an object that waits for an operand, and then is found
+abbrev pub FindsAt : memory_node.Node → memory_stage.Stage → Type 0
+FindsAt node S.First = IsBehindFirst node
+FindsAt node (S.Second a) = IsBehindBoth node
+FindsAt node _ = ⊥
+
+abbrev pub FramesFind : List memory_frame.Frame → Type 0
+FramesFind [] = Unit {0}
+FramesFind (frame ∷ frames) = (Awaits frames → FindsAt frame.node frame.stage) × FramesFind frames
+
+abbrev pub GivenFinds : Interned → memory_given.Given → Type 0
+GivenFinds table (G.Scalar a) = PointsToElement table a
+GivenFinds table (G.Completion way) = ⊥
+
+-- what is done next finds an object
+abbrev pub TaskFinds : Interned → memory_node.Node → memory_task.Task → Type 0
+TaskFinds table node K.Enter = IsObject node
+TaskFinds table node (K.Give given) = GivenFinds table given
+TaskFinds table node _ = ⊥
+
+-- where what is found as an object is awaited, an object is being evaluated
+abbrev pub IsFound : Interned → Control → List memory_frame.Frame → Type 0
+IsFound table control frames = (Awaits frames → TaskFinds table control.node control.task) × FramesFind frames
+
 pub record IsConsistent (run : RefRun) : Type 0 where
   pub program : ProgramFits run.program.now
   pub types : run.store.types.now ≡ run.program.now.types
@@ -181,6 +267,7 @@ pub record IsConsistent (run : RefRun) : Type 0 where
   pub task : TaskFits (table_of run) run.control.node (length (operands_of run)) run.control.task
   pub operands : ScalarsStand (table_of run) (operands_of run)
   pub frames : FramesHold (table_of run) run.base (operands_after run.control.task (operands_of run)) (stack_of run)
+  pub found : IsFound (table_of run) run.control (stack_of run)
   pub within : run.base ≤ length run.store.locals.items
   pub calls : run.depth ≡ calls_among (stack_of run)
   pub shallow : run.depth ≤ greatest_depth

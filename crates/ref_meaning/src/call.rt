@@ -22,7 +22,7 @@ ghost use Rattle.ref_meaning.specs.declared.control.Stage.TheVariants as S;
 ghost use Rattle.ref_meaning.specs.declared.control.Task.TheVariants as K;
 ghost use Rattle.ref_meaning.specs.declared.run.Halt.TheVariants as Halts;
 ghost use Rattle.ref_meaning.specs.Views.{table_of, part_in, completion_in, waiting, arguments_of, arguments_from, newest, operands_of, operands_after, stack_of, around_run, functions_of, function_of, config_in};
-ghost use Rattle.ref_meaning.specs.Holding.{IsConsistent, NodeStands, CompletionStands, IsCall, IsBody};
+ghost use Rattle.ref_meaning.specs.Holding.{IsConsistent, NodeStands, CompletionStands, IsCall, IsBody, Awaits};
 ghost use Rattle.ref_meaning.specs.Doing.{TakesNone, IsOwnCall, IsInnermost, innermost, taking, acting};
 ghost use Rattle.ref_meaning.specs.Moving.{Moves, Acts, IsKept, Becomes, IsNext};
 ghost use Rattle.ref_meaning.specs.Calling.{is_own_call, IsArgument, OptionalNode, arguments_in, GoesOn, Evaluates, IsStored, Remains, only_of};
@@ -305,6 +305,7 @@ impl<'a> RefRun<'a> {
         count: usize,
     ) -> Result<(), Halt>
         requires holds { IsConsistent self.old }
+        requires unawaited { Awaits (stack_of self.old) → ⊥ }
         requires function { FunctionFits (table_of self.old) function.now }
         requires there { count ≤ length (operands_of self.old) }
         requires operands { operands_after self.old.control.task (operands_of self.old) ≡ drop count (operands_of self.old) }

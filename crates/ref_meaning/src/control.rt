@@ -6,7 +6,7 @@ ghost use Rattle.ref_semantics.specs.Meaning as meaning;
 ghost use Rattle.ref_steps.specs.Steps as steps;
 ghost use Rattle.ref_store.specs.Views.{scalar_in, ScalarStands};
 ghost use Rattle.ref_meaning.specs.Views.{completion_in, given_in};
-ghost use Rattle.ref_meaning.specs.Holding.{CompletionStands, GivenStands};
+ghost use Rattle.ref_meaning.specs.Holding.{CompletionStands, GivenStands, GivenFinds, PointsToElement};
 
 use c_typed::{Designator, FunctionDef, Object, Stmt, Value};
 use ref_store::{Place, Scalar};
@@ -60,6 +60,7 @@ impl<'a> Given<'a> {
     pub(crate) fn scalar(self) -> Scalar<'a>
         ensures means { (table : Interned) → scalar_in table result ≡ steps.scalar_of (given_in table self.entry) }
         ensures stands { (table : Interned) → GivenStands table self.entry → ScalarStands table result }
+        ensures finds { (table : Interned) → GivenFinds table self.entry → PointsToElement table result }
     {
         match self {
             Given::Scalar(value) => value,

@@ -9,8 +9,8 @@ ghost use Rattle.ref_meaning.specs.declared.control.Node as memory_node;
 ghost use Rattle.ref_meaning.specs.declared.control.Node.TheVariants as N;
 ghost use Rattle.ref_meaning.specs.declared.entry.Entry.TheVariants as E;
 ghost use Rattle.ref_meaning.specs.Views.{part_in, entry_in};
-ghost use Rattle.ref_meaning.specs.Holding.{NodeStands, Waits};
-ghost use Rattle.ref_meaning.specs.Doing.{EntryStands, IsAwaited};
+ghost use Rattle.ref_meaning.specs.Holding.{NodeStands, Waits, IsObject, IsPlaced};
+ghost use Rattle.ref_meaning.specs.Doing.{EntryStands, EntryFinds, EntersObject, IsAwaited};
 
 use crate::control::Node;
 use c_typed::{Designator, Object, Value};
@@ -60,6 +60,8 @@ pub(crate) fn beginning(node: Node<'_>) -> Entry<'_>
     requires { Waits node }
     ensures means { (table : Interned) → NodeStands table node.entry → entry_in table result ≡ parts.entry_of (part_in table node.entry) }
     ensures stands { (table : Interned) → NodeStands table node.entry → EntryStands table node.entry result }
+    ensures finds { (table : Interned) → NodeStands table node.entry → IsObject node.entry → EntryFinds table node.entry result }
+    ensures placed { IsPlaced node.entry → EntersObject result }
 {
     match node {
         Node::Value(value) => value_entry(value),
@@ -85,6 +87,7 @@ fn waits(part: Node<'_>) -> Entry<'_>
 fn value_entry(value: &Value) -> Entry<'_>
     ensures means { (table : Interned) → entry_in table result ≡ parts.value_entry (value_in table value.now) }
     ensures stands { (table : Interned) → ValueFits table value.now → EntryStands table (N.Value value.entry) result }
+    ensures placed { IsPlaced (N.Value value.entry) → EntersObject result }
 {
     match value {
         Value::Constant { value, .. } => Entry::Give(Scalar::Integer(*value)),
@@ -106,6 +109,7 @@ fn operand_entry(value: &Value) -> Entry<'_>
     ensures means { (table : Interned) → IsAwaited (parts.value_entry (value_in table value.now))
         → entry_in table result ≡ parts.value_entry (value_in table value.now) }
     ensures stands { (table : Interned) (node : memory_node.Node) → ValueFits table value.now → EntryStands table node result }
+    ensures placed { IsPlaced (N.Value value.entry) → EntersObject result }
 {
     waits(match value {
         Value::Read { object, .. } => Node::Object(&**object),
@@ -140,6 +144,8 @@ fn operand_entry(value: &Value) -> Entry<'_>
 fn object_entry(object: &Object) -> Entry<'_>
     ensures means { (table : Interned) → ObjectFits table object.now → entry_in table result ≡ parts.object_entry (object_in table object.now) }
     ensures stands { (table : Interned) (node : memory_node.Node) → ObjectFits table object.now → EntryStands table node result }
+    ensures finds { (table : Interned) → ObjectFits table object.now → EntryFinds table (N.Object object.entry) result }
+    ensures placed { IsPlaced (N.Object object.entry) → EntersObject result }
 {
     match object {
         Object::Local(number) => Entry::Local(*number),
@@ -164,6 +170,7 @@ fn object_entry(object: &Object) -> Entry<'_>
 fn address_entry(object: &Object) -> Entry<'_>
     ensures means { (table : Interned) → ObjectFits table object.now → entry_in table result ≡ parts.address_entry (object_in table object.now) }
     ensures stands { (table : Interned) (node : memory_node.Node) → ObjectFits table object.now → EntryStands table node result }
+    ensures placed { IsPlaced (N.Address object.entry) → EntersObject result }
 {
     match object {
         Object::Pointed { pointer, .. } => into(Node::Value(&**pointer)),

@@ -1,22 +1,21 @@
 // What an expression does once its first operand is known.
 
-ghost use Rattle.std.specs.Prelude.{◌≡◌, ℕ, if◌then◌else◌, IfOk, IfErr, pos, neg_ℤ};
+ghost use Rattle.std.specs.Prelude.{◌≡◌, ℕ, if◌then◌else◌, IfOk, pos, neg_ℤ};
 ghost use Rattle.c_typed.specs.Table.{Interned};
 ghost use Rattle.c_typed.specs.Views.{value_in, object_in};
 ghost use Rattle.ref_meaning.specs.Trees.{ValueFits, ObjectFits};
-ghost use Rattle.ref_semantics.specs.Store as meaning_store;
-ghost use Rattle.ref_semantics.specs.Store.{TypeEnvironment, member_at};
 ghost use Rattle.ref_semantics.specs.Meaning as meaning;
 ghost use Rattle.ref_steps.specs.Parts as parts;
 ghost use Rattle.ref_store.specs.Views.{place_in, scalar_in, ScalarStands, PlaceStands};
 ghost use Rattle.ref_store.specs.Holding.{IsStore, CallGives};
-ghost use Rattle.ref_store.specs.declared.value.Stop.TheVariants as Stops;
-ghost use Rattle.ref_store.specs.Promises.{place_seen, value_seen, ForTypes, GivesScalar};
+ghost use Rattle.ref_store.specs.Promises.{place_seen, value_seen, GivesScalar};
 ghost use Rattle.ref_meaning.specs.Promises.{part_stored, GivesNext};
 ghost use Rattle.ref_meaning.specs.Views.{part_in};
-ghost use Rattle.ref_meaning.specs.Holding.{NodeStands};
+ghost use Rattle.ref_meaning.specs.Holding.{NodeStands, IsMember, IsPlaced, IsBehindFirst, PointsToElement};
+ghost use Rattle.ref_meaning.specs.declared.control.Node.TheVariants as N;
+ghost use Rattle.ref_meaning.specs.declared.first.Next.TheVariants as X;
 ghost use Rattle.ref_meaning.specs.Nexts.{scalar_next, place_next};
-ghost use Rattle.ref_meaning.specs.Doing.{next_in, role_of, NextStands};
+ghost use Rattle.ref_meaning.specs.Doing.{next_in, role_of, NextStands, NextFinds};
 
 use crate::control::Node;
 use crate::operand::{arithmetic, converted, stepped};
@@ -52,9 +51,11 @@ pub(crate) fn after_first<'a>(
     requires store { IsStore store.old }
     requires node { NodeStands store.old.types.now node }
     requires first { ScalarStands store.old.types.now first }
+    requires placed { IsPlaced node → PointsToElement store.old.types.now first }
     ensures gives { GivesNext store.old store.new (λ around.
         parts.next_of around (part_stored store.old node.entry) (value_seen store.old first.entry)) result }
     ensures stands { IfOk result (NextStands store.old.types.now) }
+    ensures finds { IsBehindFirst node.entry → IfOk result (NextFinds store.old.types.now node.entry) }
     ensures types { store.new.types ≡ store.old.types }
     ensures locals { store.new.locals ≡ store.old.locals }
 {
@@ -75,6 +76,7 @@ fn after_value<'a>(
     requires store { IsStore store.old }
     requires value { ValueFits store.old.types.now value.now }
     requires first { ScalarStands store.old.types.now first }
+    requires placed { IsPlaced (N.Value value) → PointsToElement store.old.types.now first }
     ensures gives { GivesNext store.old store.new (λ around.
         parts.value_next around (value_in store.old.types.now value.now) (value_seen store.old first.entry)) result }
     ensures stands { IfOk result (NextStands store.old.types.now) }
@@ -83,7 +85,7 @@ fn after_value<'a>(
 {
     match value {
         Value::Read { place, .. } => given(store.read(*place, first.place())),
-        Value::Decay { .. } => pointed(decayed(store, first.place())),
+        Value::Decay { .. } => pointed(Ok(store.decayed(first.place()))),
         Value::Converted { int_type, .. } => Ok(Next::Given(converted(*int_type, first))),
         Value::Repointed { place, target, .. } => given(store.repointed(*place, *target, first)),
         Value::MadeNull { .. } => Ok(Next::Given(Scalar::Null)),
@@ -169,6 +171,7 @@ fn pointed<'a>(found: Result<Place<'a>, Stop>) -> Result<Next<'a>, Stop>
 }
 
 fn enters(part: &Value, role: Role) -> Next<'_>
+    ensures is { result ≡ X.Enter (N.Value part.entry) role }
     ensures means { (table : Interned) → next_in table result ≡ parts.Enters (value_in table part.now) (role_of role) }
     ensures stands { (table : Interned) → ValueFits table part.now → NextStands table result }
 {
@@ -187,9 +190,11 @@ fn after_object<'a>(
     requires store { IsStore store.old }
     requires object { ObjectFits store.old.types.now object.now }
     requires first { ScalarStands store.old.types.now first }
+    requires placed { IsMember object.now → PointsToElement store.old.types.now first }
     ensures gives { GivesNext store.old store.new (λ around.
         parts.object_next around (object_in store.old.types.now object.now) (value_seen store.old first.entry)) result }
     ensures stands { IfOk result (NextStands store.old.types.now) }
+    ensures finds { IsBehindFirst (N.Object object.entry) → IfOk result (NextFinds store.old.types.now (N.Object object.entry)) }
     ensures types { store.new.types ≡ store.old.types }
     ensures locals { store.new.locals ≡ store.old.locals }
 {
@@ -197,41 +202,13 @@ fn after_object<'a>(
         Object::Pointed { place, .. } => pointed(store.accessed(*place, first)),
         Object::Element { number, .. } => Ok(enters(number, Role::Second)),
         Object::ElementOf { pointer, .. } => Ok(enters(pointer, Role::Second)),
-        Object::MemberOf { number, .. } => pointed(member_of(store, first.place(), *number)),
+        Object::MemberOf { number, .. } => pointed(Ok(store.member_at(first.place(), *number))),
         Object::PointedMember { place, number, .. } => {
             let found = store.accessed(*place, first)?;
             pointed(Ok(store.member_at(found, *number)))
         }
         _ => Ok(Next::Given(first)),
     }
-}
-
-/// A member of an element. What an expression finds as an object is no end of a row.
-fn member_of<'a>(store: &Store<'a>, place: Place<'a>, number: u32) -> Result<Place<'a>, Stop>
-    requires { PlaceStands store.now.types.now place }
-    ensures found { ForTypes store.now.types.now (λ around.
-        IfOk result (λ member. place_seen store.now member ≡ member_at around (place_seen store.now place.entry) number)) }
-    ensures stands { IfOk result (PlaceStands store.now.types.now) }
-    ensures only { IfErr result (λ e. e ≡ Stops.OutOfMemory) }
-{
-    if place.is_end() {
-        return Err(Stop::OutOfMemory);
-    }
-    Ok(store.member_at(place, number))
-}
-
-/// The first element of an array.
-fn decayed<'a>(store: &Store<'a>, place: Place<'a>) -> Result<Place<'a>, Stop>
-    requires { PlaceStands store.now.types.now place }
-    ensures found { ForTypes store.now.types.now (λ around.
-        IfOk result (λ first. place_seen store.now first ≡ meaning_store.decayed around (place_seen store.now place.entry))) }
-    ensures stands { IfOk result (PlaceStands store.now.types.now) }
-    ensures only { IfErr result (λ e. e ≡ Stops.OutOfMemory) }
-{
-    if place.is_end() {
-        return Err(Stop::OutOfMemory);
-    }
-    Ok(store.decayed(place))
 }
 
 /// The operator of `++` or `--`.

@@ -12,7 +12,8 @@ ghost use Rattle.ref_store.specs.Holding.{IsStore, CallGives};
 ghost use Rattle.ref_store.specs.Promises.{value_seen, GivesScalar};
 ghost use Rattle.ref_meaning.specs.Promises.{part_stored};
 ghost use Rattle.ref_meaning.specs.Views.{part_in};
-ghost use Rattle.ref_meaning.specs.Holding.{NodeStands};
+ghost use Rattle.ref_meaning.specs.Holding.{NodeStands, IsBehindBoth, PointsToElement};
+ghost use Rattle.ref_meaning.specs.declared.control.Node.TheVariants as N;
 ghost use Rattle.ref_meaning.specs.Doing.{IsAssignment};
 
 use crate::control::Node;
@@ -88,6 +89,7 @@ pub(crate) fn after_second<'a>(
     ensures gives { GivesScalar store.old store.new (λ around.
         parts.both_of around (part_stored store.old node.entry) (value_seen store.old first.entry) (value_seen store.old second.entry)) result }
     ensures stands { IfOk result (ScalarStands store.old.types.now) }
+    ensures finds { IsBehindBoth node.entry → IfOk result (PointsToElement store.old.types.now) }
     ensures types { store.new.types ≡ store.old.types }
     ensures locals { store.new.locals ≡ store.old.locals }
 {
@@ -203,6 +205,7 @@ fn after_object<'a>(
     ensures gives { GivesScalar store.now store.now (λ around.
         parts.object_of_both (object_in store.now.types.now object.now) (value_seen store.now first.entry) (value_seen store.now second.entry)) result }
     ensures stands { IfOk result (ScalarStands store.now.types.now) }
+    ensures finds { IsBehindBoth (N.Object object.entry) → IfOk result (PointsToElement store.now.types.now) }
 {
     let found: Place<'a> = match object {
         Object::Element { place, .. } => store.element(*place, first, second.integer())?,

@@ -18,7 +18,7 @@ ghost use Rattle.ref_meaning.specs.declared.control.Stage.TheVariants as S;
 ghost use Rattle.ref_meaning.specs.declared.control.Task.TheVariants as K;
 ghost use Rattle.ref_meaning.specs.declared.run.Halt.TheVariants as Halts;
 ghost use Rattle.ref_meaning.specs.Views.{table_of, part_in, given_in, final_of, waiting, stack_of, stmt_of, case_items_of, case_items_from};
-ghost use Rattle.ref_meaning.specs.Holding.{IsConsistent, NodeStands, GivenStands, StageStands, Waits, Fits};
+ghost use Rattle.ref_meaning.specs.Holding.{IsConsistent, NodeStands, GivenStands, StageStands, Waits, Fits, IsObject, IsPlaced, PointsToElement, GivenFinds, AwaitsAt, Awaits};
 ghost use Rattle.ref_meaning.specs.Doing.{TakesNone, IsInnermost, IsExpression, innermost, takes, taking, acting, evaluating};
 ghost use Rattle.ref_meaning.specs.Moving.{Becomes, IsSame, IsKept, Moves, Acts};
 ghost use Rattle.ref_meaning.specs.Numbers.{HasNumbers};
@@ -397,6 +397,7 @@ impl<'a> RefRun<'a> {
         requires free { TakesNone self.old.control.task }
         requires node { NodeStands (table_of self.old) node }
         requires expression { IsExpression node }
+        requires finds { Awaits (stack_of self.old) → IsObject node }
         ensures moves { Moves self.old self.new (evaluating self.old (part_in (table_of self.old) node.entry)) result }
         ensures kept { IsKept self.old self.new }
     {
@@ -457,6 +458,7 @@ impl<'a> RefRun<'a> {
         requires fits { Fits node stage }
         requires stage { StageStands (table_of self.old) stage }
         requires given { GivenStands (table_of self.old) given }
+        requires placed { AwaitsAt node stage → GivenFinds (table_of self.old) given }
         requires innermost { IsInnermost self.old top (part_in (table_of self.old) node) stage }
         ensures moves { Moves self.old self.new (taking self.old (innermost self.old (part_seen self.old node.entry) stage.entry)
             (given_in (table_of self.old) given.entry)) result }
@@ -488,6 +490,7 @@ impl<'a> RefRun<'a> {
         requires node { NodeStands (table_of self.old) node }
         requires waits { Waits node }
         requires first { ScalarStands (table_of self.old) first }
+        requires placed { IsPlaced node → PointsToElement (table_of self.old) first }
         requires innermost { IsInnermost self.old top (part_in (table_of self.old) node) S.First }
         ensures moves { Moves self.old self.new (taking self.old (waiting (part_seen self.old node.entry))
             (ScalarGiven (scalar_seen self.old first.entry))) result }
@@ -513,6 +516,7 @@ impl<'a> RefRun<'a> {
         requires node { NodeStands (table_of self.old) node }
         requires waits { Waits node }
         requires first { ScalarStands (table_of self.old) first }
+        requires placed { IsPlaced node → PointsToElement (table_of self.old) first }
         requires innermost { IsInnermost self.old top (part_in (table_of self.old) node) S.First }
         requires operand { waiting (part_in (table_of self.old) node) ≡ First (part_in (table_of self.old) node) }
         ensures moves { Moves self.old self.new (taking self.old (waiting (part_seen self.old node.entry))

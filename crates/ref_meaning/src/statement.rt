@@ -18,7 +18,7 @@ ghost use Rattle.ref_meaning.specs.declared.control.Stage.TheVariants as S;
 ghost use Rattle.ref_meaning.specs.declared.control.Task.TheVariants as K;
 ghost use Rattle.ref_meaning.specs.declared.run.Halt.TheVariants as Halts;
 ghost use Rattle.ref_meaning.specs.Views.{table_of, part_in, completion_in, given_in, waiting, at_item, behind_body, case_items_of, locals_of, stack_of, stmt_of, loop_of};
-ghost use Rattle.ref_meaning.specs.Holding.{IsConsistent, NodeStands, GivenStands, CompletionStands, Fits, HasItems, IsSwitch, IsLoop, IsTurning};
+ghost use Rattle.ref_meaning.specs.Holding.{IsConsistent, NodeStands, GivenStands, CompletionStands, Fits, HasItems, IsSwitch, IsLoop, IsTurning, Awaits};
 ghost use Rattle.ref_meaning.specs.Doing.{TakesNone, IsInnermost, IsOnTop, IsOfStatement, innermost, taking, performing, turning, beginning_turn, asking, body_in};
 ghost use Rattle.ref_meaning.specs.Items.{IsBlock, block_of, start_of, ItemIs, CaseItemIs, StartLocalIs, declaring, ending_turn};
 ghost use Rattle.ref_meaning.specs.Moving.{Moves, IsKept, IsSame, Becomes};
@@ -93,6 +93,7 @@ impl<'a> RefRun<'a> {
     pub(crate) fn perform(&mut self, stmt: &'a Stmt) -> Result<(), Halt>
         requires holds { IsConsistent self.old }
         requires free { TakesNone self.old.control.task }
+        requires unawaited { Awaits (stack_of self.old) → ⊥ }
         requires stands { StmtFits (table_of self.old) stmt.now }
         ensures moves { Moves self.old self.new (performing self.old (stmt_in (table_of self.old) stmt.now)) result }
         ensures kept { IsKept self.old self.new }
@@ -113,32 +114,27 @@ impl<'a> RefRun<'a> {
                 self.wait(node, Stage::First, Node::Value(condition))
             }
             Stmt::DoWhile { body, .. } => self.wait(node, Stage::Turn, Node::Stmt(&**body)),
-            Stmt::For {
-                start: ForStart::Nothing,
-                ..
-            } => {
-                self.open_scope(node, Stage::Begin)?;
-                self.go(Completion::Normal)
-            }
-            Stmt::For {
-                start: ForStart::Value(value),
-                ..
-            } => {
-                self.open_scope(node, Stage::Begin)?;
-                self.enter(Node::Value(value))
-            }
-            Stmt::For {
-                start: ForStart::Locals(_),
-                ..
-            } => {
-                self.open_scope(node, Stage::Item(0))?;
-                self.go(Completion::Normal)
-            }
+            Stmt::For { start, .. } => match start {
+                ForStart::Nothing => {
+                    self.open_scope(node, Stage::Begin)?;
+                    self.go(Completion::Normal)
+                }
+                ForStart::Value(value) => {
+                    self.open_scope(node, Stage::Begin)?;
+                    self.enter(Node::Value(value))
+                }
+                ForStart::Locals(_) => {
+                    self.open_scope(node, Stage::Item(0))?;
+                    self.go(Completion::Normal)
+                }
+            },
             Stmt::Switch { value, .. } => self.wait(node, Stage::First, Node::Value(value)),
             Stmt::Break => self.go(Completion::Break),
             Stmt::Continue => self.go(Completion::Continue),
-            Stmt::Return(None) => self.go(Completion::Return(None)),
-            Stmt::Return(Some(value)) => self.wait(node, Stage::First, Node::Value(value)),
+            Stmt::Return(value) => match value {
+                None => self.go(Completion::Return(None)),
+                Some(value) => self.wait(node, Stage::First, Node::Value(value)),
+            },
         }
     }
 

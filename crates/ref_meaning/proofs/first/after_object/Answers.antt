@@ -33,8 +33,8 @@ returns-in-MemberOf-clause-gives c = λ around base.
     let store = c.args.store.now in
     let table = store.types.now in
     form-found around base store c.args.first (object_nexts around base store c.args.first) c.args.object.now _ c.in-MemberOf.is
-    (member_at around (place_in table c.place.result) c.in-MemberOf.number) c.member_of.result c.pointed-in-MemberOf.result
-    (ap (λ (p : Place). give (Comes (PointerValue (member_at around p c.in-MemberOf.number)))) (sym (c.place.ensures.means table))) c.pointed-in-MemberOf.ensures (λ state at. c.member_of.ensures.found around at.structs) c.member_of.ensures.only
+    (member_at around (place_in table c.place.result) c.in-MemberOf.number) (Ok c.member_at.result) c.pointed-in-MemberOf.result
+    (ap (λ (p : Place). give (Comes (PointerValue (member_at around p c.in-MemberOf.number)))) (sym (c.place.ensures.means table))) c.pointed-in-MemberOf.ensures (λ state at. c.member_at.ensures.found around at.structs) tt
 
 pub returns-in_ok-found-in-PointedMember-clause-gives : goal.returns-in_ok-found-in-PointedMember-clause-gives
 returns-in_ok-found-in-PointedMember-clause-gives c = λ around base.
@@ -45,5 +45,5 @@ returns-in_ok-found-in-PointedMember-clause-gives c = λ around base.
     form-behind around base store c.args.first (object_nexts around base store c.args.first) c.args.object.now _ c.in-PointedMember.is
     (accessed c.in-PointedMember.place a) (λ (p : Place). give (Comes (PointerValue (member_at around p c.in-PointedMember.number)))) (place_in table found) c.pointed-in-PointedMember.result refl (c.in_ok-found-in-PointedMember.ensures.gives around base)
     (gives-is around base store store (next_in table) (give (Comes (PointerValue (member_at around (place_in table found) c.in-PointedMember.number)))) (give (Comes (PointerValue (member_at around (place_in table found) c.in-PointedMember.number))))
-    (place_next (Ok c.member_at.result)) c.pointed-in-PointedMember.result refl c.pointed-in-PointedMember.ensures
-    (gives-found around base store (member_at around (place_in table found) c.in-PointedMember.number) (Ok c.member_at.result) (λ state at. c.member_at.ensures.found around at.structs) tt))
+    (place_next (Ok c.member_at-in-PointedMember.result)) c.pointed-in-PointedMember.result refl c.pointed-in-PointedMember.ensures
+    (gives-found around base store (member_at around (place_in table found) c.in-PointedMember.number) (Ok c.member_at-in-PointedMember.result) (λ state at. c.member_at-in-PointedMember.ensures.found around at.structs) tt))

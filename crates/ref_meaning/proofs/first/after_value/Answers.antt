@@ -1,4 +1,4 @@
-use Rattle.std.proofs.Common.{◌≡◌, ℤ, pos, negsuc, neg_ℤ, ◌-ℤ◌, FitsSigned, to_z, of_z, to_z-of_z, arith, refl, sym, ap, ◌∙◌}
+use Rattle.std.proofs.Common.{◌≡◌, Ok, subst, ℤ, pos, negsuc, neg_ℤ, ◌-ℤ◌, FitsSigned, to_z, of_z, to_z-of_z, arith, refl, sym, ap, ◌∙◌}
 use Rattle.std.specs.Int.{w128}
 use Rattle.std.proofs.lemmas.Int.{ints}
 use Rattle.c_num.specs.declared.BinOp.TheVariants as B
@@ -15,6 +15,9 @@ use Rattle.ref_meaning.specs.declared.first.Next.TheVariants as X
 use Rattle.ref_meaning.specs.Nexts.{scalar_next}
 use Rattle.ref_meaning.proofs.Nexts.{value_nexts, form-next, form-scalar, form-found, gives-next, scalar_next-stands, stands-is}
 use Rattle.ref_meaning.proofs.LastOperands.{value_last}
+use Rattle.ref_meaning.specs.declared.control.Node.TheVariants as N
+use Rattle.ref_meaning.specs.Holding.{IsPlaced}
+use Rattle.ref_meaning.proofs.Elements.{pointed-element}
 use Rattle.ref_meaning.proofs.first.after_value.Goals as goal
 
 pub returns-in-Read-clause-gives : goal.returns-in-Read-clause-gives
@@ -31,13 +34,18 @@ returns-in-Read-clause-stands c =
     let table = store.types.now in
     stands-is table (scalar_next c.read.result) c.given.result c.given.ensures (scalar_next-stands table c.read.result (c.read.ensures.stands c.requires.store.around c.requires.store.base c.requires.store.state c.requires.store.at))
 
+pub decayed-requires-clause-element : goal.decayed-requires-clause-element
+decayed-requires-clause-element c =
+    let table = c.args.store.now.types.now in
+    pointed-element table c.args.first c.place-in-Decay.result (c.place-in-Decay.ensures.means table) (c.requires.placed (subst (λ value. IsPlaced (N.Value (record c.args.value { now = value }))) (sym c.in-Decay.is) tt))
+
 pub returns-in-Decay-clause-gives : goal.returns-in-Decay-clause-gives
 returns-in-Decay-clause-gives c = λ around base.
     let store = c.args.store.now in
     let table = store.types.now in
     form-found around base store c.args.first (value_nexts around base store c.args.first) c.args.value.now _ c.in-Decay.is
-    (decayed around (place_in table c.place-in-Decay.result)) c.decayed.result c.pointed.result
-    (ap (λ (p : Place). give (Comes (PointerValue (decayed around p)))) (sym (c.place-in-Decay.ensures.means table))) c.pointed.ensures (λ state at. c.decayed.ensures.found around at.structs) c.decayed.ensures.only
+    (decayed around (place_in table c.place-in-Decay.result)) (Ok c.decayed.result) c.pointed.result
+    (ap (λ (p : Place). give (Comes (PointerValue (decayed around p)))) (sym (c.place-in-Decay.ensures.means table))) c.pointed.ensures (λ state at. c.decayed.ensures.found around at.structs) tt
 
 pub returns-in-Converted-clause-stands : goal.returns-in-Converted-clause-stands
 returns-in-Converted-clause-stands c = c.converted.ensures.stands c.args.store.now.types.now

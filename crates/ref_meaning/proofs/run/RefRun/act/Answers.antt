@@ -5,7 +5,7 @@ use Rattle.ref_semantics.specs.Store.{Eval}
 use Rattle.ref_steps.specs.Steps.{Config}
 use Rattle.ref_meaning.specs.declared.control.Task.TheVariants as K
 use Rattle.ref_meaning.specs.Views.{table_of, operands_of}
-use Rattle.ref_meaning.specs.Holding.{NodeStands, TaskFits}
+use Rattle.ref_meaning.specs.Holding.{NodeStands, TaskFits, TaskFinds}
 use Rattle.ref_meaning.specs.Doing.{acting}
 use Rattle.ref_meaning.specs.Moving.{Moves}
 use Rattle.ref_meaning.proofs.Acting.{moves-acts, moves-holds, no-read, no-write, performs, evaluates, body-begins, finished, over-stays, is-expression, control-is, takes-none}
@@ -123,6 +123,8 @@ pub perform-requires : goal.perform-requires
 perform-requires g c = record {
   holds = c.requires;
   free = takes-none c.args.self.now K.Enter c.in-Enter.is tt;
+  unawaited = λ awaits. subst (λ node. TaskFinds (table_of c.args.self.now) node K.Enter) c.in-Stmt.is
+      (subst (λ task. TaskFinds (table_of c.args.self.now) c.args.self.now.control.node task) c.in-Enter.is (c.requires.found.0 awaits));
   stands = subst (NodeStands (table_of c.args.self.now)) c.in-Stmt.is c.requires.node;
 }
 
@@ -132,6 +134,7 @@ evaluate-requires g c = record {
   free = takes-none c.args.self.now K.Enter c.in-Enter.is tt;
   node = c.requires.node;
   expression = (is-expression (table_of c.args.self.now) c.args.self.now.control.node (length (operands_of c.args.self.now)) (subst (λ task. TaskFits (table_of c.args.self.now) c.args.self.now.control.node (length (operands_of c.args.self.now)) task) c.in-Enter.is c.requires.task) c.in_default.not-Stmt c.in_default.not-Body);
+  finds = λ awaits. subst (λ task. TaskFinds (table_of c.args.self.now) c.args.self.now.control.node task) c.in-Enter.is (c.requires.found.0 awaits);
 }
 
 pub library-requires : goal.library-requires
@@ -159,57 +162,3 @@ label-requires g c =
       holds = c.requires;
       control = control-is c.args.self.now _ (c.in-Label.is ∙ ap (λ z. K.Label z c.in-Label.number c.in-Label.default) (sym (to_z-of_z w128 c.in-Label.value fits)));
     }
-
-pub returns-in-Start-clause-reads : goal.returns-in-Start-clause-reads
-returns-in-Start-clause-reads g c = λ e. no-read c.args.self.now c.start.new.self (acting c.args.self.now) c.start.result c.start.ensures.moves e
-
-pub returns-in-Start-clause-writes : goal.returns-in-Start-clause-writes
-returns-in-Start-clause-writes g c = λ e. no-write c.args.self.now c.start.new.self (acting c.args.self.now) c.start.result c.start.ensures.moves e
-
-pub returns-in-Stmt-clause-reads : goal.returns-in-Stmt-clause-reads
-returns-in-Stmt-clause-reads g c = λ e. no-read c.args.self.now c.perform.new.self (acting c.args.self.now) c.perform.result (subst (λ (eval : Eval Config). Moves c.args.self.now c.perform.new.self eval c.perform.result) (performs c.args.self.now c.in-Stmt.stmt c.in-Stmt.is c.in-Enter.is) c.perform.ensures.moves) e
-
-pub returns-in-Stmt-clause-writes : goal.returns-in-Stmt-clause-writes
-returns-in-Stmt-clause-writes g c = λ e. no-write c.args.self.now c.perform.new.self (acting c.args.self.now) c.perform.result (subst (λ (eval : Eval Config). Moves c.args.self.now c.perform.new.self eval c.perform.result) (performs c.args.self.now c.in-Stmt.stmt c.in-Stmt.is c.in-Enter.is) c.perform.ensures.moves) e
-
-pub returns-in-Body-clause-reads : goal.returns-in-Body-clause-reads
-returns-in-Body-clause-reads g c = λ e. no-read c.args.self.now c.part.new.self (acting c.args.self.now) c.part.result (body-begins c.args.self.now c.part.new.self _ c.part.result c.requires c.in-Body.is c.in-Enter.is c.part.ensures.waits c.part.ensures.same c.part.ensures.only) e
-
-pub returns-in-Body-clause-writes : goal.returns-in-Body-clause-writes
-returns-in-Body-clause-writes g c = λ e. no-write c.args.self.now c.part.new.self (acting c.args.self.now) c.part.result (body-begins c.args.self.now c.part.new.self _ c.part.result c.requires c.in-Body.is c.in-Enter.is c.part.ensures.waits c.part.ensures.same c.part.ensures.only) e
-
-pub returns-in_default-clause-reads : goal.returns-in_default-clause-reads
-returns-in_default-clause-reads g c = λ e. no-read c.args.self.now c.evaluate.new.self (acting c.args.self.now) c.evaluate.result (subst (λ (eval : Eval Config). Moves c.args.self.now c.evaluate.new.self eval c.evaluate.result) (evaluates c.args.self.now c.args.self.now.control.node (is-expression (table_of c.args.self.now) c.args.self.now.control.node (length (operands_of c.args.self.now)) (subst (λ task. TaskFits (table_of c.args.self.now) c.args.self.now.control.node (length (operands_of c.args.self.now)) task) c.in-Enter.is c.requires.task) c.in_default.not-Stmt c.in_default.not-Body) refl c.in-Enter.is) c.evaluate.ensures.moves) e
-
-pub returns-in_default-clause-writes : goal.returns-in_default-clause-writes
-returns-in_default-clause-writes g c = λ e. no-write c.args.self.now c.evaluate.new.self (acting c.args.self.now) c.evaluate.result (subst (λ (eval : Eval Config). Moves c.args.self.now c.evaluate.new.self eval c.evaluate.result) (evaluates c.args.self.now c.args.self.now.control.node (is-expression (table_of c.args.self.now) c.args.self.now.control.node (length (operands_of c.args.self.now)) (subst (λ task. TaskFits (table_of c.args.self.now) c.args.self.now.control.node (length (operands_of c.args.self.now)) task) c.in-Enter.is c.requires.task) c.in_default.not-Stmt c.in_default.not-Body) refl c.in-Enter.is) c.evaluate.ensures.moves) e
-
-pub returns-in-Library-clause-reads : goal.returns-in-Library-clause-reads
-returns-in-Library-clause-reads g c = λ e. no-read c.args.self.now c.library.new.self (acting c.args.self.now) c.library.result c.library.ensures.moves e
-
-pub returns-in-Library-clause-writes : goal.returns-in-Library-clause-writes
-returns-in-Library-clause-writes g c = λ e. no-write c.args.self.now c.library.new.self (acting c.args.self.now) c.library.result c.library.ensures.moves e
-
-pub returns-in-Bind-clause-reads : goal.returns-in-Bind-clause-reads
-returns-in-Bind-clause-reads g c = λ e. no-read c.args.self.now c.bind.new.self (acting c.args.self.now) c.bind.result c.bind.ensures.moves e
-
-pub returns-in-Bind-clause-writes : goal.returns-in-Bind-clause-writes
-returns-in-Bind-clause-writes g c = λ e. no-write c.args.self.now c.bind.new.self (acting c.args.self.now) c.bind.result c.bind.ensures.moves e
-
-pub returns-in-Label-clause-reads : goal.returns-in-Label-clause-reads
-returns-in-Label-clause-reads g c = λ e. no-read c.args.self.now c.label.new.self (acting c.args.self.now) c.label.result c.label.ensures.moves e
-
-pub returns-in-Label-clause-writes : goal.returns-in-Label-clause-writes
-returns-in-Label-clause-writes g c = λ e. no-write c.args.self.now c.label.new.self (acting c.args.self.now) c.label.result c.label.ensures.moves e
-
-pub returns-in-Give-clause-reads : goal.returns-in-Give-clause-reads
-returns-in-Give-clause-reads g c = λ e. no-read c.args.self.now c.give.new.self (acting c.args.self.now) c.give.result c.give.ensures.moves e
-
-pub returns-in-Give-clause-writes : goal.returns-in-Give-clause-writes
-returns-in-Give-clause-writes g c = λ e. no-write c.args.self.now c.give.new.self (acting c.args.self.now) c.give.result c.give.ensures.moves e
-
-pub returns-in-Over-clause-reads : goal.returns-in-Over-clause-reads
-returns-in-Over-clause-reads g c = λ e. no-read c.args.self.now c.args.self.now (acting c.args.self.now) finished (over-stays c.args.self.now _ c.requires c.in-Over.is) e
-
-pub returns-in-Over-clause-writes : goal.returns-in-Over-clause-writes
-returns-in-Over-clause-writes g c = λ e. no-write c.args.self.now c.args.self.now (acting c.args.self.now) finished (over-stays c.args.self.now _ c.requires c.in-Over.is) e

@@ -18,7 +18,7 @@ returns-clause-moves c = λ number state at.
     let frame : Frame = record { node = N.Body c.args.function; stage = S.Call c.args.is_used c.args.place old.base } in
     let items = c.push.ensures.items ∙ ap (λ b. if b then old.frames.items ++ frame ∷ [] else old.frames.items) c.if-is_err.ensures.negation in
     let shallow : old.depth < greatest_depth = subst (λ d. old.depth < d) (sym depth-is) c.if-self-ge-GREATEST_DEPTH.false in
-    begins old _ c.args.is_used c.args.place number c.args.function c.args.count r.holds r.function r.there r.operands shallow
+    begins old _ c.args.is_used c.args.place number c.args.function c.args.count r.holds r.unawaited r.function r.there r.operands shallow
     (record {
       kept = record { program = refl; functions = refl; main = refl; spent = refl };
       types = refl;

@@ -8,7 +8,7 @@ use Rattle.ref_meaning.specs.Views.{around_run, table_of, part_in, config_in}
 use Rattle.ref_meaning.specs.Doing.{acting}
 use Rattle.ref_meaning.proofs.Moves.{ok-moves}
 use Rattle.ref_meaning.proofs.Dropping.{rest-left, dropped-arrives}
-use Rattle.ref_meaning.proofs.Parameters.{operand-stands, operand-next, none-of, body-enters, bind-fits, bind-node, bind-after, all-bound, no-parameter, binds, bind-stays}
+use Rattle.ref_meaning.proofs.Parameters.{operand-stands, operand-next, none-of, body-enters, bind-fits, bind-node, bind-after, unawaited, all-bound, no-parameter, binds, bind-stays}
 use Rattle.ref_meaning.proofs.run.RefRun.bind.Goals as goal
 use Rattle.ref_meaning.proofs.run.RefRun.bind.Goals.{then-number-count+in_default, else-number-count}
 
@@ -57,4 +57,4 @@ returns-clause-moves c =
     ] in
     ok-moves old c.enter.new.self _ c.enter.result c.enter.ensures.ok (λ state at.
     dropped-arrives old c.enter.new.self c.truncate.new.self c.args.count next r.holds (bind-after old c.args.node c.args.count c.args.number r.control r.holds) given tt c.enter.ensures.becomes
-    (bind-node old c.args.node c.args.count c.args.number r.control r.holds) (body-enters (table_of old) c.args.node _ fits.0) (acting old) enters state at)
+    (λ awaits. absurd (unawaited old c.args.node c.args.count c.args.number r.control r.holds awaits)) (bind-node old c.args.node c.args.count c.args.number r.control r.holds) (body-enters (table_of old) c.args.node _ fits.0) (acting old) enters state at)

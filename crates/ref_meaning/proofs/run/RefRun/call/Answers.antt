@@ -6,7 +6,7 @@ use Rattle.ref_meaning.specs.declared.control.Control.{Control}
 use Rattle.ref_meaning.specs.declared.control.Given.TheVariants as G
 use Rattle.ref_meaning.specs.declared.control.Task.TheVariants as K
 use Rattle.ref_meaning.specs.Views.{table_of, functions_of, operands_of, operands_after, newest}
-use Rattle.ref_meaning.specs.Holding.{TaskFits}
+use Rattle.ref_meaning.specs.Holding.{TaskFits, TaskFinds}
 use Rattle.ref_meaning.specs.Moving.{Moves}
 use Rattle.ref_meaning.proofs.Moves.{nothing-kept, ok-moves}
 use Rattle.ref_meaning.proofs.Called.{none-at}
@@ -42,6 +42,9 @@ returns-else-not-same-clause-moves c =
     c.requires.holds c.in-Function.is (called-is c.args.self.now c.requires.holds c.in-Function.name.now c.in-Some.number (sym (c.requires.holds.numbered c.in-Function.name.now) ∙ (sym c.get.ensures.value ∙ sym c.in-Some.ensures)) c.index-function.result.now c.index-function.ensures) c.if-not-same.ensures))
     (c.begin.ensures.moves c.in-Some.number)
 
+pub begin-requires-clause-unawaited : goal.begin-requires-clause-unawaited
+begin-requires-clause-unawaited c = λ awaits. subst (λ t. TaskFinds (table_of c.args.self.now) c.args.self.now.control.node t) c.requires.task (c.requires.holds.found.0 awaits)
+
 pub returns-in-None-clause-moves : goal.returns-in-None-clause-moves
 returns-in-None-clause-moves c =
     let old = c.args.self.now in
@@ -52,4 +55,4 @@ returns-in-None-clause-moves c =
     let none = none-at (function_from 0 (functions_of old) c.in-Function.name.now) (sym (r.holds.numbered c.in-Function.name.now) ∙ (sym c.get.ensures.value ∙ sym c.in-None.ensures)) in
     ok-moves old c.came_to.new.self _ c.came_to.result c.came_to.ensures.ok (λ state at.
     dropped-arrives old c.came_to.new.self c.truncate.new.self c.args.count next r.holds (ap (λ t. operands_after t (operands_of old)) r.task) given tt c.came_to.ensures.becomes
-    r.holds.node tt _ (call-unknown old c.args.is_used c.args.place (type_in (table_of old) c.args.c_type) (newest (table_of c.args.self.now) c.args.count (operands_of c.args.self.now)) c.args.function c.in-Function.name c.in-Function.is none) state at)
+    (λ awaits. absurd (subst (λ t. TaskFinds (table_of old) old.control.node t) r.task (r.holds.found.0 awaits))) r.holds.node tt _ (call-unknown old c.args.is_used c.args.place (type_in (table_of old) c.args.c_type) (newest (table_of c.args.self.now) c.args.count (operands_of c.args.self.now)) c.args.function c.in-Function.name c.in-Function.is none) state at)

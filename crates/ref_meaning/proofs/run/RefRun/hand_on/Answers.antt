@@ -8,7 +8,7 @@ use Rattle.ref_store.specs.Views.{scalar_in}
 use Rattle.ref_meaning.specs.declared.control.Given.TheVariants as G
 use Rattle.ref_meaning.specs.declared.control.Stage.TheVariants as S
 use Rattle.ref_meaning.specs.Views.{around_run, functions_of, config_in, table_of, part_in, given_in}
-use Rattle.ref_meaning.specs.Holding.{Fits, StageStands}
+use Rattle.ref_meaning.specs.Holding.{Fits, StageStands, AwaitsAt}
 use Rattle.ref_meaning.specs.Doing.{IsInnermost, innermost, popped, taking}
 use Rattle.ref_meaning.specs.Moving.{Moves, Arrives}
 use Rattle.ref_meaning.proofs.Moves.{ok-moves}
@@ -20,6 +20,9 @@ use Rattle.ref_meaning.proofs.run.RefRun.hand_on.Goals as goal
 
 pub give_first-requires-clause-waits : goal.give_first-requires-clause-waits
 give_first-requires-clause-waits c = subst (Fits c.args.node) c.in-First.is c.requires.fits
+
+pub give_first-requires-clause-placed : goal.give_first-requires-clause-placed
+give_first-requires-clause-placed c = λ placed. c.scalar.ensures.finds (table_of c.args.self.now) (c.requires.placed (subst (AwaitsAt c.args.node) (sym c.in-First.is) placed))
 
 pub give_first-requires-clause-first : goal.give_first-requires-clause-first
 give_first-requires-clause-first c = c.scalar.ensures.stands (table_of c.args.self.now) c.requires.given
@@ -65,7 +68,7 @@ returns-in_ok-value-in-Second-clause-moves c =
     subst (λ s. Moves old c.done.new.self (taking old (innermost old (part_in table c.args.node) s) given) c.done.result) (sym c.in-Second.is)
     (ok-moves old c.done.new.self _ c.done.result c.done.ensures.ok
     (second-given old c.done.new.self c.after_second.new.store c.args.top c.args.node c.in-Second.first c.scalar-in-Second.result c.in_ok-value-in-Second.value given c.requires.holds c.requires.free
-    c.after_second.ensures.types c.after_second.ensures.locals waits (c.scalar-in-Second.ensures.means table) c.in_ok-value-in-Second.ensures.stands (c.in_ok-value-in-Second.ensures.gives (around_run old) old.base)
+    c.after_second.ensures.types c.after_second.ensures.locals waits (c.scalar-in-Second.ensures.means table) c.in_ok-value-in-Second.ensures.stands c.in_ok-value-in-Second.ensures.finds (c.in_ok-value-in-Second.ensures.gives (around_run old) old.base)
     (c.done.ensures.becomes (record { node = waits.node; stage = S.Second c.in-Second.first }) waits.others waits.stack)))
 
 -- ---- the right operand of `&&` or `||`
@@ -80,7 +83,7 @@ returns-in-Right-clause-moves c =
     subst (λ s. Moves old c.done-in-Right.new.self (taking old (innermost old (part_in table c.args.node) s) given) c.done-in-Right.result) (sym c.in-Right.is)
     (ok-moves old c.done-in-Right.new.self _ c.done-in-Right.result c.done-in-Right.ensures.ok (λ state at.
     subst (λ a. Arrives c.done-in-Right.new.self (give (steps.came (around_run old) (functions_of old) (ScalarGiven a) (popped (config_in old)))) state) is
-    (done-arrives old c.done-in-Right.new.self c.args.top (part_in table c.args.node) S.Right (G.Scalar c.truth.result) c.requires.holds c.requires.free tt waits (c.truth.ensures.stands table)
+    (done-arrives old c.done-in-Right.new.self c.args.top (part_in table c.args.node) S.Right (G.Scalar c.truth.result) c.requires.holds c.requires.free tt waits (λ finds. finds) (c.truth.ensures.stands table)
     (c.done-in-Right.ensures.becomes (record { node = waits.node; stage = S.Right }) waits.others waits.stack) state at)))
 
 -- ---- calls

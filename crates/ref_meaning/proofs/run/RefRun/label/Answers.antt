@@ -4,8 +4,8 @@ use Rattle.std.proofs.lemmas.Bool.Decides.{Decides-int_eq}
 use Rattle.std.proofs.lemmas.Int.{to_z-of_z}
 use Rattle.ref_meaning.specs.declared.control.Task.TheVariants as K
 use Rattle.ref_meaning.specs.Views.{part_in, stmt_of, case_items_of, case_items_from}
-use Rattle.ref_meaning.specs.Items.{ThisCaseItem}
-use Rattle.ref_meaning.proofs.Labels.{LooksOn, switch-stands, found-moves, on-arrives, looks-found, on-other, on-default, known-default, new-default, on-statement}
+use Rattle.ref_meaning.specs.Items.{ThisCaseItem, CaseItemIs}
+use Rattle.ref_meaning.proofs.Labels.{LooksOn, switch-stands, found-moves, on-arrives, looks-found, looks-last, on-other, on-default, known-default, new-default, on-statement}
 use Rattle.ref_meaning.proofs.run.RefRun.label.Goals as goal
 use Rattle.ref_meaning.proofs.run.RefRun.label.Goals.{in-Case+else-label-value, in-Default+in-Some-default-2, in-Default+in-None-default, in-Statement}
 
@@ -24,6 +24,19 @@ returns-then-label-value-clause-moves c =
     found-moves old c.requires.holds c.args.switch value c.args.number c.args.default c.requires.control c.part-then-label-value.new.self c.args.number
     (looks-found old value all (case_items_from c.args.number all) _ label _ here ((Decides-int_eq value label).1 same))
     c.part-then-label-value.result c.part-then-label-value.ensures.waits c.part-then-label-value.ensures.same c.part-then-label-value.ensures.only
+
+pub returns-in-Some-default-clause-moves : goal.returns-in-Some-default-clause-moves
+returns-in-Some-default-clause-moves c =
+    let old = c.args.self.now in
+    let table = old.store.types.now in
+    let all = case_items_of (stmt_of (part_in table c.args.switch)) in
+    let value = c.args.value in
+    let number = c.args.number in
+    let stands = switch-stands old c.requires.holds c.args.switch value number c.args.default c.requires.control in
+    let last = subst (CaseItemIs table number all) c.in_default.is (c.switch_item.ensures table stands) in
+    found-moves old c.requires.holds c.args.switch value number c.args.default c.requires.control c.part.new.self c.in-Some-default.number
+    (looks-last old value all (case_items_from number all) all c.args.default c.in-Some-default.number last c.in-Some-default.is)
+    c.part.result c.part.ensures.waits c.part.ensures.same c.part.ensures.only
 
 pub overflow_add-self : goal.overflow_add-self
 overflow_add-self c =

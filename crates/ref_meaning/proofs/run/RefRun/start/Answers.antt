@@ -4,6 +4,7 @@ use Rattle.run_theory.specs.Runs as Runs
 use Rattle.c_typed.specs.DefinitionViews.{function_in}
 use Rattle.ref_semantics.specs.First.{main_type}
 use Rattle.ref_meaning.specs.Views.{table_of}
+use Rattle.ref_meaning.specs.Holding.{TaskFinds}
 use Rattle.ref_meaning.specs.Moving.{Moves, IsOver}
 use Rattle.ref_meaning.proofs.Making.{number-within, called-is, called-stands, called-type-stands, type-differs, type-fits, in-table, acting-start}
 use Rattle.ref_meaning.proofs.run.RefRun.start.Goals as goal
@@ -23,6 +24,9 @@ returns-then-not-is_main_type-clause-moves c = λ state at.
     (type-differs old true (record { line = 1; column = 1 }) main_type [] (codes "main") c.in-Some.number (function_in (table_of old) function)
     (called-is old c.requires.holds (codes "main") c.in-Some.number (sym c.requires.holds.main ∙ c.in-Some.is) function c.index-function.ensures)
     (in-table old c.requires.holds function.c_type false main_type c.if-not-is_main_type.ensures) state)
+
+pub begin-requires-clause-unawaited : goal.begin-requires-clause-unawaited
+begin-requires-clause-unawaited c = λ awaits. subst (TaskFinds (table_of c.args.self.now) c.args.self.now.control.node) c.requires.task (c.requires.holds.found.0 awaits)
 
 pub begin-requires-clause-function : goal.begin-requires-clause-function
 begin-requires-clause-function c =
