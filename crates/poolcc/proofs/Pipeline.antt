@@ -6,12 +6,12 @@ use Rattle.run_theory.specs.Runs.{all_events, Simulates, Follows}
 use Rattle.run_theory.proofs.Simulations.{compose_all, never_in_front, follows}
 use Rattle.c_typed.specs.Typed.{Program}
 use Rattle.ref_semantics.specs.First.{reference}
-use Rattle.tac_ir.specs.declared.Tac.{Tac}
-use Rattle.tac_ir.specs.Meaning.{tac_run}
-use Rattle.tac_ir.specs.Fits.{FitsFrame}
-use Rattle.tac_ir.proofs.Limits.{no_limit}
-use Rattle.tac_build.specs.Laws.{IsCompiled}
-use Rattle.tac_build.proofs.Simulation as lowering
+use Rattle.integer_code.specs.declared.Tac.{Tac}
+use Rattle.integer_code.specs.Meaning.{tac_run}
+use Rattle.integer_code.specs.Fits.{FitsFrame}
+use Rattle.integer_code.proofs.Limits.{no_limit}
+use Rattle.integer_build.specs.Laws.{IsCompiled}
+use Rattle.integer_build.proofs.Simulation as lowering
 use Rattle.pool_isa.specs.Machine.{Function, mach}
 use Rattle.pool_isa.specs.Ranges.{IsFunction}
 use Rattle.pool_isa.proofs.MachineRuns.{mach_is_run}

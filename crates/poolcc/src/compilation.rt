@@ -5,15 +5,15 @@ ghost use Rattle.c_typed.specs.DefinitionViews.{program_of, ProgramStands};
 ghost use Rattle.c_sizes.specs.TypedNodes.{program_nodes, greatest_nodes};
 ghost use Rattle.pool_isa.specs.Ranges.{IsWithin};
 ghost use Rattle.image_form.specs.Form.{form_of};
-ghost use Rattle.tac_build.specs.Inside.{is_integer_program};
+ghost use Rattle.integer_build.specs.Inside.{is_integer_program};
 ghost use Rattle.poolcc.specs.Compiled.{IsImageFor};
 
 use c_typed::Program;
 use image_form::{Image, MachineLimits};
+use integer_build::lower;
 use pool_linker::link;
 use stack_code::emit;
 use std::alloc::{AllocError, Global};
-use tac_build::lower;
 
 /// The image of a program that is compiled, within limits.
 pub fn compile(alloc: Global, program: &Program, limits: MachineLimits) -> Result<Image, AllocError>

@@ -11,7 +11,7 @@ ghost use Rattle.c_well_typed.specs.Sizes.{HasSmallTypes};
 ghost use Rattle.c_token.specs.Leaves.{Leaf, leaves_of};
 ghost use Rattle.c_lexer.specs.Tokens.{Divides};
 ghost use Rattle.c_syntax.specs.Views.{program_tree};
-ghost use Rattle.tac_build.specs.Inside.{is_integer_program};
+ghost use Rattle.integer_build.specs.Inside.{is_integer_program};
 ghost use Rattle.pool_isa.specs.Ranges.{IsWithin};
 ghost use Rattle.image_form.specs.Form.{form_of, IsImage, ImageOf};
 ghost use Rattle.poolcc.specs.Compiled.{ReadsAs, IsAccepted, IsInteger, Compiles};

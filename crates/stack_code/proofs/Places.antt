@@ -8,10 +8,10 @@ use Rattle.std.proofs.lemmas.Option.{slice_get-get_or}
 use Rattle.std.proofs.lemmas.Bool.{eqb-true}
 use Rattle.pool_isa.specs.declared.instr.Instr.{Instr}
 use Rattle.pool_isa.specs.declared.instr.Instr.TheVariants as instrs
-use Rattle.tac_ir.specs.declared.Op.{Op}
-use Rattle.tac_ir.specs.declared.Op.TheVariants as O
+use Rattle.integer_code.specs.declared.Op.{Op}
+use Rattle.integer_code.specs.declared.Op.TheVariants as O
 use Rattle.stack_code.specs.Emission.{loading, op_code, successor_of, way_to, block, blocks, count, opening, place_of, function_code}
-use Rattle.tac_ir.specs.Fits.{NamesBelow}
+use Rattle.integer_code.specs.Fits.{NamesBelow}
 
 -- The instructions stand in the code from a place on.
 abbrev pub StandsAt : List Instr → ℕ → List Instr → Type 0

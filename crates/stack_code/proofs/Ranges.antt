@@ -12,12 +12,12 @@ use Rattle.pool_isa.specs.declared.instr.Instr.{Instr}
 use Rattle.pool_isa.specs.declared.instr.Instr.TheVariants as instrs
 use Rattle.pool_isa.specs.Instr.{Fits}
 use Rattle.pool_isa.specs.Ranges.{InRange, is_last, LastIs, IsFunction}
-use Rattle.tac_ir.specs.declared.Op.{Op}
-use Rattle.tac_ir.specs.declared.Op.TheVariants as O
-use Rattle.tac_ir.specs.declared.Register.{Register}
-use Rattle.tac_ir.specs.declared.Tac.{Tac}
+use Rattle.integer_code.specs.declared.Op.{Op}
+use Rattle.integer_code.specs.declared.Op.TheVariants as O
+use Rattle.integer_code.specs.declared.Register.{Register}
+use Rattle.integer_code.specs.declared.Tac.{Tac}
 use Rattle.stack_code.specs.Emission.{offset_of, loading, assigning, op_code, successor_of, way_to, block, blocks, opening, place_of, function_code, start_function, main_function, functions_of}
-use Rattle.tac_ir.specs.Fits.{NamesBelow, FitsFrame}
+use Rattle.integer_code.specs.Fits.{NamesBelow, FitsFrame}
 use Rattle.stack_code.proofs.Words.{word, word_fits}
 use Rattle.stack_code.proofs.Places.{StandsAt, op_code-fits, way_to-fits, blocks-fits, names-successor, block_stands}
 

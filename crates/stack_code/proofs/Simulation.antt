@@ -17,15 +17,15 @@ use Rattle.c_num.specs.Types.{IsValue, is_value}
 use Rattle.c_num.specs.Conversion.{convert_to}
 use Rattle.c_num.specs.Arith.{outcome_of, negated_of, complement_of, compare_of}
 use Rattle.c_num.proofs.Outcomes.{is_value-Decides, zero_in_range}
-use Rattle.tac_ir.specs.Values.{byte_of, next_char, is_zero, truth}
+use Rattle.integer_code.specs.Values.{byte_of, next_char, is_zero, truth}
 use Rattle.pool_isa.specs.declared.instr.Width.TheVariants as widths
 use Rattle.pool_isa.specs.declared.instr.Instr.{Instr}
 use Rattle.pool_isa.specs.declared.instr.Instr.TheVariants as instrs
 use Rattle.pool_isa.specs.Machine as machine
-use Rattle.tac_ir.specs.declared.Op.{Op}
-use Rattle.tac_ir.specs.declared.Op.TheVariants as O
-use Rattle.tac_ir.specs.declared.Tac.{Tac}
-use Rattle.tac_ir.specs.Meaning.{State, execute, lost, write, read, operand, defined, go_to, act, initial, tac_run}
+use Rattle.integer_code.specs.declared.Op.{Op}
+use Rattle.integer_code.specs.declared.Op.TheVariants as O
+use Rattle.integer_code.specs.declared.Tac.{Tac}
+use Rattle.integer_code.specs.Meaning.{State, execute, lost, write, read, operand, defined, go_to, act, initial, tac_run}
 use Rattle.stack_code.specs.Emission.{op_code, successor_of, way_to, block, place_of, function_code, code_of}
 use Rattle.stack_code.specs.Laws.{EmissionFollowsCode}
 use Rattle.stack_code.proofs.Words.{word, word-byte, word-pos_byte, input_word-next, word-is_zero, binary_word-outcome, negated_word-outcome, complement_word-value, converted_word-value, compared_word-truth}

@@ -15,7 +15,7 @@ use Rattle.c_num.specs.Arith.{outcome_of, wrapped, negated_of, wrapped_negation,
 use Rattle.c_num.proofs.Conversions.{convert_to-same, convert_to-word, word_is, same_converted, congruent_from_word, modulo-congruent}
 use Rattle.c_num.proofs.Outcomes.{wrapped_is, wrapped-in_range, wrapped-negated, wrapped_negation-in_range, complement-in_range}
 use Rattle.c_num.proofs.Words.{value_bounds}
-use Rattle.tac_ir.specs.Values.{byte_of, next_char, is_zero, truth}
+use Rattle.integer_code.specs.Values.{byte_of, next_char, is_zero, truth}
 use Rattle.pool_isa.specs.Machine.{input_word, value_in, binary_word, negated_word, complement_word, compared_word, converted_word}
 
 -- the word that holds a value

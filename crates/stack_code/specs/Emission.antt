@@ -11,10 +11,10 @@ use Rattle.pool_isa.specs.declared.instr.Width.TheVariants as widths
 use Rattle.pool_isa.specs.declared.instr.Instr.{Instr}
 use Rattle.pool_isa.specs.declared.instr.Instr.TheVariants as instrs
 use Rattle.pool_isa.specs.Machine.{Function, Code}
-use Rattle.tac_ir.specs.declared.Op.{Op}
-use Rattle.tac_ir.specs.declared.Op.TheVariants as O
-use Rattle.tac_ir.specs.declared.Register.{Register}
-use Rattle.tac_ir.specs.declared.Tac.{Tac}
+use Rattle.integer_code.specs.declared.Op.{Op}
+use Rattle.integer_code.specs.declared.Op.TheVariants as O
+use Rattle.integer_code.specs.declared.Register.{Register}
+use Rattle.integer_code.specs.declared.Tac.{Tac}
 
 -- where a register lies in the frame
 abbrev pub offset_of : Register → ℕ

@@ -1,6 +1,6 @@
 -- A table of the places where the blocks of a function's points begin.
 use Rattle.std.specs.Prelude.{◌≡◌, ℕ, ◌<◌, List, length, slice_index}
-use Rattle.tac_ir.specs.declared.Func.{Func}
+use Rattle.integer_code.specs.declared.Func.{Func}
 use Rattle.stack_code.specs.Emission.{place_of}
 
 pub record ArePlaces (function : Func) (places : List ℕ) : Type 0 where

@@ -5,15 +5,15 @@ ghost use Rattle.std.specs.Option.{ForSome};
 ghost use Rattle.std.specs.List.{AllByRecursion};
 ghost use Rattle.pool_isa.specs.Ranges.{IsFunction};
 ghost use Rattle.stack_code.specs.Emission.{way_to, block, function_code, start_function, main_function, functions_of};
-ghost use Rattle.tac_ir.specs.Fits.{NamesBelow, FitsFunction, FitsFrame};
+ghost use Rattle.integer_code.specs.Fits.{NamesBelow, FitsFunction, FitsFrame};
 ghost use Rattle.stack_code.specs.Places.{ArePlaces};
 ghost use Rattle.stack_code.specs.Units.{unit_function, unit_functions};
 
 use crate::operation::{op_len, push_op, successor};
+use integer_code::{Func, Op, Tac};
 use pool_isa::Instr;
 use slab_space::PoolKind;
 use std::alloc::{AllocError, Global};
-use tac_ir::{Func, Op, Tac};
 
 /// A function of the machine.
 #[derive(Debug, Drop)]

@@ -3,12 +3,12 @@
 ghost use Rattle.std.specs.Prelude.{◌≡◌, ◌+◌, ◌^◌, ◌<◌, ◌++◌, length, OnOk, slice_index};
 ghost use Rattle.c_num.specs.Conversion.{modulo};
 ghost use Rattle.stack_code.specs.Emission.{assigning, op_code, offset_of, successor_of};
-ghost use Rattle.tac_ir.specs.Fits.{NamesBelow};
+ghost use Rattle.integer_code.specs.Fits.{NamesBelow};
 
 use c_num::{IntType, Relation, word};
+use integer_code::{Op, Register};
 use pool_isa::{Instr, Width};
 use std::alloc::AllocError;
-use tac_ir::{Op, Register};
 
 /// Loads the word of a register.
 const LOAD: Instr = Instr::Load(IntType::ULong);

@@ -1,8 +1,8 @@
 use c_num::IntType;
+use integer_code::{Func, Op, PointId, Register, Tac};
 use pool_isa::{Instr, Width};
 use stack_code::emit;
 use std::test::Fail;
-use tac_ir::{Func, Op, PointId, Register, Tac};
 
 #[test]
 fn program_is_emitted(rt: HostRuntime) -> Result<(), Fail> {

@@ -1,14 +1,14 @@
 // What is emitted for each operation.
 
-ghost use Rattle.tac_ir.specs.Fits.{NamesBelow};
+ghost use Rattle.integer_code.specs.Fits.{NamesBelow};
 
 use c_num::{BinOp, IntType, Relation};
+use integer_code::{Func, Op, PointId, Register, Tac};
 use pool_isa::{Instr, Width};
 use stack_code::emit;
 use std::alloc::{AllocError, Global};
 use std::process::Abort;
 use std::test::Fail;
-use tac_ir::{Func, Op, PointId, Register, Tac};
 
 /// What is emitted behind the code of point 1 where this is the operation of point 0, at which a function begins.
 fn code_of(rt: &impl Abort, alloc: Global, op: Op) -> Result<Vec<Instr>, AllocError>

@@ -3,8 +3,8 @@ use Rattle.c_typed.specs.DefinitionViews.{program_of}
 use Rattle.image_form.specs.declared.image.Image.{Image}
 use Rattle.image_form.specs.Form.{Form, form_of}
 use Rattle.stack_code.specs.Units.{unit_functions}
-use Rattle.tac_build.specs.Laws.{IsCompiled}
-use Rattle.tac_build.proofs.Simulation.{integer_parts}
+use Rattle.integer_build.specs.Laws.{IsCompiled}
+use Rattle.integer_build.proofs.Simulation.{integer_parts}
 use Rattle.poolcc.proofs.Pipeline.{linked_code, image_if}
 use Rattle.poolcc.proofs.compilation.compile.Goals as goal
 

@@ -2,8 +2,8 @@ use Rattle.std.proofs.Common.{◌≡◌, ◌≤◌, true, sym, ◌∙◌, subst}
 use Rattle.c_syntax.specs.Views.{program_tree}
 use Rattle.c_typed.specs.Typed.{Program}
 use Rattle.c_sizes.specs.TypedNodes.{program_nodes, greatest_nodes}
-use Rattle.tac_build.specs.Inside.{is_integer_program}
-use Rattle.tac_build_typing.proofs.ProgramsInside.{integer_program_is_inside}
+use Rattle.integer_build.specs.Inside.{is_integer_program}
+use Rattle.integer_build_typing.proofs.ProgramsInside.{integer_program_is_inside}
 use Rattle.poolcc.proofs.Sizes.{nodes_within}
 use Rattle.poolcc.proofs.text.integer_program.Goals as goal
 

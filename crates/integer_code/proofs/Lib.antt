@@ -1,0 +1,2 @@
+-- What is proved of runs of three-address code.
+pub mod Limits
