@@ -1,238 +1,402 @@
--- When three-address code is the code of a program: a relation by recursion on the typed tree, in the manner of the
--- specification of RTL generation in CompCert (Leroy, CACM 2009). An empty statement, `break`, `continue` and parentheses have
--- no point.
+-- When points are the code of an expression: a relation by recursion on the typed tree, in the manner of the specification of RTL
+-- generation in CompCert (Leroy, CACM 2009).
 --
--- A local lies in the register of its number. The value of an expression comes to a register behind those of the
--- locals in scope, and the registers behind that one are free. The types of the locals in scope are given in their order.
-use Rattle.std.specs.Prelude.{◌≡◌, ℕ, ◌+◌, ℤ, pos, Bool, true, false, List, [], ◌∷◌, Option, Some, None, length, slice_get}
-use Rattle.std.specs.List.{AllByRecursion}
+-- Code leads from a spot to a spot, and has all points in between. Each form that makes, copies, offsets, converts, tests, compares,
+-- frees, passes, loads through or stores through a pointer has its point there, and no other point handles a pointer. An integer
+-- expression has a tree; where more code follows before that is used, a temporary holds it.
+use Rattle.std.specs.Prelude.{◌≡◌, ℕ, suc, Bool, true, false, not, ◌&&◌, ◌||◌, if◌then◌else◌, List, [], ◌∷◌, ◌++◌, slice_get, Option, Some, None, pos, bytes_eq}
 use Rattle.c_num.specs.declared.IntType.{IntType}
 use Rattle.c_num.specs.declared.IntType.TheVariants as I
 use Rattle.c_num.specs.declared.BinOp.{BinOp}
 use Rattle.c_num.specs.declared.BinOp.TheVariants as B
-use Rattle.c_num.specs.declared.Relation.TheVariants as relations
 use Rattle.c_num.specs.Types.{common_of}
+use Rattle.c_typed.specs.declared.typed.LibraryFunction.{LibraryFunction}
 use Rattle.c_typed.specs.declared.typed.LibraryFunction.TheVariants as L
 use Rattle.c_typed.specs.declared.typed.Stepping.{Stepping}
 use Rattle.c_typed.specs.declared.typed.Stepping.TheVariants as Steppings
+use Rattle.c_typed.specs.Types.{CType, Void, Integer, Pointer, Array, Struct, Function, literal_type}
+use Rattle.c_typed.specs.Layouts.{StructDef, members_by_tag, known_members, member_type}
 use Rattle.c_typed.specs.Typed as T
-use Rattle.c_typed.specs.Typed.{Value, Object, Stmt, Block, SwitchItems, LocalDef, ForStart, FunctionDef, Program}
-use Rattle.ref_semantics.specs.Meaning.{step_operator}
-use Rattle.tac_ir.specs.declared.Op.{Op}
-use Rattle.tac_ir.specs.declared.Op.TheVariants as O
-use Rattle.tac_ir.specs.declared.Register.{Register}
-use Rattle.tac_ir.specs.declared.PointId.{PointId}
-use Rattle.tac_ir.specs.declared.Tac.{Tac}
-use Rattle.tac_ir.specs.Fits.{NamesBelow}
-use Rattle.tac_build.specs.Inside.{local_of, word_type, common_word_type, with_local, with_start, has_default}
+use Rattle.c_typed.specs.Typed.{Value, Object, Designator, Values, GlobalDef, LiteralDef, FunctionDef, Program}
+use Rattle.tac_ir.specs.declared.register.Register.{Register}
+use Rattle.tac_ir.specs.declared.register.Register.TheVariants as R
+use Rattle.tac_ir.specs.Code.{Tree, Constant, Held, Convert, Complement, Not, Arithmetic, Compare, Base, AtLocal, AtGlobal, AtLiteral, Pointed, Indexed, Step, Member, Element, Path, Operand, IntegerOperand, PointerOperand, Callee, Known, Through, Op}
+use Rattle.tac_ir.specs.Code as O
+use Rattle.tac_ir.specs.First.{named_global, placed_literal}
+use Rattle.tac_build.specs.Homes.{Home, Scope, home_of, register_home, is_pure}
+use Rattle.tac_build.specs.Spots.{Spot, behind, with_call, with_argument, with_expression, with_temporary, argument, expression, temporary, Lowered, AsInteger, AsPointer, AsObject, AsNothing, Mode, Kept, Dropped, Behind, Row, is_used, is_followed, is_address, cast_mode, pointed_mode}
 
-abbrev pub register : ℕ → Register
-register number = record { 0 = number }
+-- ---- names
 
-abbrev pub point : ℕ → PointId
-point number = record { 0 = number }
+-- a function by how many are defined before it
+abbrev pub function_number : ℕ → List FunctionDef → List ℕ → Option ℕ
+function_number number [] name = None
+function_number number (first ∷ others) name = if bytes_eq first.name name then Some number else function_number (suc number) others name
 
--- the operation stands at the point
-abbrev pub HasOp : List Op → ℕ → Op → Type 0
-HasOp points at op = slice_get points at ≡ Some op
+abbrev pub type_of_function : List FunctionDef → List ℕ → Option CType
+type_of_function [] name = None
+type_of_function (first ∷ others) name = if bytes_eq first.name name then Some first.c_type else type_of_function others name
 
--- the register of the local that an expression names
-abbrev pub number_or_zero : Option ℕ → ℕ
-number_or_zero None = 0
-number_or_zero (Some number) = number
+-- the type of the member of this number (C17 6.5.2.3)
+abbrev pub type_of_member : List StructDef → CType → ℕ → Option CType
+type_of_member structs (Struct tag) number = member_type (slice_get (known_members (members_by_tag structs tag)) number)
+type_of_member structs _ number = None
 
-abbrev pub local_register : Object → Register
-local_register object = register (number_or_zero (local_of object))
+-- ---- paths
 
--- a type of words
-abbrev pub or_long : Option IntType → IntType
-or_long None = I.Long
-or_long (Some int_type) = int_type
+abbrev pub path_from : Base → Path
+path_from base = record { base = base; steps = [] }
 
-abbrev pub tested_type : List IntType → Value → IntType
-tested_type types value = or_long (word_type types value)
+abbrev pub then_step : Path → Step → Path
+then_step path step = record path { steps = path.steps ++ step ∷ [] }
 
--- a value is written to a register
-abbrev pub ConstantCode : List Op → ℤ → ℕ → ℕ → ℕ → Type 0
-ConstantCode points value entry to exit = HasOp points entry (O.Constant (register to) value (point exit))
+-- ---- trees
 
--- a register is tested at a type: the way goes to the first point where it isn't 0, to the second where it is
-abbrev pub BranchCode : List Op → IntType → ℕ → ℕ → ℕ → ℕ → Type 0
-BranchCode points int_type at tested holds fails = HasOp points at (O.Branch int_type (register tested) (point holds) (point fails))
+-- whether an integer isn't 0
+abbrev pub truth_tree : IntType → Tree → Tree
+truth_tree int_type tree = Not I.Int (Not int_type tree)
 
--- an operator on a register and the one behind it, which gives its result to the first
-abbrev pub OperatorCode : List Op → BinOp → IntType → ℕ → ℕ → ℕ → Type 0
-OperatorCode points op int_type at to exit = HasOp points at (O.Arithmetic op int_type (register to) (register (to + 1)) (register to) (point exit))
+-- the value of a compound assignment, from the old one and the operand (C17 6.5.16.2 paragraph 3)
+abbrev pub compound_tree : BinOp → IntType → IntType → Register → Tree → Tree
+compound_tree op object_type int_type old operand = Convert object_type (Arithmetic op int_type (Convert int_type (Held old)) operand)
 
--- a register becomes the sum or difference of a local and 1, in the type of the local
-abbrev pub StepCode : List Op → Stepping → IntType → Object → ℕ → ℕ → ℕ → Type 0
-StepCode points stepping int_type object entry to exit =
-    (mid : ℕ) × (last : ℕ) × (more : ℕ) × HasOp points entry (O.Convert (common_of int_type I.Int) (local_register object) (register to) (point mid))
-    × ConstantCode points (pos 1) mid (to + 1) last × OperatorCode points (step_operator stepping) (common_of int_type I.Int) last to more
-    × HasOp points more (O.Convert int_type (register to) (register to) (point exit))
+abbrev pub is_up : Stepping → Bool
+is_up Steppings.PreIncrement = true
+is_up Steppings.PostIncrement = true
+is_up _ = false
 
--- the value of a step is the new one, or the old one
+abbrev pub step_operator : Stepping → BinOp
+step_operator stepping = if is_up stepping then B.Add else B.Sub
+
+-- the new value of `x++` and its like: x + 1 in the common type of x and int, converted back (C17 6.5.3.1)
+abbrev pub step_tree : Stepping → IntType → Register → Tree
+step_tree stepping int_type old =
+    Convert int_type (Arithmetic (step_operator stepping) (common_of int_type I.Int) (Convert (common_of int_type I.Int) (Held old)) (Constant (pos 1)))
+
+-- the value is the old one
 abbrev pub gives_old : Stepping → Bool
 gives_old Steppings.PostIncrement = true
 gives_old Steppings.PostDecrement = true
 gives_old _ = false
 
-abbrev pub SteppingCode : List Op → Bool → Stepping → IntType → Object → ℕ → ℕ → ℕ → Type 0
-SteppingCode points false stepping int_type object entry to exit =
-    (mid : ℕ) × StepCode points stepping int_type object entry to mid × HasOp points mid (O.Copy (register to) (local_register object) (point exit))
-SteppingCode points true stepping int_type object entry to exit =
-    (mid : ℕ) × (last : ℕ) × StepCode points stepping int_type object entry (to + 1) mid × HasOp points mid (O.Copy (local_register object) (register to) (point last))
-    × HasOp points last (O.Copy (register (to + 1)) (local_register object) (point exit))
+-- ---- points
 
--- From a point to a point the expression leaves its value in a register, and changes no other but those of locals and
--- those behind it.
-abbrev pub ExprCode : List Op → List IntType → Value → ℕ → ℕ → ℕ → Type 0
-ExprCode points types (T.Constant int_type value) entry to exit = ConstantCode points value entry to exit
-ExprCode points types (T.Grouped inner) entry to exit = ExprCode points types inner entry to exit
-ExprCode points types (T.Read place object) entry to exit = HasOp points entry (O.Copy (local_register object) (register to) (point exit))
-ExprCode points types (T.Converted int_type value) entry to exit =
-    (mid : ℕ) × ExprCode points types value entry to mid × HasOp points mid (O.Convert int_type (register to) (register to) (point exit))
-ExprCode points types (T.Plus operand) entry to exit = ExprCode points types operand entry to exit
-ExprCode points types (T.Minus place int_type operand) entry to exit =
-    (mid : ℕ) × (last : ℕ) × ConstantCode points (pos 0) entry to mid × ExprCode points types operand mid (to + 1) last × OperatorCode points B.Sub int_type last to exit
-ExprCode points types (T.Complement int_type operand) entry to exit =
-    (mid : ℕ) × ExprCode points types operand entry to mid × HasOp points mid (O.Complement int_type (register to) (register to) (point exit))
-ExprCode points types (T.Not operand) entry to exit =
-    (mid : ℕ) × ExprCode points types operand entry to mid × HasOp points mid (O.Not (tested_type types operand) (register to) (register to) (point exit))
-ExprCode points types (T.Arithmetic op place int_type left right) entry to exit =
-    (mid : ℕ) × (last : ℕ) × ExprCode points types left entry to mid × ExprCode points types right mid (to + 1) last × OperatorCode points op int_type last to exit
-ExprCode points types (T.Compare relation left right) entry to exit =
-    (mid : ℕ) × (last : ℕ) × ExprCode points types left entry to mid × ExprCode points types right mid (to + 1) last
-    × HasOp points last (O.Compare relation (or_long (common_word_type types left right)) (register to) (register (to + 1)) (register to) (point exit))
-ExprCode points types (T.And left right) entry to exit =
-    (test : ℕ) × (more : ℕ) × (last : ℕ) × (holds : ℕ) × (fails : ℕ) × ExprCode points types left entry to test × BranchCode points (tested_type types left) test to more fails
-    × ExprCode points types right more to last × BranchCode points (tested_type types right) last to holds fails × ConstantCode points (pos 1) holds to exit × ConstantCode points (pos 0) fails to exit
-ExprCode points types (T.Or left right) entry to exit =
-    (test : ℕ) × (more : ℕ) × (last : ℕ) × (holds : ℕ) × (fails : ℕ) × ExprCode points types left entry to test × BranchCode points (tested_type types left) test to holds more
-    × ExprCode points types right more to last × BranchCode points (tested_type types right) last to holds fails × ConstantCode points (pos 1) holds to exit × ConstantCode points (pos 0) fails to exit
-ExprCode points types (T.Conditional condition taken otherwise) entry to exit =
-    (test : ℕ) × (holds : ℕ) × (fails : ℕ) × ExprCode points types condition entry to test × BranchCode points (tested_type types condition) test to holds fails
-    × ExprCode points types taken holds to exit × ExprCode points types otherwise fails to exit
-ExprCode points types (T.Cast value) entry to exit = ExprCode points types value entry to exit
-ExprCode points types (T.CastVoid value) entry to exit = ExprCode points types value entry to exit
-ExprCode points types (T.Assign place object value) entry to exit =
-    (mid : ℕ) × ExprCode points types value entry to mid × HasOp points mid (O.Copy (register to) (local_register object) (point exit))
-ExprCode points types (T.AssignArithmetic op place object_type int_type object value) entry to exit =
-    (mid : ℕ) × (last : ℕ) × (more : ℕ) × (store : ℕ) × ExprCode points types value entry (to + 1) mid × HasOp points mid (O.Convert int_type (local_register object) (register to) (point last))
-    × OperatorCode points op int_type last to more × HasOp points more (O.Convert object_type (register to) (register to) (point store))
-    × HasOp points store (O.Copy (register to) (local_register object) (point exit))
-ExprCode points types (T.StepInteger stepping place int_type object) entry to exit = SteppingCode points (gives_old stepping) stepping int_type object entry to exit
-ExprCode points types (T.LibraryCall L.GetChar groups place T.NoValues) entry to exit = HasOp points entry (O.GetChar (register to) (point exit))
-ExprCode points types (T.LibraryCall L.PutChar groups place (T.MoreValues value T.NoValues)) entry to exit =
-    (mid : ℕ) × ExprCode points types value entry to mid × HasOp points mid (O.PutChar (register to) (register to) (point exit))
-ExprCode points types (T.LibraryCall L.Exit groups place (T.MoreValues value T.NoValues)) entry to exit =
-    (mid : ℕ) × ExprCode points types value entry to mid × HasOp points mid (O.Exit (register to))
-ExprCode points types _ entry to exit = ⊥
+-- code that leads from a spot to a spot, and what it comes to
+abbrev pub PartCode : Type 1
+PartCode = Spot → Spot → Lowered → Type 0
 
--- ---- declarations
+-- what a pointer points to
+abbrev pub pointed_by : Bool → Lowered → Lowered
+pointed_by false (AsPointer register target) = AsObject (path_from (Pointed register target)) target
+pointed_by is_address found = found
 
--- a local's first value is evaluated behind its register, and copied there
-abbrev pub FirstCode : List Op → List IntType → Option Value → ℕ → ℕ → ℕ → Type 0
-FirstCode points types None scope entry exit = entry ≡ exit
-FirstCode points types (Some value) scope entry exit =
-    (mid : ℕ) × ExprCode points types value entry (scope + 1) mid × HasOp points mid (O.Copy (register (scope + 1)) (register scope) (point exit))
+-- what a call gives: where its value isn't used, nothing
+abbrev pub call_gives : Bool → CType → ℕ → Lowered
+call_gives true (Function (Integer int_type) parameters) site = AsInteger int_type (Held (R.Call site))
+call_gives true (Function (Pointer target) parameters) site = AsPointer (R.Call site) target
+call_gives _ c_type site = AsNothing
 
-abbrev pub LocalCode : List Op → List IntType → LocalDef → ℕ → ℕ → Type 0
-LocalCode points types local entry exit = FirstCode points (with_local types local) local.first (length types) entry exit
+module _ (points : List Op) where
+  -- the operation stands at the point
+  abbrev pub HasOp : ℕ → Op → Type 0
+  HasOp at op = slice_get points at ≡ Some op
 
-abbrev pub LocalsCode : List Op → List IntType → List LocalDef → ℕ → ℕ → Type 0
-LocalsCode points types [] entry exit = entry ≡ exit
-LocalsCode points types (first ∷ others) entry exit = (mid : ℕ) × LocalCode points types first entry mid × LocalsCode points (with_local types first) others mid exit
+  -- one point
+  abbrev pub Emits : Op → Spot → Spot → Type 0
+  Emits op from to = HasOp from.at op × (to ≡ behind from)
 
--- ---- statements
+  -- a point that writes an integer to a new temporary
+  abbrev pub GivesInteger : (Register → Op) → IntType → Spot → Spot → Lowered → Type 0
+  GivesInteger op int_type from to lowered = HasOp from.at (op (temporary from)) × (to ≡ behind (with_temporary from)) × (lowered ≡ AsInteger int_type (Held (temporary from)))
 
--- where a statement goes on: behind it, at a `break` and at a `continue`
-pub record Ways : Type 0 where
-  pub onward : ℕ
-  pub broken : ℕ
-  pub continued : ℕ
+  -- a point that writes a pointer to the register of its expression
+  abbrev pub GivesPointer : (Register → Op) → CType → Spot → Spot → Lowered → Type 0
+  GivesPointer op target from to lowered = HasOp from.at (op (expression from)) × (to ≡ behind (with_expression from)) × (lowered ≡ AsPointer (expression from) target)
 
-abbrev pub StartCode : List Op → List IntType → ForStart → ℕ → ℕ → Type 0
-StartCode points types T.StartNothing entry exit = entry ≡ exit
-StartCode points types (T.StartValue value) entry exit = ExprCode points types value entry (length types) exit
-StartCode points types (T.StartLocals locals) entry exit = LocalsCode points types locals entry exit
+  -- a tree is used later: a temporary holds it where more code follows
+  abbrev pub KeepsTree : Bool → Tree → Spot → Spot → Tree → Type 0
+  KeepsTree false tree from to kept = (to ≡ from) × (kept ≡ tree)
+  KeepsTree true tree from to kept = HasOp from.at (O.Assign (temporary from) tree) × (to ≡ behind (with_temporary from)) × (kept ≡ Held (temporary from))
 
--- each turn of a loop without a condition has a point, too
-abbrev pub ConditionCode : List Op → List IntType → Option Value → ℕ → ℕ → ℕ → Type 0
-ConditionCode points types None entry inside exit = ConstantCode points (pos 0) entry (length types) inside
-ConditionCode points types (Some condition) entry inside exit =
-    (test : ℕ) × ExprCode points types condition entry (length types) test × BranchCode points (tested_type types condition) test (length types) inside exit
+  -- what a local in a register holds
+  abbrev pub ReadsLocal : Home → Spot → Spot → Lowered → Type 0
+  ReadsLocal home from to lowered = by home.c_type
+    where
+      by : CType → Type 0
+      by (Integer int_type) = (to ≡ from) × (lowered ≡ AsInteger int_type (Held (R.Local home.local)))
+      by (Pointer target) = GivesPointer (λ register. O.Copy register (R.Local home.local)) target from to lowered
+      by _ = ⊥
 
-abbrev pub OptionalCode : List Op → List IntType → Option Value → ℕ → ℕ → Type 0
-OptionalCode points types None entry exit = entry ≡ exit
-OptionalCode points types (Some value) entry exit = ExprCode points types value entry (length types) exit
+  -- what an object in memory holds
+  abbrev pub Loads : CType → Path → Spot → Spot → Lowered → Type 0
+  Loads (Integer int_type) path from to lowered = GivesInteger (λ register. O.Load register (Integer int_type) path) int_type from to lowered
+  Loads (Pointer target) path from to lowered = GivesPointer (λ register. O.Load register (Pointer target) path) target from to lowered
+  Loads _ path from to lowered = ⊥
 
--- the test of one label: where the value fits, the way goes to the label's place, otherwise to the next test
-abbrev pub LabelCode : List Op → IntType → ℕ → ℤ → ℕ → ℕ → ℕ → Type 0
-LabelCode points int_type scope label entry inside next =
-    (mid : ℕ) × (last : ℕ) × ConstantCode points label entry (scope + 1) mid
-    × HasOp points mid (O.Compare relations.Eq int_type (register scope) (register (scope + 1)) (register (scope + 1)) (point last))
-    × BranchCode points I.Int last (scope + 1) inside next
+  -- a value comes to a register
+  abbrev pub Writes : Register → Lowered → Spot → Spot → Type 0
+  Writes register (AsInteger int_type tree) from to = Emits (O.Assign register tree) from to
+  Writes register (AsPointer pointer target) from to = Emits (O.Copy register pointer) from to
+  Writes register _ from to = ⊥
 
--- without `default` the way goes on behind the `switch`
-abbrev pub GoesPast : Bool → ℕ → ℕ → Type 0
-GoesPast true otherwise onward = Unit {0}
-GoesPast false otherwise onward = otherwise ≡ onward
+  -- a value is assigned to a local in a register, and is the value of the assignment
+  abbrev pub WritesLocal : Home → Lowered → Spot → Spot → Lowered → Type 0
+  WritesLocal home value from to lowered = Writes (R.Local home.local) value from to × (lowered ≡ by value)
+    where
+      by : Lowered → Lowered
+      by (AsInteger int_type tree) = AsInteger int_type (Held (R.Local home.local))
+      by other = other
 
-abbrev mutual
-  -- From a point on the statement is done, and goes on at one of the points, unless it returns.
-  pub StmtCode : List Op → List IntType → Stmt → ℕ → Ways → Type 0
-  StmtCode points types (T.BlockStmt items) entry ways = BlockCode points types items entry ways
-  StmtCode points types T.Empty entry ways = entry ≡ ways.onward
-  StmtCode points types (T.Expression value) entry ways = ExprCode points types value entry (length types) ways.onward
-  StmtCode points types (T.If condition taken) entry ways =
-      (test : ℕ) × (inside : ℕ) × ExprCode points types condition entry (length types) test × BranchCode points (tested_type types condition) test (length types) inside ways.onward
-      × StmtCode points types taken inside ways
-  StmtCode points types (T.IfElse condition taken otherwise) entry ways =
-      (test : ℕ) × (inside : ℕ) × (outside : ℕ) × ExprCode points types condition entry (length types) test × BranchCode points (tested_type types condition) test (length types) inside outside
-      × StmtCode points types taken inside ways × StmtCode points types otherwise outside ways
-  StmtCode points types (T.While condition body) entry ways =
-      (inside : ℕ) × ConditionCode points types (Some condition) entry inside ways.onward
-      × StmtCode points types body inside (record { onward = entry; broken = ways.onward; continued = entry })
-  StmtCode points types (T.DoWhile body condition) entry ways =
-      (check : ℕ) × StmtCode points types body entry (record { onward = check; broken = ways.onward; continued = check }) × ConditionCode points types (Some condition) check entry ways.onward
-  StmtCode points types (T.For start condition step body) entry ways =
-      (head : ℕ) × (inside : ℕ) × (next : ℕ) × StartCode points types start entry head × ConditionCode points (with_start types start) condition head inside ways.onward
-      × StmtCode points (with_start types start) body inside (record { onward = next; broken = ways.onward; continued = next }) × OptionalCode points (with_start types start) step next head
-  StmtCode points types (T.Switch value items) entry ways =
-      (tests : ℕ) × (first : ℕ) × (otherwise : ℕ) × ExprCode points types value entry (length types) tests
-      × SwitchCode points types (tested_type types value) items tests first otherwise ways × GoesPast (has_default items) otherwise ways.onward
-  StmtCode points types T.Break entry ways = entry ≡ ways.broken
-  StmtCode points types T.Continue entry ways = entry ≡ ways.continued
-  StmtCode points types (T.Return None) entry ways = ⊥
-  StmtCode points types (T.Return (Some value)) entry ways =
-      (mid : ℕ) × ExprCode points types value entry (length types) mid × HasOp points mid (O.Return (register (length types)))
+  -- a value is stored in memory, and is the value of the assignment, if that is used
+  abbrev pub Stores : Bool → Path → CType → Lowered → Spot → Spot → Lowered → Type 0
+  Stores true path c_type (AsInteger int_type tree) from to lowered =
+      HasOp from.at (O.Assign (temporary from) tree) × Emits (O.Store path c_type (IntegerOperand (Held (temporary from)))) (behind (with_temporary from)) to × (lowered ≡ AsInteger int_type (Held (temporary from)))
+  Stores false path c_type (AsInteger int_type tree) from to lowered = Emits (O.Store path c_type (IntegerOperand tree)) from to × (lowered ≡ AsNothing)
+  Stores used path c_type (AsPointer pointer target) from to lowered = Emits (O.Store path c_type (PointerOperand pointer)) from to × (lowered ≡ AsPointer pointer target)
+  Stores used path c_type _ from to lowered = ⊥
 
-  pub BlockCode : List Op → List IntType → Block → ℕ → Ways → Type 0
-  BlockCode points types T.Close entry ways = entry ≡ ways.onward
-  BlockCode points types (T.Declare local others) entry ways = (mid : ℕ) × LocalCode points types local entry mid × BlockCode points (with_local types local) others mid ways
-  BlockCode points types (T.Perform stmt others) entry ways =
-      (mid : ℕ) × StmtCode points types stmt entry (record ways { onward = mid }) × BlockCode points types others mid ways
+  -- The value of a way comes to a new register of its kind, where ways meet; and that of the other way to the same one.
+  abbrev pub Joins : Lowered → Spot → Spot → Lowered → Type 0
+  Joins (AsInteger int_type tree) from to lowered = GivesInteger (λ register. O.Assign register tree) int_type from to lowered
+  Joins (AsPointer pointer target) from to lowered = GivesPointer (λ register. O.Copy register pointer) target from to lowered
+  Joins AsNothing from to lowered = (to ≡ from) × (lowered ≡ AsNothing)
+  Joins _ from to lowered = ⊥
 
-  -- The items of a `switch` from one on: their labels are tested from a point on, and they are done from a point on. Where no label
-  -- fits, the way goes on at `otherwise`: at `default`, or behind the `switch`.
-  pub SwitchCode : List Op → List IntType → IntType → SwitchItems → ℕ → ℕ → ℕ → Ways → Type 0
-  SwitchCode points types int_type T.SwitchEnd tests entry otherwise ways = (tests ≡ otherwise) × (entry ≡ ways.onward)
-  SwitchCode points types int_type (T.Case label others) tests entry otherwise ways =
-      (next : ℕ) × LabelCode points int_type (length types) label tests entry next × SwitchCode points types int_type others next entry otherwise ways
-  SwitchCode points types int_type (T.Default others) tests entry otherwise ways = (entry ≡ otherwise) × SwitchCode points types int_type others tests entry otherwise ways
-  SwitchCode points types int_type (T.SwitchStmt stmt others) tests entry otherwise ways =
-      (mid : ℕ) × StmtCode points types stmt entry (record { onward = mid; broken = ways.onward; continued = ways.continued }) × SwitchCode points types int_type others tests mid otherwise ways
+  abbrev pub JoinsWith : Lowered → Lowered → Spot → Spot → Type 0
+  JoinsWith (AsInteger int_type (Held register)) (AsInteger other tree) from to = Emits (O.Assign register tree) from to
+  JoinsWith (AsPointer register target) (AsPointer pointer other) from to = Emits (O.Copy register pointer) from to
+  JoinsWith AsNothing AsNothing from to = to ≡ from
+  JoinsWith _ _ from to = ⊥
 
--- ---- programs
+  -- what an array is needed for: its first element's address, that element, or the array itself
+  abbrev pub Decays : Mode → Path → CType → ℕ → Spot → Spot → Lowered → Type 0
+  Decays (Behind followed) path element count from to lowered = (to ≡ from) × (lowered ≡ AsObject (then_step path (Element (Constant (pos 0)))) element)
+  Decays (Row followed) path element count from to lowered = (to ≡ from) × (lowered ≡ AsObject path (Array element count))
+  Decays mode path element count from to lowered = GivesPointer (λ register. O.AddressOf register (then_step path (Element (Constant (pos 0))))) element from to lowered
 
--- reaching the closing brace of main returns 0 (C17 5.1.2.2.3)
-abbrev pub EndCode : List Op → ℕ → Type 0
-EndCode points entry = (mid : ℕ) × ConstantCode points (pos 0) entry 0 mid × HasOp points mid (O.Return (register 0))
+  -- an address is kept as a value
+  abbrev pub TakesAddress : Mode → Lowered → Spot → Spot → Lowered → Type 0
+  TakesAddress (Behind followed) found from to lowered = (to ≡ from) × (lowered ≡ found)
+  TakesAddress mode (AsObject path c_type) from to lowered = GivesPointer (λ register. O.AddressOf register path) c_type from to lowered
+  TakesAddress mode found from to lowered = (to ≡ from) × (lowered ≡ found)
 
--- the code is the function's, and the registers and points that it names are there
-pub record MainCode (function : FunctionDef) (tac : Tac) : Type 0 where
-  pub exit : ℕ
-  pub body : BlockCode tac.main.points.items [] function.body tac.main.entry.0 (record { onward = exit; broken = exit; continued = exit })
-  pub ending : EndCode tac.main.points.items exit
-  pub names : AllByRecursion (NamesBelow tac.main.registers (length tac.main.points.items)) tac.main.points.items
+  -- the address of what is called, as a value
+  abbrev pub Addresses : Callee → CType → Spot → Spot → Lowered → Type 0
+  Addresses (Known function) c_type from to lowered = GivesPointer (λ register. O.FunctionAddress register function) c_type from to lowered
+  Addresses (Through pointer c_type) own from to lowered = (to ≡ from) × (lowered ≡ AsPointer pointer c_type)
+
+  -- a pointer moves by a number, from a register to a register
+  abbrev pub MovesPointer : Register → CType → Bool → Tree → Spot → Spot → Lowered → Type 0
+  MovesPointer pointer target is_minus number from to lowered = GivesPointer (λ register. O.Move register pointer target is_minus number) target from to lowered
+
+  -- a pointer in a local or in memory is read, moved and written
+  abbrev pub StepsLocal : Home → Bool → Tree → Spot → Spot → Lowered → Lowered → Type 0
+  StepsLocal home is_minus number from to old new =
+      (mid : Spot) × (last : Spot) × (register : Register) × (target : CType) × ReadsLocal home from mid old × (old ≡ AsPointer register target)
+      × MovesPointer register target is_minus number mid last new × Writes (R.Local home.local) new last to
+
+  abbrev pub StepsObject : Path → CType → Bool → Tree → Spot → Spot → Lowered → Lowered → Type 0
+  StepsObject path c_type is_minus number from to old new =
+      (mid : Spot) × (last : Spot) × (register : Register) × (target : CType) × Loads c_type path from mid old × (old ≡ AsPointer register target)
+      × MovesPointer register target is_minus number mid last new × Stores false path c_type new last to new
+
+  -- an index behind an array or a pointer: an object, or an address that moves
+  abbrev pub Indexes : Bool → Bool → Lowered → Tree → Spot → Spot → Lowered → Type 0
+  Indexes is_address followed (AsObject path (Array element count)) index from to lowered = (kept : Tree) × KeepsTree followed index from to kept × (lowered ≡ AsObject (then_step path (Element kept)) element)
+  Indexes false followed (AsPointer register target) index from to lowered = (kept : Tree) × KeepsTree followed index from to kept × (lowered ≡ AsObject (path_from (Indexed register target kept)) target)
+  Indexes true followed (AsPointer register target) index from to lowered = MovesPointer register target false index from to lowered
+  Indexes is_address followed found index from to lowered = ⊥
+
+  -- ---- forms over the code of their parts
+
+  -- the value of a local in a register, or of an object in memory
+  abbrev pub ReadCode : Option Home → PartCode → PartCode
+  ReadCode (Some home) object from to lowered = ReadsLocal home from to lowered
+  ReadCode None object from to lowered = (mid : Spot) × (path : Path) × (c_type : CType) × object from mid (AsObject path c_type) × Loads c_type path mid to lowered
+
+  abbrev pub MovedCode : Bool → PartCode → PartCode → PartCode
+  MovedCode is_minus pointer number from to lowered =
+      (mid : Spot) × (next : Spot) × (register : Register) × (target : CType) × (own : IntType) × (tree : Tree)
+      × pointer from mid (AsPointer register target) × number mid next (AsInteger own tree) × MovesPointer register target is_minus tree next to lowered
+
+  abbrev pub AssignCode : Bool → Option Home → PartCode → PartCode → PartCode
+  AssignCode used (Some home) object value from to lowered = (mid : Spot) × (given : Lowered) × value from mid given × WritesLocal home given mid to lowered
+  AssignCode used None object value from to lowered =
+      (mid : Spot) × (next : Spot) × (path : Path) × (c_type : CType) × (given : Lowered)
+      × object from mid (AsObject path c_type) × value mid next given × Stores used path c_type given next to lowered
+
+  -- the new value is told from the register of the old one
+  abbrev pub CompoundCode : Bool → Option Home → PartCode → PartCode → IntType → (Register → Tree → Tree) → PartCode
+  CompoundCode used (Some home) object operand object_type new from to lowered =
+      (mid : Spot) × (own : IntType) × (tree : Tree) × operand from mid (AsInteger own tree) × Emits (O.Assign (R.Local home.local) (new (R.Local home.local) tree)) mid to
+      × (lowered ≡ AsInteger object_type (Held (R.Local home.local)))
+  CompoundCode used None object operand object_type new from to lowered =
+      (mid : Spot) × (next : Spot) × (path : Path) × (c_type : CType) × (own : IntType) × (tree : Tree)
+      × object from mid (AsObject path c_type) × operand mid next (AsInteger own tree) × HasOp next.at (O.Load (temporary next) c_type path)
+      × Stores used path c_type (AsInteger object_type (new (temporary next) tree)) (behind (with_temporary next)) to lowered
+
+  -- a pointer is read, moved and written: its old value and its new one
+  abbrev pub PointerCode : Option Home → PartCode → Bool → PartCode → Spot → Spot → Lowered → Lowered → Type 0
+  PointerCode (Some home) object is_minus number from to old new =
+      (mid : Spot) × (own : IntType) × (tree : Tree) × number from mid (AsInteger own tree) × StepsLocal home is_minus tree mid to old new
+  PointerCode None object is_minus number from to old new =
+      (mid : Spot) × (next : Spot) × (path : Path) × (c_type : CType) × (own : IntType) × (tree : Tree)
+      × object from mid (AsObject path c_type) × number mid next (AsInteger own tree) × StepsObject path c_type is_minus tree next to old new
+
+  -- the number by which `++` and `--` move a pointer
+  abbrev pub OneCode : PartCode
+  OneCode from to lowered = (to ≡ from) × (lowered ≡ AsInteger I.Int (Constant (pos 1)))
+
+  abbrev pub SteppingCode : Bool → Stepping → IntType → Option Home → PartCode → PartCode
+  SteppingCode used stepping int_type (Some home) object from to lowered = by (used && gives_old stepping)
+    where
+      by : Bool → Type 0
+      by false = Emits (O.Assign (R.Local home.local) (step_tree stepping int_type (R.Local home.local))) from to × (lowered ≡ AsInteger int_type (Held (R.Local home.local)))
+      by true =
+          HasOp from.at (O.Assign (temporary from) (Held (R.Local home.local)))
+          × Emits (O.Assign (R.Local home.local) (step_tree stepping int_type (R.Local home.local))) (behind (with_temporary from)) to × (lowered ≡ AsInteger int_type (Held (temporary from)))
+  SteppingCode used stepping int_type None object from to lowered =
+      (mid : Spot) × (path : Path) × (c_type : CType) × (new : Lowered) × object from mid (AsObject path c_type) × HasOp mid.at (O.Load (temporary mid) c_type path)
+      × Stores (used && not (gives_old stepping)) path c_type (AsInteger int_type (step_tree stepping int_type (temporary mid))) (behind (with_temporary mid)) to new
+      × (lowered ≡ (if gives_old stepping then AsInteger int_type (Held (temporary mid)) else new))
+
+  -- the value is `short` where the left operand decides it, and else whether the right one isn't 0
+  abbrev pub LogicalCode : Bool → PartCode → PartCode → PartCode
+  LogicalCode is_and left right from to lowered =
+      (test : Spot) × (last : Spot) × (a : Tree) × (b : Tree) × (own : IntType) × (other : IntType)
+      × left (with_temporary from) test (AsInteger own a)
+      × HasOp test.at (O.Branch own a (if is_and then suc test.at else suc (suc last.at)) (if is_and then suc (suc last.at) else suc test.at))
+      × right (behind test) last (AsInteger other b) × HasOp last.at (O.Assign (temporary from) (truth_tree other b)) × HasOp (suc last.at) (O.Jump to.at)
+      × Emits (O.Assign (temporary from) (Constant (if is_and then pos 0 else pos 1))) (behind (behind last)) to × (lowered ≡ AsInteger I.Int (Held (temporary from)))
+
+module _ (program : Program) (points : List Op) (scope : Scope) where
+  abbrev mutual
+    -- From a spot to a spot the points are the code of an expression, which comes to this.
+    pub ValueCode : Mode → Value → Spot → Spot → Lowered → Type 0
+    ValueCode mode (T.Constant int_type z) from to lowered = (to ≡ from) × (lowered ≡ AsInteger int_type (Constant z))
+    ValueCode mode T.NullPointer from to lowered = GivesPointer points O.Null Void from to lowered
+    ValueCode mode (T.Grouped inner) from to lowered = ValueCode mode inner from to lowered
+    ValueCode mode (T.Read place object) from to lowered = ReadCode points (register_home scope object) (ObjectCode false false object) from to lowered
+    ValueCode mode (T.Decay place object) from to lowered =
+        (mid : Spot) × (path : Path) × (element : CType) × (count : ℕ) × ObjectCode false (is_followed mode) object from mid (AsObject path (Array element count)) × Decays points mode path element count mid to lowered
+    ValueCode mode (T.FunctionValue function) from to lowered =
+        (mid : Spot) × (callee : Callee) × (c_type : CType) × DesignatorCode function from mid callee c_type × Addresses points callee c_type mid to lowered
+    ValueCode mode (T.Converted int_type value) from to lowered =
+        (own : IntType) × (tree : Tree) × ValueCode Kept value from to (AsInteger own tree) × (lowered ≡ AsInteger int_type (Convert int_type tree))
+    ValueCode mode (T.Repointed place target value) from to lowered =
+        (mid : Spot) × (pointer : Register) × (own : CType) × ValueCode Kept value from mid (AsPointer pointer own) × GivesPointer points (λ register. O.Repoint register target pointer) target mid to lowered
+    ValueCode mode (T.MadeNull target value) from to lowered = (mid : Spot) × (constant : Lowered) × ValueCode Dropped value from mid constant × GivesPointer points O.Null target mid to lowered
+    ValueCode mode (T.Tested place value) from to lowered =
+        (mid : Spot) × (pointer : Register) × (own : CType) × ValueCode Kept value from mid (AsPointer pointer own) × GivesInteger points (λ register. O.Test register pointer) I.Int mid to lowered
+    ValueCode mode (T.Plus operand) from to lowered = ValueCode Kept operand from to lowered
+    ValueCode mode (T.Minus place int_type operand) from to lowered =
+        (own : IntType) × (tree : Tree) × ValueCode Kept operand from to (AsInteger own tree) × (lowered ≡ AsInteger int_type (Arithmetic B.Sub int_type (Constant (pos 0)) tree))
+    ValueCode mode (T.Complement int_type operand) from to lowered =
+        (own : IntType) × (tree : Tree) × ValueCode Kept operand from to (AsInteger own tree) × (lowered ≡ AsInteger int_type (Complement int_type tree))
+    ValueCode mode (T.Not operand) from to lowered = (own : IntType) × (tree : Tree) × ValueCode Kept operand from to (AsInteger own tree) × (lowered ≡ AsInteger I.Int (Not own tree))
+    ValueCode mode (T.Arithmetic op place int_type left right) from to lowered =
+        (mid : Spot) × (next : Spot) × (a : Tree) × (kept : Tree) × (b : Tree) × (own : IntType) × (other : IntType)
+        × ValueCode Kept left from mid (AsInteger own a) × KeepsTree points (not (is_pure scope right)) a mid next kept × ValueCode Kept right next to (AsInteger other b)
+        × (lowered ≡ AsInteger int_type (Arithmetic op int_type kept b))
+    ValueCode mode (T.Compare relation left right) from to lowered =
+        (mid : Spot) × (next : Spot) × (a : Tree) × (kept : Tree) × (b : Tree) × (own : IntType) × (other : IntType)
+        × ValueCode Kept left from mid (AsInteger own a) × KeepsTree points (not (is_pure scope right)) a mid next kept × ValueCode Kept right next to (AsInteger other b)
+        × (lowered ≡ AsInteger I.Int (Compare relation own kept b))
+    ValueCode mode (T.ComparePointers relation place left right) from to lowered =
+        (mid : Spot) × (next : Spot) × (a : Register) × (b : Register) × (own : CType) × (other : CType)
+        × ValueCode Kept left from mid (AsPointer a own) × ValueCode Kept right mid next (AsPointer b other)
+        × GivesInteger points (λ register. O.ComparePointers register relation a b) I.Int next to lowered
+    ValueCode mode (T.PointerPlus place pointer number) from to lowered = MovedCode points false (ValueCode Kept pointer) (ValueCode Kept number) from to lowered
+    ValueCode mode (T.NumberPlus place number pointer) from to lowered =
+        (first : Spot) × (mid : Spot) × (next : Spot) × (a : Tree) × (kept : Tree) × (own : IntType) × (register : Register) × (target : CType)
+        × ValueCode Kept number from first (AsInteger own a) × KeepsTree points true a first mid kept × ValueCode Kept pointer mid next (AsPointer register target)
+        × MovesPointer points register target false kept next to lowered
+    ValueCode mode (T.PointerMinus place pointer number) from to lowered = MovedCode points true (ValueCode Kept pointer) (ValueCode Kept number) from to lowered
+    ValueCode mode (T.PointerDifference place left right) from to lowered =
+        (mid : Spot) × (next : Spot) × (a : Register) × (b : Register) × (own : CType) × (other : CType)
+        × ValueCode Kept left from mid (AsPointer a own) × ValueCode Kept right mid next (AsPointer b other)
+        × GivesInteger points (λ register. O.Difference register own a b) I.Long next to lowered
+    ValueCode mode (T.And left right) from to lowered = LogicalCode points true (ValueCode Kept left) (ValueCode Kept right) from to lowered
+    ValueCode mode (T.Or left right) from to lowered = LogicalCode points false (ValueCode Kept left) (ValueCode Kept right) from to lowered
+    ValueCode mode (T.Conditional condition taken otherwise) from to lowered =
+        (test : Spot) × (first : Spot) × (joined : Spot) × (second : Spot) × (a : Tree) × (own : IntType) × (one : Lowered) × (other : Lowered)
+        × ValueCode Kept condition from test (AsInteger own a) × HasOp points test.at (O.Branch own a (suc test.at) (suc joined.at))
+        × ValueCode Kept taken (behind test) first one × Joins points one first joined lowered × HasOp points joined.at (O.Jump to.at)
+        × ValueCode Kept otherwise (behind joined) second other × JoinsWith points lowered other second to
+    ValueCode mode (T.AddressOf place object) from to lowered =
+        (mid : Spot) × (found : Lowered) × ObjectCode (is_address mode) (is_followed mode) object from mid found × TakesAddress points mode found mid to lowered
+    ValueCode mode (T.AddressOfFunction function) from to lowered =
+        (mid : Spot) × (callee : Callee) × (c_type : CType) × DesignatorCode function from mid callee c_type × Addresses points callee c_type mid to lowered
+    ValueCode mode (T.Cast value) from to lowered = ValueCode (cast_mode mode) value from to lowered
+    ValueCode mode (T.CastVoid value) from to lowered = (dropped : Lowered) × ValueCode Dropped value from to dropped × (lowered ≡ AsNothing)
+    ValueCode mode (T.Assign place object value) from to lowered =
+        AssignCode points (is_used mode) (register_home scope object) (ObjectCode false (not (is_pure scope value)) object) (ValueCode Kept value) from to lowered
+    ValueCode mode (T.AssignArithmetic op place object_type int_type object value) from to lowered =
+        CompoundCode points (is_used mode) (register_home scope object) (ObjectCode false (not (is_pure scope value)) object) (ValueCode Kept value) object_type (compound_tree op object_type int_type) from to lowered
+    ValueCode mode (T.AssignMoved is_minus place object number) from to lowered =
+        (old : Lowered) × PointerCode points (register_home scope object) (ObjectCode false (not (is_pure scope number)) object) is_minus (ValueCode Kept number) from to old lowered
+    ValueCode mode (T.StepInteger stepping place int_type object) from to lowered = SteppingCode points (is_used mode) stepping int_type (register_home scope object) (ObjectCode false false object) from to lowered
+    ValueCode mode (T.StepPointer stepping place object) from to lowered =
+        (old : Lowered) × (new : Lowered) × PointerCode points (register_home scope object) (ObjectCode false false object) (not (is_up stepping)) (OneCode points) from to old new
+        × (lowered ≡ (if gives_old stepping then old else new))
+    ValueCode mode (T.Call is_used place function c_type arguments) from to lowered =
+        (mid : Spot) × (next : Spot) × (callee : Callee) × (own : CType) × (registers : List Register)
+        × DesignatorCode function from mid callee own × ArgumentsCode arguments (with_call mid) next registers
+        × Emits points (O.Call mid.counts.calls callee registers) next to × (lowered ≡ call_gives is_used c_type mid.counts.calls)
+    ValueCode mode (T.LibraryCall function groups place arguments) from to lowered = LibraryCode function arguments from to lowered
+
+    pub LibraryCode : LibraryFunction → Values → Spot → Spot → Lowered → Type 0
+    LibraryCode L.Malloc (T.MoreValues size T.NoValues) from to lowered =
+        (mid : Spot) × (own : IntType) × (tree : Tree) × ValueCode Kept size (with_call from) mid (AsInteger own tree) × Emits points (O.Allocate from.counts.calls tree) mid to
+        × (lowered ≡ AsPointer (R.Call from.counts.calls) Void)
+    LibraryCode L.Free (T.MoreValues pointer T.NoValues) from to lowered =
+        (mid : Spot) × (own : CType) × (register : Register) × ValueCode Kept pointer (with_call from) mid (AsPointer register own) × Emits points (O.Free from.counts.calls register) mid to
+        × (lowered ≡ AsNothing)
+    LibraryCode L.GetChar T.NoValues from to lowered = Emits points (O.GetChar from.counts.calls) (with_call from) to × (lowered ≡ AsInteger I.Int (Held (R.Call from.counts.calls)))
+    LibraryCode L.PutChar (T.MoreValues value T.NoValues) from to lowered =
+        (mid : Spot) × (own : IntType) × (tree : Tree) × ValueCode Kept value (with_call from) mid (AsInteger own tree) × Emits points (O.PutChar from.counts.calls tree) mid to
+        × (lowered ≡ AsInteger I.Int (Held (R.Call from.counts.calls)))
+    LibraryCode L.Exit (T.MoreValues status T.NoValues) from to lowered =
+        (mid : Spot) × (own : IntType) × (tree : Tree) × ValueCode Kept status (with_call from) mid (AsInteger own tree) × Emits points (O.Exit tree) mid to × (lowered ≡ AsNothing)
+    LibraryCode _ _ from to lowered = ⊥
+
+    -- arguments come to registers of their own, in their order
+    pub ArgumentsCode : Values → Spot → Spot → List Register → Type 0
+    ArgumentsCode T.NoValues from to registers = (to ≡ from) × (registers ≡ [])
+    ArgumentsCode (T.MoreValues first others) from to registers =
+        (mid : Spot) × (next : Spot) × (given : Lowered) × (rest : List Register)
+        × ValueCode Kept first (with_argument from) mid given × Writes points (argument from) given mid next × ArgumentsCode others next to rest × (registers ≡ argument from ∷ rest)
+
+    -- a function, or a pointer to one, and its type
+    pub DesignatorCode : Designator → Spot → Spot → Callee → CType → Type 0
+    DesignatorCode (T.Function name) from to callee c_type =
+        (number : ℕ) × (function_number 0 program.functions name ≡ Some number) × (to ≡ from) × (callee ≡ Known number) × (type_of_function program.functions name ≡ Some c_type)
+    DesignatorCode (T.GroupedFunction inner) from to callee c_type = DesignatorCode inner from to callee c_type
+    DesignatorCode (T.PointedFunction place pointer) from to callee c_type = (register : Register) × ValueCode Kept pointer from to (AsPointer register c_type) × (callee ≡ Through register c_type)
+    DesignatorCode (T.ThroughPointer place pointer) from to callee c_type = (register : Register) × ValueCode Kept pointer from to (AsPointer register c_type) × (callee ≡ Through register c_type)
+
+    -- An object in memory, by its path; or, where its address is kept as a value, perhaps that: `&*p` is p, and `&p[i]` is p + i (C17
+    -- 6.5.3.2 paragraph 3).
+    pub ObjectCode : Bool → Bool → Object → Spot → Spot → Lowered → Type 0
+    ObjectCode is_kept followed (T.Local number) from to lowered =
+        (home : Home) × (home_of scope number ≡ Some home) × (home.is_object ≡ true) × (to ≡ from) × (lowered ≡ AsObject (path_from (AtLocal home.local)) home.c_type)
+    ObjectCode is_kept followed (T.Global name) from to lowered =
+        (number : ℕ) × (global : GlobalDef) × (named_global 0 program.globals name ≡ Some (number, global)) × (to ≡ from) × (lowered ≡ AsObject (path_from (AtGlobal number)) global.c_type)
+    ObjectCode is_kept followed (T.Literal place bytes) from to lowered =
+        (number : ℕ) × (literal : LiteralDef) × (placed_literal 0 program.literals place ≡ Some (number, literal)) × (to ≡ from) × (lowered ≡ AsObject (path_from (AtLiteral number)) (literal_type bytes))
+    ObjectCode is_kept followed (T.GroupedObject place inner) from to lowered = ObjectCode is_kept followed inner from to lowered
+    ObjectCode is_kept followed (T.Pointed place pointer) from to lowered =
+        (found : Lowered) × ValueCode (pointed_mode is_kept followed) pointer from to found × (lowered ≡ pointed_by is_kept found)
+    ObjectCode is_kept followed (T.Element place pointer number) from to lowered =
+        (mid : Spot) × (next : Spot) × (found : Lowered) × (own : IntType) × (index : Tree) × ValueCode (Row (followed || not (is_pure scope number))) pointer from mid found
+        × ValueCode Kept number mid next (AsInteger own index) × Indexes points is_kept followed found index next to lowered
+    ObjectCode is_kept followed (T.ElementOf place number pointer) from to lowered =
+        (first : Spot) × (mid : Spot) × (next : Spot) × (own : IntType) × (index : Tree) × (kept : Tree) × (found : Lowered)
+        × ValueCode Kept number from first (AsInteger own index) × KeepsTree points true index first mid kept
+        × ValueCode (Row followed) pointer mid next found × Indexes points is_kept false found kept next to lowered
+    ObjectCode is_kept followed (T.MemberOf place object number) from to lowered =
+        (path : Path) × (own : CType) × (c_type : CType) × ObjectCode false followed object from to (AsObject path own)
+        × (type_of_member program.structs own number ≡ Some c_type) × (lowered ≡ AsObject (then_step path (Member number)) c_type)
+    ObjectCode is_kept followed (T.PointedMember place pointer number) from to lowered =
+        (found : Lowered) × (path : Path) × (own : CType) × (c_type : CType) × ValueCode (Behind followed) pointer from to found × (pointed_by false found ≡ AsObject path own)
+        × (type_of_member program.structs own number ≡ Some c_type) × (lowered ≡ AsObject (then_step path (Member number)) c_type)

@@ -1,7 +1,5 @@
-pub mod Inside
+pub mod Homes
+pub mod Spots
 pub mod Code
-pub mod Laws
-pub mod Growing
-pub mod Rooms
-pub mod Lowered
-pub mod Switches
+pub mod StatementCode
+pub mod ProgramCode

@@ -1,3 +1,13 @@
+pub mod Code
+pub mod Views
 pub mod Values
-pub mod Fits
+pub mod Events
+pub mod Layouts
+pub mod Trees
+pub mod Objects
+pub mod States
+pub mod Pointers
+pub mod Calls
+pub mod Costs
 pub mod Meaning
+pub mod First

@@ -1,27 +1,48 @@
--- Values of int and of bytes, and what the two library functions on characters take and give.
-use Rattle.std.specs.Prelude.{ℕ, ℤ, pos, negsuc, List, [], ◌∷◌, Bool, if◌then◌else◌}
-use Rattle.std.specs.Ordering.{int_eq}
-use Rattle.c_num.specs.declared.IntType.TheVariants.{UChar}
-use Rattle.c_num.specs.Conversion.{bits_of}
+-- Values and objects of three-address code. A pointer names an object and an offset in it; there are no addresses.
+use Rattle.std.specs.Prelude.{ℕ, Bool, false, ◌&&◌, ◌==◌, if◌then◌else◌, Option, Some, ℤ}
+use Rattle.c_typed.specs.Types.{CType}
+use Rattle.tac_ir.specs.declared.register.Local.{Local}
+use Rattle.tac_ir.specs.declared.register.Local.TheVariants as L
 
--- the value of (unsigned char) v (C17 6.3.1.3)
-abbrev pub byte_of : ℤ → ℕ
-byte_of value = bits_of UChar value
+-- An object: that of an allocation, by its number; a variable outside functions or a literal, by its number; or a local in memory, of an
+-- activation.
+pub data Object : Type 0 where
+  OfHeap : (number : ℕ) → Object
+  OfGlobal : (number : ℕ) → Object
+  OfLiteral : (number : ℕ) → Object
+  OfActivation : (activation : ℕ) (local : Local) → Object
 
--- what getchar gives: the next byte as an unsigned char, or -1 at the end of the input (C17 7.21.7.6)
-abbrev pub next_char : List ℕ → ℤ
-next_char [] = negsuc 0
-next_char (byte ∷ input) = pos (byte_of (pos byte))
+abbrev pub same_local : Local → Local → Bool
+same_local (L.Parameter a) (L.Parameter b) = a == b
+same_local (L.Variable a) (L.Variable b) = a == b
+same_local _ _ = false
 
--- what getchar leaves of the input
-abbrev pub after_next : List ℕ → List ℕ
-after_next [] = []
-after_next (byte ∷ input) = input
+abbrev pub same_object : Object → Object → Bool
+same_object (OfHeap a) (OfHeap b) = a == b
+same_object (OfGlobal a) (OfGlobal b) = a == b
+same_object (OfLiteral a) (OfLiteral b) = a == b
+same_object (OfActivation a x) (OfActivation b y) = (a == b) && same_local x y
+same_object _ _ = false
 
--- a condition holds where it isn't 0 (C17 6.8.4.1, 6.8.5)
-abbrev pub is_zero : ℤ → Bool
-is_zero value = int_eq value (pos 0)
+-- an integer, the null pointer, a function by its number, or a place so many bytes behind the beginning of an object
+pub data Value : Type 0 where
+  Number : (z : ℤ) → Value
+  NoAddress : Value
+  Code : (function : ℕ) → Value
+  Address : (object : Object) (offset : ℕ) → Value
 
--- the int that comparisons and the logical operators give (C17 6.5.8, 6.5.9, 6.5.13, 6.5.14)
-abbrev pub truth : Bool → ℤ
-truth test = if test then pos 1 else pos 0
+-- What an object holds: nothing, where it is not there, or no more; bytes without a type; or so many elements of a type, with scalars by
+-- their offsets.
+pub data Content : Type 0 where
+  Absent : Content
+  Untyped : (size : ℕ) → Content
+  Typed : (c_type : CType) (count : ℕ) (held : ℕ → Option Value) → Content
+
+abbrev pub Objects : Type 0
+Objects = Object → Content
+
+abbrev pub with_content : Object → Content → Objects → Objects
+with_content object content objects other = if same_object object other then content else objects other
+
+abbrev pub with_held : ℕ → Value → (ℕ → Option Value) → ℕ → Option Value
+with_held offset value held other = if offset == other then Some value else held other
