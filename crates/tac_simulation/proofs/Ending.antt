@@ -144,7 +144,7 @@ module _ (program : Program) (placement placed : Placement) (hidden : ℕ → Op
       by (inr same) = subst IsAlive same alive
 
   in_outer : (number : ℕ) (local : Local) → placed number ≡ Some (OfActivation frame.number local) → IsAlive (after (LocalObject number)) → IsAmong number outer
-  in_outer number local is alive = by (among_split number fresh outer (subst (IsAmong number) own (h.own.in_scope number local is (lives (LocalObject number) alive))))
+  in_outer number local is alive = by (among_split number fresh outer (subst (IsAmong number) own (h.own.in_scope number local is (lives (LocalObject number) alive)).0))
     where
       by : IsAmong number fresh ⊎ IsAmong number outer → IsAmong number outer
       by (inl among) = absurd (subst IsAlive (fresh_ended fresh outer s.objects number among) alive)
@@ -236,7 +236,7 @@ module _ (program : Program) (placement placed : Placement) (hidden : ℕ → Op
       );
     };
     homes = homes_ended scope outer older (homes_back program placed frame.number s.objects t.running.registers scope more fresh outer depth (subst (HomesStand program placed frame.number s.objects t.running.registers (more ++ scope)) own h.homes));
-    own = record { there = h.own.there; in_scope = λ number local is alive. in_outer number local (image_before (LocalObject number) (OfActivation frame.number local) is) alive };
+    own = record { there = h.own.there; in_scope = λ number local is alive. let was = image_before (LocalObject number) (OfActivation frame.number local) is in (in_outer number local was alive, (h.own.in_scope number local was (lives (LocalObject number) alive)).1) };
     point = h.point;
     owner = h.owner;
     number = h.number;

@@ -27,16 +27,18 @@ use Rattle.ref_typing.proofs.Splitting.{given_parts, other_parts}
 use Rattle.ref_typing.proofs.ValuesKeep.{find_keeps}
 use Rattle.tac_ir.specs.Code.{Op, Tac, Path, AtLocal, AtGlobal, AtLiteral, Member}
 use Rattle.tac_ir.specs.Code as O
-use Rattle.tac_ir.specs.Values.{OfActivation, OfGlobal, OfLiteral}
+use Rattle.tac_ir.specs.declared.register.Local.{Local}
+use Rattle.tac_ir.specs.Values.{OfActivation, OfGlobal, OfLiteral, Typed, same_local}
 use Rattle.tac_ir.specs.Layouts as M
-use Rattle.tac_ir.specs.Objects.{own_type, leads}
+use Rattle.tac_ir.specs.Layouts.{Inner}
+use Rattle.tac_ir.specs.Objects.{own_type, whole, leads}
 use Rattle.tac_ir.specs.Trees.{Registers}
 use Rattle.tac_ir.specs.States.{State}
 use Rattle.tac_build.specs.Homes.{Home, Scope, home_of, in_register, register_home, home_behind}
 use Rattle.tac_build.specs.Spots.{Spot, Lowered, AsInteger, AsPointer, AsObject, AsNothing}
 use Rattle.tac_build.specs.Code.{path_from, then_step, ObjectCode}
 use Rattle.tac_simulation.specs.Comparing.{ticks_per_unit}
-use Rattle.tac_simulation.specs.Standing.{Placement, Frame, KeepsBefore, IsAlive, At, HomeStands, types_of, context_of, surroundings, global_object, literal_object, PathStands}
+use Rattle.tac_simulation.specs.Standing.{Placement, Frame, KeepsBefore, IsAlive, ContentStands, At, HomeStands, types_of, context_of, surroundings, global_object, literal_object, PathStands}
 use Rattle.tac_simulation.proofs.Paths.{Stand, Passage as Passing, Does, comes, stops, eased, eases, bind, stray, chosen}
 use Rattle.tac_simulation.proofs.Spotting.{Runs, kept_same}
 use Rattle.tac_simulation.proofs.Evaluating
@@ -53,9 +55,17 @@ unless_does here [] rest s one = one tt
 unless_does here (first ∷ others) rest s one =
     chosen first.fails (undefined first.kind here) (unless here others rest) s (λ fails. stray first.kind here s) (λ holds. unless_does here others rest s (λ all. one (holds, all)))
 
--- the homes of locals in memory are objects of the activation
-abbrev pub OwnsHomes : List O.LocalObject → Scope → Type 0
-OwnsHomes objects scope = (index : ℕ) (home : Home) → home_of scope index ≡ Some home → home.is_object ≡ true → own_type objects home.local ≡ Some (record { offset = 0; c_type = home.c_type })
+-- an object of a function begins where it begins
+own_begins : (own : List O.LocalObject) (local : Local) (inner : Inner) → own_type own local ≡ Some inner → inner.offset ≡ 0
+own_begins [] local inner is = absurd (none-some inner is)
+own_begins (first ∷ others) local inner is = by (same_local first.local local) is (own_begins others local inner)
+  where
+    by : (b : Bool) → (if b then whole first.c_type else own_type others local) ≡ Some inner → (own_type others local ≡ Some inner → inner.offset ≡ 0) → inner.offset ≡ 0
+    by true e rest = ap (λ (i : Inner). i.offset) (sym (same_Some (record { offset = 0; c_type = first.c_type }) inner e))
+    by false e rest = rest e
+
+inner_is : (inner : Inner) (c_type : CType) → inner.offset ≡ 0 → inner.c_type ≡ c_type → ◌≡◌ {A = Inner} inner (record { offset = 0; c_type = c_type })
+inner_is inner c_type begins is = λ i. record { offset = begins i; c_type = is i }
 
 register_found : (found : Option Home) (home : Home) → in_register found ≡ Some home → (found ≡ Some home) × (home.is_object ≡ false)
 register_found None home is = absurd (none-some home is)
@@ -217,15 +227,26 @@ module _ (tac : Tac) (program : Program) (calls : Calls) (worth : ℕ) (points :
   in_memory objects registers home number true e stands = stands
   in_memory objects registers home number false e stands = absurd (false≢true e)
 
-  pub locals : OwnsHomes frame.objects scope → (index : ℕ) → Finds (T.Local index)
-  locals owns index followed from to path c_type t code typed small start n lag slack s state p h =
+  -- it has the type of the local
+  own_is : (at number : ℕ) (home : Home) (held : ℕ → Option Scalar) (s : S.State) (state : State) → At program placement hidden frame scope at s state → placement number ≡ Some (OfActivation frame.number home.local)
+      → s.objects (LocalObject number) ≡ V.Elements false home.c_type 1 held → own_type frame.objects home.local ≡ Some (record { offset = 0; c_type = home.c_type })
+  own_is at number home held s state h placed holds =
+      let found = (h.own.in_scope number home.local placed (subst IsAlive (sym holds) tt)).1 in
+      let there = h.own.there home.local found.0 found.1 in
+      let stands = subst (λ content. ContentStands program s.objects placement content (state.objects (OfActivation frame.number home.local))) holds (h.stands.memory.contents (LocalObject number) (OfActivation frame.number home.local) placed) in
+      let typed : Typed found.0.c_type 1 there.0 ≡ Typed home.c_type 1 stands.0 = sym there.1 ∙ stands.1 in
+      let same : found.0.c_type ≡ home.c_type = cc in
+      found.1 ∙ ap Some (inner_is found.0 home.c_type (own_begins frame.objects home.local found.0 found.1) same)
+
+  pub locals : (index : ℕ) → Finds (T.Local index)
+  locals index followed from to path c_type t code typed small start n lag slack s state p h =
       let home = code.0 in
       ticked tac program calls worth points placement hidden frame scope runs well keep (local_place index) from.at s state p h (omega arith) (λ left p' h'.
       let found = found_home program placement frame.number state.running.registers s scope s.locals h.stands.homes h.sound.locals index home code.1 in
       let place = object_place (LocalObject found.number) home.c_type in
       let placed : placement found.number ≡ Some (OfActivation frame.number home.local) = in_memory s.objects state.running.registers home found.number home.is_object code.2 found.stands in
       let leads_to : leads (surroundings program frame) state.running.registers (path_from (AtLocal home.local)) ≡ Some (record { object = OfActivation frame.number home.local; inner = record { offset = 0; c_type = home.c_type } })
-      = rw (owns index home code.1 code.2) refl in
+      = rw (own_is from.at found.number home found.held s state h.stands placed found.holds) refl in
       subst (λ outcome. Does tac worth start n (lag + 1) (slack + (laid_by (AsObject path c_type) + 10)) (Evaluating.ComesToPlace tac program calls worth points placement hidden frame scope from to path c_type state.running.registers) outcome)
       (sym (local_is (record s { units = left }) index found.number home.c_type found.held found.name_is found.holds))
       (has_found from from to path c_type (AsObject (path_from (AtLocal home.local)) home.c_type) state.running.registers place (record s { units = left }) state p' h'.stands (kept_same from.counts state.running.registers) code.3 code.4

@@ -70,8 +70,6 @@ pub mod Widens
 pub mod Performing
 pub mod Ending
 pub mod BlockStmts
-pub mod Returning
-pub mod Looping
 pub mod Assigning
 pub mod Resting
 pub mod Assigned
@@ -89,3 +87,8 @@ pub mod Widening
 pub mod Statements
 pub mod Turns
 pub mod Rounds
+pub mod Closing
+pub mod Leaving
+pub mod Selecting
+pub mod Whole
+pub mod Following

@@ -15,6 +15,7 @@ use Rattle.tac_ir.specs.declared.register.Local.TheVariants as L
 use Rattle.tac_ir.specs.declared.register.Register.TheVariants as R
 use Rattle.tac_ir.specs.Values.{Object, OfActivation, Value, Content, Typed, Objects}
 use Rattle.tac_ir.specs.Trees.{Registers}
+use Rattle.tac_ir.specs.Layouts.{Inner}
 use Rattle.tac_ir.specs.Objects.{own_type, whole}
 use Rattle.tac_ir.specs.States.{State}
 use Rattle.tac_ir.specs.First.{named_global, placed_literal}
@@ -232,7 +233,7 @@ module _ (program : Program) (placement : Placement) (hidden : ℕ → Option V.
       let local = of_activation program placement frame.number home.local other same in
       let placed : placement local.0 ≡ Some (OfActivation frame.number home.local) = ap (image program placement) (sym local.1) ∙ same in
       among_apart program placement frame.number s.objects t.running.registers counts scope s.locals local.0 h.homes numbered
-      (h.own.in_scope local.0 home.local placed (subst (λ n. IsAlive (s.objects n)) local.1 lives)) (placed ∙ ap (λ l. Some (OfActivation frame.number l)) local_is)
+      (h.own.in_scope local.0 home.local placed (subst (λ n. IsAlive (s.objects n)) local.1 lives)).0 (placed ∙ ap (λ l. Some (OfActivation frame.number l)) local_is)
 
   pub opened_extends : Extends frame s.next_local placement (placed_with s.next_local (home_object frame.number home) placement)
   opened_extends number = by (s.next_local == number) refl
@@ -301,9 +302,16 @@ module _ (program : Program) (placement : Placement) (hidden : ℕ → Option V.
           (omega (arith, same), (frame.number, home.local, (is_own frame.number home found is).1, (there found is).2))
       placed_by number found false e is = let was = h.stands.placed number found is in (later number was.0, was.1)
 
+      same_local_of : {local : Local} → OfActivation frame.number local ≡ OfActivation frame.number home.local → local ≡ home.local
+      same_local_of e = cc
+
       in_scope : (number : ℕ) (local : Local) (b : Bool) → (s.next_local == number) ≡ b → (if b then home_object frame.number home else placement number) ≡ Some (OfActivation frame.number local)
-          → IsAlive ((opened home.c_type s).objects (LocalObject number)) → IsAmong number (s.next_local ∷ s.locals)
-      in_scope number local true e is lives = inl (eqb-true s.next_local number e)
+          → IsAlive ((opened home.c_type s).objects (LocalObject number)) → IsAmong number (s.next_local ∷ s.locals) × ((inner : Inner) × (own_type frame.objects local ≡ Some inner))
+      in_scope number local true e is lives =
+          let its = is_own frame.number home (OfActivation frame.number local) is in
+          let same : local ≡ home.local = same_local_of its.1 in
+          (inl (eqb-true s.next_local number e), (record { offset = 0; c_type = home.c_type }, ap (own_type frame.objects) same ∙ own its.0))
       in_scope number local false e is lives =
           let given = (h.stands.placed number (OfActivation frame.number local) is).0 in
-          inr (h.own.in_scope number local is (lives_given program placement (types_of scope) s sound home.c_type (home_object frame.number home) (LocalObject number) given lives))
+          let was = h.own.in_scope number local is (lives_given program placement (types_of scope) s sound home.c_type (home_object frame.number home) (LocalObject number) given lives) in
+          (inr was.0, was.1)

@@ -158,7 +158,7 @@ module _ (program : Program) where
   -- the objects of an activation are there; of the locals that live in them, those in scope are alive
   pub record OwnStands (placement : Placement) (frame : Frame) (s : S.State) (t : State) : Type 0 where
     pub there : (local : Local) (inner : Inner) → own_type frame.objects local ≡ Some inner → (held : ℕ → Option Value) × (t.objects (OfActivation frame.number local) ≡ Typed inner.c_type 1 held) × (frame.number < t.next_activation)
-    pub in_scope : (number : ℕ) (local : Local) → placement number ≡ Some (OfActivation frame.number local) → IsAlive (s.objects (LocalObject number)) → IsAmong number s.locals
+    pub in_scope : (number : ℕ) (local : Local) → placement number ≡ Some (OfActivation frame.number local) → IsAlive (s.objects (LocalObject number)) → IsAmong number s.locals × ((inner : Inner) × (own_type frame.objects local ≡ Some inner))
 
   -- the code is at a point of an activation
   pub record At (placement : Placement) (hidden : ℕ → Option V.Content) (frame : Frame) (scope : Scope) (at : ℕ) (s : S.State) (t : State) : Type 0 where
