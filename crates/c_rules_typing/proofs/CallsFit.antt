@@ -70,10 +70,12 @@ call_type around whole function result parameters values one other kind =
     (holds_is (same_types parameters parameters && (is_scalar result || is_void result)) result (and_from (same_types parameters parameters) (is_scalar result || is_void result) (same_types-refl parameters) kind))
     (holds_is (same_type (Function result parameters) (Function result parameters)) result (same_type-refl (Function result parameters))))
 
--- a value that is called is a pointer to the function
-through_type : (around : Context) (whole : Pos) (value : Value) (t : CType) (result : CType) (parameters : CTypes) → type_of around value ≡ Some t → t ≡ Pointer (Function result parameters)
+-- a value that is called is a pointer to the function, and no conversion
+through_type : (around : Context) (whole : Pos) (value : Value) (t : CType) (result : CType) (parameters : CTypes) → type_of around value ≡ Some t → is_conversion value ≡ false → t ≡ Pointer (Function result parameters)
     → type_of_designator around (typed.ThroughPointer whole value) ≡ Some (Function result parameters)
-through_type around whole value t result parameters is same = given_is (type_of around value) (Pointer (Function result parameters)) pointed_function (Function result parameters) (is ∙ ap Some same) refl
+through_type around whole value t result parameters is none same =
+    ap {B = Option CType} (λ (b : Bool). if b then None else well.given (type_of around value) pointed_function) none
+    ∙ given_is (type_of around value) (Pointer (Function result parameters)) pointed_function (Function result parameters) (is ∙ ap Some same) refl
 
 -- the type of a function that a function's name stands for
 function_is : (t result : CType) (parameters : CTypes) → is_function t ≡ true → decayed t ≡ Pointer (Function result parameters) → t ≡ Function result parameters
@@ -88,10 +90,10 @@ call_fits around whole known (OfFunction function) result parameters arguments p
     (call_type around whole function result parameters passing (fit.0 ∙ ap Some (function_is known.c_type result parameters fit.1 same)) given_types kind, refl)
 call_fits around whole known (OfValue value) result parameters arguments passing fit plain proper same given_types kind =
     let read = read_typed around whole known.c_type (OfValue value) fit plain proper in
-    (call_type around whole (typed.ThroughPointer whole (value_from whole known.c_type (OfValue value))) result parameters passing (through_type around whole (value_from whole known.c_type (OfValue value)) (decayed known.c_type) result parameters read.0 same) given_types kind, refl)
+    (call_type around whole (typed.ThroughPointer whole (value_from whole known.c_type (OfValue value))) result parameters passing (through_type around whole (value_from whole known.c_type (OfValue value)) (decayed known.c_type) result parameters read.0 read.1 same) given_types kind, refl)
 call_fits around whole known (OfObject object) result parameters arguments passing fit plain proper same given_types kind =
     let read = read_typed around whole known.c_type (OfObject object) fit plain proper in
-    (call_type around whole (typed.ThroughPointer whole (value_from whole known.c_type (OfObject object))) result parameters passing (through_type around whole (value_from whole known.c_type (OfObject object)) (decayed known.c_type) result parameters read.0 same) given_types kind, refl)
+    (call_type around whole (typed.ThroughPointer whole (value_from whole known.c_type (OfObject object))) result parameters passing (through_type around whole (value_from whole known.c_type (OfObject object)) (decayed known.c_type) result parameters read.0 read.1 same) given_types kind, refl)
 call_fits around whole known (OfLibrary function groups) result parameters arguments passing fit plain proper same given_types kind = absurd fit
 
 function_parts : (result : CType) (parameters : CTypes) → is_proper (Function result parameters) ≡ true → ((is_scalar result || is_void result) ≡ true) × (is_proper result ≡ true)

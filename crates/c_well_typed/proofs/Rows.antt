@@ -1,5 +1,5 @@
 -- Trees that are not well typed: an int read where a pointer is asked for, a member of a structure that isn't complete, a call with an
--- argument too few.
+-- argument too few, a call through a conversion.
 use Rattle.std.specs.Prelude.{◌≡◌, true, false, [], ◌∷◌, Some, None, pos, codes, refl}
 use Rattle.text_place.specs.declared.place.Pos.{Pos}
 use Rattle.c_num.specs.declared.IntType.TheVariants as I
@@ -41,3 +41,13 @@ argument_too_few = refl
 -- `twice(x)` is well typed
 called_rightly : type_of (record { program = returning int (T.Constant I.Int (pos 0)); locals = int ∷ [] }) (T.Call true here (T.Function (codes "twice")) (Function int (MoreTypes int NoTypes)) (T.MoreValues (T.Read here (T.Local 0)) T.NoValues)) ≡ Some int
 called_rightly = refl
+
+-- `p(x)` of a pointer to a function is well typed, and isn't where a conversion stands between
+abbrev through : Value → Value
+through pointer = T.Call true here (T.ThroughPointer here pointer) (Function int (MoreTypes int NoTypes)) (T.MoreValues (T.Read here (T.Local 0)) T.NoValues)
+
+called_through : type_of (record { program = returning int (T.Constant I.Int (pos 0)); locals = Pointer (Function int (MoreTypes int NoTypes)) ∷ int ∷ [] }) (through (T.Read here (T.Local 1))) ≡ Some int
+called_through = refl
+
+called_through_conversion : type_of (record { program = returning int (T.Constant I.Int (pos 0)); locals = Pointer (Function int (MoreTypes int NoTypes)) ∷ int ∷ [] }) (through (T.Repointed here (Function int (MoreTypes int NoTypes)) (T.Read here (T.Local 1)))) ≡ None
+called_through_conversion = refl

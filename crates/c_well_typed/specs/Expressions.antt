@@ -169,4 +169,5 @@ module _ (around : Context) where
     type_of_designator (T.Function name) = function_type around.program.functions name
     type_of_designator (T.GroupedFunction inner) = type_of_designator inner
     type_of_designator (T.PointedFunction place pointer) = given (type_of pointer) pointed_function
-    type_of_designator (T.ThroughPointer place pointer) = given (type_of pointer) pointed_function
+    -- elaboration puts no conversion below a call through a pointer
+    type_of_designator (T.ThroughPointer place pointer) = if is_conversion pointer then None else given (type_of pointer) pointed_function

@@ -21,6 +21,11 @@ pub given_parts : {A B : Type 0} (option : Option A) (rule : A → Option B) (b 
 given_parts (Some a) rule b is = (a, refl, is)
 given_parts None rule b is = absurd (none-some b is)
 
+-- what is asked where nothing is against it
+pub unless_parts : {A : Type 0} (b : Bool) (option : Option A) (t : A) → (if b then None else option) ≡ Some t → (b ≡ false) × (option ≡ Some t)
+unless_parts true option t is = absurd (none-some t is)
+unless_parts false option t is = (refl, is)
+
 pub record Two {A B C : Type 0} (first : Option A) (second : Option B) (rule : A → B → Option C) (c : C) : Type 0 where
   pub a : A
   pub b : B

@@ -26,7 +26,7 @@ use Rattle.ref_typing.specs.Keeping.{Yields, GivesValue, GivesElement, IsElement
 use Rattle.ref_typing.proofs.Lasting.{GivesAt, give_gives, gives_then, gives_as, tick_gives, ticks_gives, if_gives, gives_each, type_lasts, element_lasts}
 use Rattle.ref_typing.proofs.Pointing.{truth_typed, accessed_keeps, added_keeps, element_keeps, repointed_keeps, tested_keeps, compared_keeps, difference_keeps, global_keeps, local_keeps, literal_element, global_complete, local_complete}
 use Rattle.ref_typing.proofs.Storing.{read_keeps, write_keeps, library_keeps}
-use Rattle.ref_typing.proofs.Splitting.{held_parts, given_parts, two_parts, same_parts, other_parts, first_parts, both_parts, pointed_parts, element_parts, pointed_function_is, called_parts}
+use Rattle.ref_typing.proofs.Splitting.{held_parts, given_parts, unless_parts, two_parts, same_parts, other_parts, first_parts, both_parts, pointed_parts, element_parts, pointed_function_is, called_parts}
 use Rattle.ref_typing.proofs.Operating.{ValueAt, ElementAt, converted_type, of_type, step_type, decay_type, address_type, member_type, member_address_type, function_type_is, value_of, arithmetic_keeps, moved_keeps, call_keeps, complete_scalar, integer_scalar}
 
 module _ (program : Program) (well : IsWellTyped program) (calls : Calls) (keep : CallsKeep program calls) (locals : List CType) where
@@ -330,7 +330,8 @@ module _ (program : Program) (well : IsWellTyped program) (calls : Calls) (keep 
         value_of program locals before parts.0 (Pointer t) (designated (around_of program) calls (T.PointedFunction place pointer)) (pointed_function_is parts.0 t parts.2)
         (tick_gives sound (λ s k. value_at pointer small parts.0 parts.1 s k.sound))
     designated_at (T.ThroughPointer place pointer) small t typed before sound =
-        let parts = given_parts (type_of around pointer) pointed_function t typed in
+        let plain = unless_parts (is_conversion pointer) (given (type_of around pointer) pointed_function) t typed in
+        let parts = given_parts (type_of around pointer) pointed_function t plain.1 in
         value_of program locals before parts.0 (Pointer t) (designated (around_of program) calls (T.ThroughPointer place pointer)) (pointed_function_is parts.0 t parts.2)
         (value_at pointer small parts.0 parts.1 before sound)
 

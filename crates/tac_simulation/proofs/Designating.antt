@@ -4,7 +4,8 @@ use Rattle.text_place.specs.declared.place.Pos.{Pos}
 use Rattle.c_typed.specs.Types.{CType, Pointer}
 use Rattle.c_typed.specs.Typed as T
 use Rattle.c_typed.specs.Typed.{Value, Designator, Program}
-use Rattle.c_well_typed.specs.Expressions.{is_conversion, pointed_function, type_of, type_of_designator}
+use Rattle.c_well_typed.specs.Context.{Context}
+use Rattle.c_well_typed.specs.Expressions.{given, is_conversion, pointed_function, type_of, type_of_designator}
 use Rattle.c_well_typed.specs.Programs.{IsWellTyped}
 use Rattle.c_well_typed.specs.Sizes.{has_small, designator_has_small}
 use Rattle.ref_semantics.specs.Values as V
@@ -14,7 +15,7 @@ use Rattle.ref_semantics.specs.Store.{Outcome, Then, Stopped, give}
 use Rattle.ref_semantics.specs.Meaning.{Calls, value, designated}
 use Rattle.ref_semantics.specs.First.{around_of}
 use Rattle.ref_typing.specs.Keeping.{CallsKeep}
-use Rattle.ref_typing.proofs.Splitting.{given_parts}
+use Rattle.ref_typing.proofs.Splitting.{given_parts, unless_parts}
 use Rattle.tac_ir.specs.declared.register.Register.{Register}
 use Rattle.tac_ir.specs.Code.{Op, Tac, Callee, Known, Through}
 use Rattle.tac_ir.specs.Code as O
@@ -50,11 +51,17 @@ left_three (T.GroupedFunction inner) = omega arith
 left_three (T.PointedFunction place pointer) = omega arith
 
 -- a pointer that is called is no conversion
-abbrev pub CallsNoConversion : Designator → Type 0
+abbrev CallsNoConversion : Designator → Type 0
 CallsNoConversion (T.ThroughPointer place pointer) = is_conversion pointer ≡ false
 CallsNoConversion (T.Function name) = Unit {0}
 CallsNoConversion (T.GroupedFunction inner) = Unit {0}
 CallsNoConversion (T.PointedFunction place pointer) = Unit {0}
+
+none_called : (around : Context) (function : Designator) (t : CType) → type_of_designator around function ≡ Some t → CallsNoConversion function
+none_called around (T.ThroughPointer place pointer) t typed = (unless_parts (is_conversion pointer) (given (type_of around pointer) pointed_function) t typed).0
+none_called around (T.Function name) t typed = tt
+none_called around (T.GroupedFunction inner) t typed = tt
+none_called around (T.PointedFunction place pointer) t typed = tt
 
 six_left : (function : Designator) → CallsNoConversion function → 6 ≤ left_in function
 six_left (T.ThroughPointer place pointer) none = let six : left_for pointer ≡ 6 = ap (λ (b : Bool). if b then 3 else 6) none in omega (arith, six)
@@ -116,7 +123,8 @@ module _ (tac : Tac) (program : Program) (calls : Calls) (worth : ℕ) (points :
 
   pub pointers_called : (place : Pos) (pointer : Value) → Follows pointer → Designates (T.ThroughPointer place pointer)
   pointers_called place pointer follows from to callee c_type t code typed small start n lag slack s state p at =
-      let parts = given_parts (type_of (context_of program scope) pointer) pointed_function t typed in
+      let plain = unless_parts (is_conversion pointer) (given (type_of (context_of program scope) pointer) pointed_function) t typed in
+      let parts = given_parts (type_of (context_of program scope) pointer) pointed_function t plain.1 in
       eases (called pointer follows from to code.0 callee c_type parts.0 code.1 code.2 parts.1 small start n lag slack s state p at) (omega arith) (omega arith)
 
   -- the address of what is called comes to a register
@@ -152,11 +160,11 @@ module _ (tac : Tac) (program : Program) (calls : Calls) (worth : ℕ) (points :
       let same : Does tac worth start n lag slack' (ComesToValue tac program calls worth points placement hidden frame scope mode from to lowered before) (Stopped answer s) = stops answer s a in
       eases same more (omega arith)
 
-  pub function_values : (function : Designator) → CallsNoConversion function → Designates function → Follows (T.FunctionValue function)
-  function_values function none does mode from to lowered t code typed small start n lag slack s state p at =
+  pub function_values : (function : Designator) → Designates function → Follows (T.FunctionValue function)
+  function_values function does mode from to lowered t code typed small start n lag slack s state p at =
       let parts = given_parts (type_of_designator (context_of program scope) function) (λ u. Some (Pointer u)) t typed in
       let laid = address_laid code.1 code.2 code.0 to lowered code.4 in
-      let left = known_left function from code.0 code.1 code.2 code.3 (six_left function none) in
+      let left = known_left function from code.0 code.1 code.2 code.3 (six_left function (none_called (context_of program scope) function parts.0 parts.1)) in
       address_of mode from code.0 to code.1 code.2 lowered state.running.registers (designated (around_of program) calls function s)
       (does from code.0 code.1 code.2 parts.0 code.3 parts.1 small start n lag slack s state p at) (designator_named program points scope function from code.0 code.1 code.2 code.3).0 code.4 (omega arith) (omega (arith, laid, left))
 

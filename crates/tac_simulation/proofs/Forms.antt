@@ -16,7 +16,7 @@ use Rattle.c_typed.specs.Typed.{Program, Value, Values, Object, Designator, Glob
 use Rattle.c_typed.proofs.Same.{same_type-true}
 use Rattle.c_well_typed.specs.Context.{Context, local_type, global_type, function_type, literal_bytes}
 use Rattle.c_well_typed.specs.Expressions.{given, given_two, where_holds, is_scalar, is_conversion, is_pointer_to_complete, is_right, are_comparable, repoints, first_element, pointed, pointed_function, element, member_of, moved, result_of, library_result, type_of, types_of, type_of_object, type_of_designator}
-use Rattle.ref_typing.proofs.Splitting.{held_parts, given_parts, two_parts, same_parts, other_parts, first_parts, both_parts, pointed_parts, element_parts, pointed_function_is}
+use Rattle.ref_typing.proofs.Splitting.{held_parts, given_parts, unless_parts, two_parts, same_parts, other_parts, first_parts, both_parts, pointed_parts, element_parts, pointed_function_is}
 use Rattle.tac_ir.specs.declared.register.Local.{Local}
 use Rattle.tac_ir.specs.declared.register.Register.{Register}
 use Rattle.tac_ir.specs.Code.{Tree, Path, Callee, Known, Through, Op}
@@ -513,7 +513,8 @@ module _ (program : Program) (points : List Op) (scope : Scope) where
         let same : t ≡ c_type = pointer_is (sym (pointed_function_is parts.0 t parts.2) ∙ value_form pointer Kept parts.0 from to (AsPointer code.0 c_type) parts.1 code.1) in
         (same, subst (λ c. CalleeForm c t) (sym code.2) same)
     designator_form (T.ThroughPointer place pointer) t from to callee c_type typed code =
-        let parts = given_parts (type_of around pointer) pointed_function t typed in
+        let plain = unless_parts (is_conversion pointer) (given (type_of around pointer) pointed_function) t typed in
+        let parts = given_parts (type_of around pointer) pointed_function t plain.1 in
         let same : t ≡ c_type = pointer_is (sym (pointed_function_is parts.0 t parts.2) ∙ value_form pointer Kept parts.0 from to (AsPointer code.0 c_type) parts.1 code.1) in
         (same, subst (λ c. CalleeForm c t) (sym code.2) same)
 
