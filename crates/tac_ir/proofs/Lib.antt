@@ -4,3 +4,4 @@ pub mod Limits
 pub mod Traces
 pub mod Seen
 pub mod Paying
+pub mod Activations

@@ -1,7 +1,8 @@
--- Arguments come to registers of their own, in their order: each leaves two ticks.
-use Rattle.std.proofs.Common.{◌≡◌, ℕ, ◌+◌, ◌*◌, ◌≤◌, ◌<◌, true, List, [], ◌∷◌, length, Option, Some, refl, sym, ap, ◌∙◌, subst, arith}
+-- Arguments come to registers of their own, in their order: each leaves ticks by its type.
+use Rattle.std.proofs.Common.{◌≡◌, ℕ, ◌+◌, ◌≤◌, ◌<◌, true, List, [], ◌∷◌, Option, Some, refl, sym, ap, ◌∙◌, subst, arith}
 use Rattle.std.proofs.lemmas.Bool.{and_parts}
-use Rattle.c_typed.specs.Types.{CType, CTypes, MoreTypes, Pointer}
+use Rattle.std.proofs.lemmas.Option.{same_Some}
+use Rattle.c_typed.specs.Types.{CType, CTypes, NoTypes, MoreTypes, Pointer}
 use Rattle.c_typed.specs.Typed as T
 use Rattle.c_typed.specs.Typed.{Value, Values, Designator, Program}
 use Rattle.c_well_typed.specs.Expressions.{is_scalar, type_of, types_of, type_of_designator}
@@ -33,11 +34,12 @@ use Rattle.tac_simulation.specs.Standing.{Placement, Frame, At, context_of, Scal
 use Rattle.tac_simulation.proofs.Paths.{Stand, Passage as Passing, Does, comes, stops, stepped, eased, eases}
 use Rattle.tac_simulation.proofs.Spotting.{Runs, kept_same, kept_write, written_there, before_at, around_is, with_written, at_written}
 use Rattle.tac_simulation.proofs.Evaluating
-use Rattle.tac_simulation.proofs.Evaluating.{laid_by, left_for, value_units, values_units, designator_units}
+use Rattle.tac_simulation.proofs.Evaluating.{laid_by, left_for, passed_ticks, all_passed_ticks, value_units, values_units, designator_units}
 use Rattle.tac_simulation.proofs.Naming.{grows_then, grows_to, behind_grows, argument_grows, before_more}
 use Rattle.tac_simulation.proofs.Named.{value_named}
 use Rattle.tac_simulation.proofs.Forms.{value_form}
 use Rattle.tac_simulation.proofs.Lasting.{holds_later}
+use Rattle.tac_simulation.proofs.Going.{some_node}
 use Rattle.tac_simulation.proofs.Combining.{then_value}
 use Rattle.tac_simulation.proofs.Constants.{left_most}
 
@@ -74,7 +76,7 @@ module _ (tac : Tac) (program : Program) (calls : Calls) (worth : ℕ) (points :
   pub then_values : {B : Type 0} {Stands : Stand B} {start : State} {n lag lag' slack slack' : ℕ} (trees : Values) → Passed trees → (next : List Scalar → Eval B)
       → (from to : Spot) (registers : List Register) (types : CTypes) → ArgumentsCode program points scope trees from to registers → types_of (context_of program scope) trees ≡ Some types → all_have_small program.structs trees ≡ true
       → (s : S.State) (state : State) → Passing tac worth start state n s.units lag slack → Spotted from.at s state → lag + values_units trees ≤ lag'
-      → ((scalars : List Scalar) (s' : S.State) (state' : State) → Passing tac worth start state' n s'.units (lag + values_units trees) (slack + 2 * length registers)
+      → ((scalars : List Scalar) (s' : S.State) (state' : State) → Passing tac worth start state' n s'.units (lag + values_units trees) (slack + all_passed_ticks types)
       → Evaluating.ComesToArguments tac program calls worth points placement hidden frame scope from to registers state.running.registers scalars s' state' → Keeps (context_of program scope) s s' → HaveTypes program s' types scalars
       → Does tac worth start n lag' slack' Stands (next scalars s'))
       → Does tac worth start n lag' slack' Stands (continue_with next (values (around_of program) calls trees s))
@@ -82,7 +84,7 @@ module _ (tac : Tac) (program : Program) (calls : Calls) (worth : ℕ) (points :
       by (values (around_of program) calls trees s) refl (does from to registers types code typed small start n lag slack s state p at)
     where
       by : (outcome : Outcome (List Scalar)) → values (around_of program) calls trees s ≡ outcome
-          → Does tac worth start n (lag + values_units trees) (slack + 2 * length registers) (Evaluating.ComesToArguments tac program calls worth points placement hidden frame scope from to registers state.running.registers) outcome
+          → Does tac worth start n (lag + values_units trees) (slack + all_passed_ticks types) (Evaluating.ComesToArguments tac program calls worth points placement hidden frame scope from to registers state.running.registers) outcome
           → Does tac worth start n lag' slack' Stands (continue_with next outcome)
       by _ e (comes scalars s' state' p' comes_to) =
           let keeps = values_keep program well calls keep (Standing.types_of scope) trees small types typed s at.sound scalars s' e in
@@ -116,7 +118,7 @@ module _ (tac : Tac) (program : Program) (calls : Calls) (worth : ℕ) (points :
     pub does : execute tac (surroundings program frame) op state ≡ write register value state
     pub next_is : next ≡ behind mid
     pub stands : ScalarStands program objects placement a value
-    pub cost : more_cost op ≤ laid_by lowered
+    pub cost : passed_ticks t + more_cost op < laid_by lowered + 3
     pub scalar : is_scalar t ≡ true
 
   pub is_written : (register : Register) (lowered : Lowered) (t : CType) (mid next : Spot) (a : Scalar) (objects : S.Objects) (state : State) → HasForm Kept lowered t → Writes points register lowered mid next
@@ -128,7 +130,7 @@ module _ (tac : Tac) (program : Program) (calls : Calls) (worth : ℕ) (points :
     does = ap (λ found. given found state (λ z. write register (M.Number z) state)) stands.2;
     next_is = code.1;
     stands = subst (λ scalar. ScalarStands program objects placement scalar (M.Number stands.0)) (sym stands.1) refl;
-    cost = omega arith;
+    cost = subst (λ u. passed_ticks u + more_cost (O.Assign register tree) < laid_by (AsInteger own tree) + 3) (sym form) (let some = some_node tree in omega (arith, some));
     scalar = subst (λ u. is_scalar u ≡ true) (sym form) refl;
   }
   is_written register (AsPointer pointer target) t mid next a objects state form code stands = record {
@@ -138,7 +140,7 @@ module _ (tac : Tac) (program : Program) (calls : Calls) (worth : ℕ) (points :
     does = ap (λ found. given found state (λ value. write register value state)) stands.1;
     next_is = code.1;
     stands = stands.2;
-    cost = omega arith;
+    cost = subst (λ u. passed_ticks u + more_cost (O.Copy register pointer) < laid_by (AsPointer pointer target) + 3) (sym form) (omega arith);
     scalar = subst (λ u. is_scalar u ≡ true) (sym form) refl;
   }
   is_written register (AsObject path own) t mid next a objects state form code stands = absurd code
@@ -148,7 +150,7 @@ module _ (tac : Tac) (program : Program) (calls : Calls) (worth : ℕ) (points :
 
   pub no_arguments : Passed T.NoValues
   no_arguments from to registers types code typed small start n lag slack s state p at =
-      comes [] s state (eased p (omega arith) (let none = ap length code.1 in omega (arith, none))) (
+      comes [] s state (eased p (omega arith) (subst (λ us. slack + all_passed_ticks us ≤ slack) (same_Some NoTypes types typed) (omega arith))) (
         record { there = subst (λ (spot : Spot). At program placement hidden frame scope spot.at s state) (sym code.0) at.stands; kept = kept_same from.counts state.running.registers },
         subst (λ rs. Evaluating.AllHold tac program calls worth points placement hidden frame scope s.objects state.running.registers rs []) (sym code.1) tt,
       )
@@ -165,13 +167,13 @@ module _ (tac : Tac) (program : Program) (calls : Calls) (worth : ℕ) (points :
       let w = is_written (argument from) code.2 parts.a code.0 code.1 a s1.objects state1 form code.5 come.1 in
       let state2 = written_state (argument from) w.value state1 in
       let grows : SpotGrows (with_argument from) code.1 = grows_then named.grows (grows_to w.next_is (behind_grows code.0)) in
-      let p2 : Passing tac worth start state2 n s1.units (lag + value_units first) (slack + 2) =
-      writes_on (slack + 2) w.op (argument from) w.value code.0.at s1 state1 p1 come.0.there w.has w.does (let cost = w.cost in omega (arith, cost, left)) in
+      let p2 : Passing tac worth start state2 n s1.units (lag + value_units first) (slack + passed_ticks parts.a) =
+      writes_on (slack + passed_ticks parts.a) w.op (argument from) w.value code.0.at s1 state1 p1 come.0.there w.has w.does (let cost = w.cost in omega (arith, cost, left)) in
       let there : At program placement hidden frame scope code.1.at s1 state2 =
       subst (λ (spot : Spot). At program placement hidden frame scope spot.at s1 state2) (sym w.next_is)
       (at_written tac program points placement hidden frame scope runs code.0.at (argument from) w.value s1 state1 tt come.0.there) in
       then_values others rest (λ given. give (a ∷ given)) code.1 to code.3 parts.b code.6 parts.right sizes.1 s1 state2 p2 (record { stands = there; sound = keeps.sound }) (omega arith) (λ scalars s2 state3 p3 come2 keeps2 hold2.
-      comes (a ∷ scalars) s2 state3 (eased p3 (omega arith) (let count = ap length code.7 in omega (arith, count))) (
+      comes (a ∷ scalars) s2 state3 (eased p3 (omega arith) (subst (λ us. slack + all_passed_ticks us ≤ slack + passed_ticks parts.a + all_passed_ticks parts.b) (same_Some (MoreTypes parts.a parts.b) types parts.gave) (omega arith))) (
         record {
           there = come2.0.there;
           kept = λ register before. come2.0.kept register (before_more (grows_then (argument_grows from) grows) register before)

@@ -1,9 +1,10 @@
 -- The code of calls of the program's functions: what is called is found, arguments come to their registers, and the function gives its value to
 -- the register of the call.
-use Rattle.std.proofs.Common.{◌≡◌, ℕ, suc, ◌+◌, ◌*◌, ◌≤◌, Bool, true, false, if◌then◌else◌, List, length, Option, Some, refl, sym, ap, ◌∙◌, subst, arith}
+use Rattle.std.proofs.Common.{◌≡◌, ℕ, suc, ◌+◌, ◌≤◌, Bool, true, false, ◌&&◌, if◌then◌else◌, List, Option, Some, refl, sym, ap, ◌∙◌, subst, arith}
+use Rattle.std.specs.Prelude.{not}
 use Rattle.std.proofs.lemmas.Bool.{and_parts}
 use Rattle.text_place.specs.declared.place.Pos.{Pos}
-use Rattle.c_typed.specs.Types.{CType, CTypes, Void, Integer, Pointer, Array, Struct, Function, same_type}
+use Rattle.c_typed.specs.Types.{CType, CTypes, Void, Integer, Pointer, Array, Struct, Function, same_type, is_void}
 use Rattle.c_typed.specs.Typed as T
 use Rattle.c_typed.specs.Typed.{Value, Values, Designator, Program}
 use Rattle.c_well_typed.specs.Expressions.{given, where_holds, result_of, types_of, type_of_designator}
@@ -35,7 +36,7 @@ use Rattle.tac_simulation.specs.Standing.{Placement, Frame, KeepsBefore, At, IsB
 use Rattle.tac_simulation.proofs.Paths.{Passage as Passing, Does, comes, stops, eased}
 use Rattle.tac_simulation.proofs.Spotting.{Runs}
 use Rattle.tac_simulation.proofs.Evaluating
-use Rattle.tac_simulation.proofs.Evaluating.{laid_by, value_units, values_units, designator_units}
+use Rattle.tac_simulation.proofs.Evaluating.{laid_by, all_passed_ticks, value_units, values_units, designator_units}
 use Rattle.tac_simulation.proofs.Naming.{call_grows, before_more}
 use Rattle.tac_simulation.proofs.Named.{designator_named}
 use Rattle.tac_simulation.proofs.Lasting.{register_later}
@@ -98,7 +99,7 @@ module _ (tac : Tac) (program : Program) (calls : Calls) (worth : ℕ) (points :
 
   -- what a call gives stands for its value
   gives_stands : (mode : Mode) (is_used : Bool) (result : CType) (parameters : CTypes) (site : ℕ) (s : S.State) (registers : Registers) (scalar : Scalar) → HasType program s (if is_used then result else Void) scalar
-      → (is_used ≡ true → HoldsFor program s.objects placement scalar (registers (R.Call site)))
+      → (is_used && not (is_void result) ≡ true → HoldsFor program s.objects placement scalar (registers (R.Call site)))
       → LoweredStands program mode frame placement s.objects registers (call_gives is_used (Function result parameters) site) scalar
   gives_stands mode false result parameters site s registers scalar typed holds = tt
   gives_stands mode true (Integer int_type) parameters site s registers scalar typed holds = integer_stands int_type s scalar (registers (R.Call site)) typed (holds refl)
@@ -126,8 +127,8 @@ module _ (tac : Tac) (program : Program) (calls : Calls) (worth : ℕ) (points :
       let function_typed : HasType program s2 (Pointer (Function known.result known.parameters)) f =
       subst (λ u. HasType program s2 (Pointer u) f) known.is_function (type_lasts program keeps2.later (Pointer parts.a) f holds1) in
       let arguments_typed : HaveTypes program s2 known.parameters scalars = subst (λ us. HaveTypes program s2 us scalars) known.passed holds2 in
-      let p4 : Passing tac worth start state2 n s2.units (lag + value_units (T.Call is_used place function c_type arguments)) (slack + (laid_by lowered + 6) + 2 * length code.4 + 3) =
-      eased p3 (omega arith) (let laid = ap laid_by code.8 in let most = gives_laid is_used c_type site in omega (arith, laid, most)) in
+      let p4 : Passing tac worth start state2 n s2.units (lag + value_units (T.Call is_used place function c_type arguments)) (slack + (laid_by lowered + 6) + all_passed_ticks known.parameters + 3) =
+      eased p3 (omega arith) (let laid = ap laid_by code.8 in let most = gives_laid is_used c_type site in let same = ap all_passed_ticks known.passed in omega (arith, laid, most, same)) in
       let done = calls_do place is_used known.result known.parameters f scalars code.1.at site code.2 code.4 code.7.0 start n (lag + value_units (T.Call is_used place function c_type arguments)) (slack + (laid_by lowered + 6)) s2 state2 p4
       (record { stands = come2.0.there; sound = keeps2.sound })
       (callee_later code.0.counts code.2 parts.a f s1 s2 state1.running.registers state2.running.registers keeps2.later kept found.1 holds1 come1.1) come2.1 function_typed arguments_typed in
@@ -143,7 +144,7 @@ module _ (tac : Tac) (program : Program) (calls : Calls) (worth : ℕ) (points :
           → HasType program s2 (Pointer (Function result parameters)) f → HaveTypes program s2 parameters scalars
           → KeepsBefore from.counts before state2.running.registers → from.counts.calls ≤ site
           → (outcome : Outcome Scalar) → calls place is_used (Function result parameters) f scalars s2 ≡ outcome
-          → Does tac worth start n lag slack (Calling.Returned tac program calls worth points placement hidden frame scope next.at site is_used state2.running.registers) outcome
+          → Does tac worth start n lag slack (Calling.Returned tac program calls worth points placement hidden frame scope next.at site (is_used && not (is_void result)) state2.running.registers) outcome
           → Does tac worth start n lag slack (Evaluating.ComesToValue tac program calls worth points placement hidden frame scope mode from to lowered before) outcome
       returned is_used place mode from to lowered result parameters f scalars next site before s2 state2 is there sound function_typed arguments_typed kept least _ e (comes scalar s3 state3 p back) =
           let keeps = keep (Standing.types_of scope) place is_used result parameters f scalars s2 sound function_typed arguments_typed scalar s3 e in

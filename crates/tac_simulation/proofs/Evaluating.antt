@@ -3,8 +3,8 @@
 --
 -- Each unit of the reference allows so many ticks (Comparing). What the tree or the path that an expression comes to will cost when it is
 -- used is laid by, twice over, since a compound assignment uses a path twice; and some ticks are left for what stands around it.
-use Rattle.std.specs.Prelude.{◌≡◌, ℕ, ◌+◌, ◌*◌, Bool, true, false, if◌then◌else◌, List, [], ◌∷◌, length, Option, Some}
-use Rattle.c_typed.specs.Types.{CType, CTypes}
+use Rattle.std.specs.Prelude.{◌≡◌, ℕ, ◌+◌, ◌*◌, Bool, true, false, if◌then◌else◌, List, [], ◌∷◌, Option, Some}
+use Rattle.c_typed.specs.Types.{CType, CTypes, Void, Integer, Pointer, Array, Struct, Function, NoTypes, MoreTypes}
 use Rattle.c_typed.specs.Typed as T
 use Rattle.c_typed.specs.Typed.{Value, Object, Designator, Values, Program}
 use Rattle.c_well_typed.specs.Expressions.{is_conversion, type_of, types_of, type_of_object, type_of_designator}
@@ -88,6 +88,19 @@ abbrev mutual
   designator_units (T.PointedFunction place pointer) = 1 + value_units pointer
   designator_units (T.ThroughPointer place pointer) = value_units pointer
 
+-- what an argument leaves: a tick for the call, one for a store, and one for the tree of an integer that is stored
+abbrev pub passed_ticks : CType → ℕ
+passed_ticks (Integer int_type) = 3
+passed_ticks Void = 2
+passed_ticks (Pointer target) = 2
+passed_ticks (Array element count) = 2
+passed_ticks (Struct tag) = 2
+passed_ticks (Function result parameters) = 2
+
+abbrev pub all_passed_ticks : CTypes → ℕ
+all_passed_ticks NoTypes = 0
+all_passed_ticks (MoreTypes first others) = passed_ticks first + all_passed_ticks others
+
 -- what is laid by for what an expression comes to
 abbrev pub laid_by : Lowered → ℕ
 laid_by (AsInteger int_type tree) = 2 * tree_nodes tree
@@ -151,12 +164,12 @@ module _ (tac : Tac) (program : Program) (calls : Calls) (worth : ℕ) (points :
       → (start : State) (n lag slack : ℕ) (s : S.State) (state : State) → Passing tac worth start state n s.units lag slack → AtSpot from.at s state
       → Does tac worth start n (lag + value_units tree) (slack + (laid_by lowered + left_for tree)) (ComesToValue mode from to lowered state.running.registers) (value (around_of program) calls tree s)
 
-  -- arguments leave two ticks each, for the call and for an entry in memory
+  -- arguments leave ticks for the call and for the stores of parameters that lie in memory
   abbrev pub ArgumentsDo : Values → Type 0
   ArgumentsDo trees =
       (from to : Spot) (registers : List Register) (types : CTypes) → ArgumentsCode program points scope trees from to registers → types_of (context_of program scope) trees ≡ Some types → all_have_small program.structs trees ≡ true
       → (start : State) (n lag slack : ℕ) (s : S.State) (state : State) → Passing tac worth start state n s.units lag slack → AtSpot from.at s state
-      → Does tac worth start n (lag + values_units trees) (slack + 2 * length registers) (ComesToArguments from to registers state.running.registers) (values (around_of program) calls trees s)
+      → Does tac worth start n (lag + values_units trees) (slack + all_passed_ticks types) (ComesToArguments from to registers state.running.registers) (values (around_of program) calls trees s)
 
   abbrev pub FindDoes : Object → Type 0
   FindDoes tree =

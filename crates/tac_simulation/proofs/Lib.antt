@@ -89,6 +89,15 @@ pub mod Turns
 pub mod Rounds
 pub mod Closing
 pub mod Leaving
+pub mod Back
+pub mod Handed
+pub mod Bodied
 pub mod Selecting
 pub mod Whole
 pub mod Following
+pub mod FirstStands
+pub mod Newly
+pub mod Entering
+pub mod Parametric
+pub mod Parameters
+pub mod Handing

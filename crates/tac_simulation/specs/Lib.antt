@@ -1,3 +1,4 @@
 pub mod Forms
 pub mod Standing
 pub mod Comparing
+pub mod Entered
