@@ -16,7 +16,8 @@ use Rattle.ref_semantics.specs.Library.{is_unfreeable, freed, allocated}
 use Rattle.ref_semantics.specs.First.{around_of}
 use Rattle.ref_typing.specs.Rows.{IsSmall, size_in}
 use Rattle.ref_typing.proofs.WellTyped.{well_structs}
-use Rattle.tac_simulation.proofs.Filled.{is_filled, are_filled, size_positive}
+use Rattle.c_filled.specs.Filled.{is_filled, are_filled}
+use Rattle.tac_simulation.proofs.Filled.{size_positive}
 use Rattle.tac_simulation.proofs.Answered.{past, gave}
 use Rattle.tac_simulation.proofs.Into.{HasBytes, HaveBytes}
 

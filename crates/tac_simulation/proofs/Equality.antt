@@ -23,7 +23,7 @@ use Rattle.tac_ir.specs.Pointers.{is_alive, compared}
 use Rattle.tac_simulation.specs.Standing.{Placement, ScalarStands, MemoryStands}
 use Rattle.tac_simulation.proofs.Looking.{looked_at_alive}
 use Rattle.tac_simulation.proofs.Numbers.{same_numbers}
-use Rattle.tac_simulation.proofs.Filled.{are_filled}
+use Rattle.c_filled.specs.Filled.{are_filled}
 use Rattle.tac_simulation.proofs.Answered.{past, gave, typed_pointer}
 use Rattle.tac_simulation.proofs.Tested.{truth_integer}
 use Rattle.tac_simulation.proofs.Into.{HaveBytes, Into, into, alike}

@@ -4,9 +4,10 @@ use Rattle.std.specs.Prelude.{bytes_eq}
 use Rattle.std.proofs.lemmas.Bool.{false≢true, true≢false, ltb-true, and_parts, and_from, cases_lt}
 use Rattle.std.proofs.lemmas.Option.{none-some, same_Some}
 use Rattle.c_typed.specs.Types.{CType, Void, Integer, Pointer, Array, Struct, Function}
-use Rattle.c_typed.specs.Layouts.{StructDef, MemberDef, Layout, greatest, layouts, is_complete, members_by_tag, has_members, offset_before}
+use Rattle.c_typed.specs.Layouts.{StructDef, MemberDef, Layout, greatest, layouts, members_by_tag, has_members, offset_before}
 use Rattle.c_typed.specs.Inside.{is_sized}
 use Rattle.c_well_typed.specs.Programs.{are_structs}
+use Rattle.c_filled.specs.Filled.{is_filled, is_known_filled, all_filled, has_some, are_filled}
 use Rattle.ref_semantics.specs.Values.{Row}
 use Rattle.ref_typing.specs.Rows.{RowOf, Whole, InArray, InStruct, IsSmall, size_in, element_offset, are_sized_structs}
 use Rattle.ref_typing.proofs.Sized.{sized_structs}
@@ -14,31 +15,6 @@ use Rattle.ref_typing.proofs.Inward.{scalar_size}
 use Rattle.tac_simulation.proofs.Growing.{IsNewest, is_newest, tag_differs, sized_layout}
 use Rattle.tac_simulation.proofs.Sizes.{array_size, small_element, small_member, member_ends}
 use Rattle.tac_simulation.proofs.Extents.{row_small, whole_end}
-
--- ---- the test
-
-abbrev pub is_filled : List StructDef → CType → Bool
-is_filled structs (Array element n) = nat_lt 0 n && is_filled structs element
-is_filled structs c_type = is_complete structs c_type
-
-abbrev pub is_known_filled : List StructDef → Option CType → Bool
-is_known_filled structs (Some c_type) = is_filled structs c_type
-is_known_filled structs None = false
-
-abbrev pub all_filled : List StructDef → List MemberDef → Bool
-all_filled structs [] = true
-all_filled structs (member ∷ members) = is_known_filled structs member.c_type && all_filled structs members
-
-abbrev pub has_some : List MemberDef → Bool
-has_some [] = false
-has_some (member ∷ members) = true
-
--- each structure has a member, and its members are filled by older structures
-abbrev pub are_filled : List StructDef → Bool
-are_filled [] = true
-are_filled (newest ∷ older) = (has_some newest.members && all_filled older newest.members) && are_filled older
-
--- ---- what it tells
 
 filled_sized : (structs : List StructDef) (t : CType) → is_filled structs t ≡ true → is_sized structs t ≡ true
 filled_sized structs Void h = h

@@ -11,7 +11,7 @@ use Rattle.tac_ir.specs.Code.{Op, Tac}
 use Rattle.tac_ir.specs.States.{State}
 use Rattle.tac_build.specs.Homes.{Scope}
 use Rattle.tac_simulation.specs.Standing.{Placement, Frame, At}
-use Rattle.tac_simulation.proofs.Filled.{are_filled}
+use Rattle.c_filled.specs.Filled.{are_filled}
 use Rattle.tac_simulation.proofs.Into.{HaveBytes}
 use Rattle.tac_simulation.proofs.Spotting.{Runs}
 use Rattle.tac_simulation.proofs.Evaluating.{ValueDoes, FindDoes, AddressDoes, ArgumentsDo}

@@ -33,7 +33,8 @@ use Rattle.tac_simulation.specs.Standing.{Placement, image, ScalarStands, Memory
 use Rattle.tac_simulation.proofs.Memory.{same_object-refl}
 use Rattle.tac_simulation.proofs.Looking.{looked_at_alive, living_raw}
 use Rattle.tac_simulation.proofs.Placing.{placed}
-use Rattle.tac_simulation.proofs.Filled.{are_filled, size_positive}
+use Rattle.c_filled.specs.Filled.{are_filled}
+use Rattle.tac_simulation.proofs.Filled.{size_positive}
 use Rattle.tac_simulation.proofs.Answered.{past, gave, typed_pointer}
 use Rattle.tac_simulation.proofs.Tested.{truth_integer}
 use Rattle.tac_simulation.proofs.Into.{HasBytes, HaveBytes, place_size, at_beginning}

@@ -23,7 +23,8 @@ use Rattle.tac_simulation.proofs.Memory.{same_object-true, same_object-refl, sam
 use Rattle.tac_simulation.proofs.Looking.{not_dead, living_raw}
 use Rattle.tac_simulation.proofs.Placing.{TypedBoth, placed}
 use Rattle.tac_simulation.proofs.Extents.{row_small}
-use Rattle.tac_simulation.proofs.Filled.{is_filled, are_filled, size_positive, row_filled, filled_end}
+use Rattle.c_filled.specs.Filled.{is_filled, are_filled}
+use Rattle.tac_simulation.proofs.Filled.{size_positive, row_filled, filled_end}
 
 -- ---- objects with a byte at least
 

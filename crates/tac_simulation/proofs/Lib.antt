@@ -101,3 +101,6 @@ pub mod Entering
 pub mod Parametric
 pub mod Parameters
 pub mod Handing
+pub mod Called
+pub mod Paid
+pub mod Running

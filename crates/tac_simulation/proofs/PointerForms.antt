@@ -51,7 +51,7 @@ use Rattle.tac_simulation.proofs.Evaluating.{AtSpot, Came, ComesToValue, ValueDo
 use Rattle.tac_simulation.proofs.Combining.{ticked, then_value}
 use Rattle.tac_simulation.proofs.Unchanged.{keeps_fewer, keeps_then}
 use Rattle.tac_simulation.proofs.Tested.{tested_is}
-use Rattle.tac_simulation.proofs.Filled.{are_filled}
+use Rattle.c_filled.specs.Filled.{are_filled}
 use Rattle.tac_simulation.proofs.Into.{HaveBytes}
 use Rattle.tac_simulation.proofs.Equality.{ComparedBoth, equality_is}
 use Rattle.tac_simulation.proofs.InRow.{order_is, difference_is}

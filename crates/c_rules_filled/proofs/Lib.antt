@@ -1,0 +1,15 @@
+pub mod Holding
+pub mod Types
+pub mod Declared
+pub mod Operands
+pub mod Operators
+pub mod Calls
+pub mod Expressions
+pub mod Statements
+pub mod Structures
+pub mod Entering
+pub mod Functions
+pub mod Completed
+pub mod Program
+pub mod Read
+pub mod Accepted
