@@ -1,5 +1,5 @@
 -- What a call of a function of the program does: the point of the call enters the function that the reference finds.
-use Rattle.std.proofs.Common.{◌≡◌, if◌then◌else◌, ℕ, suc, ◌+◌, ◌≤◌, ◌<◌, ◌==◌, nat_lt, Bool, true, false, List, [], ◌∷◌, ◌++◌, length, Option, Some, refl, sym, ap, ◌∙◌, subst, lt-ltb, le-ltb, eq-eqb, arith}
+use Rattle.std.proofs.Common.{◌≡◌, ◌*◌, if◌then◌else◌, ℕ, suc, ◌+◌, ◌≤◌, ◌<◌, ◌==◌, nat_lt, Bool, true, false, List, [], ◌∷◌, ◌++◌, length, Option, Some, refl, sym, ap, ◌∙◌, subst, lt-ltb, le-ltb, eq-eqb, arith}
 use Rattle.std.specs.Prelude.{slice_get, bytes_eq}
 use Rattle.std.proofs.lemmas.Option.{none-some, same_Some}
 use Rattle.run_theory.specs.Runs
@@ -27,7 +27,9 @@ use Rattle.tac_build.specs.ProgramCode.{FunctionCode, FunctionsCode, Code}
 use Rattle.ref_typing.specs.Sound.{Sound}
 use Rattle.tac_simulation.specs.Standing.{Placement, Frame, HoldsFor, At, context_of, surroundings}
 use Rattle.tac_simulation.specs.Entered.{entered, hidden_within}
-use Rattle.tac_simulation.proofs.Paths.{Stand, Passage as Passing, Does, stops, stepped, ends_seen}
+use Rattle.tac_simulation.proofs.Paths.{Stand, Passage as Passing, Passes, Does, stops, stepped, ends_seen}
+use Rattle.tac_simulation.specs.Comparing.{ticks_per_unit}
+use Rattle.tac_simulation.proofs.Paid.{pays}
 use Rattle.tac_simulation.proofs.Spotting.{Runs, before_at, around_is}
 use Rattle.tac_simulation.proofs.Entering.{at_entered, sound_entered}
 use Rattle.tac_simulation.proofs.Evaluating.{AtSpot, CalleeStands, AllHold}
@@ -160,6 +162,7 @@ module _ (tac : Tac) (program : Program) (calls : Calls) (worth : ℕ) (points :
     pub values : List Value
     pub stand : ValuesStand program s.objects placement values scalars
     pub passing : Passing tac worth start (enter (surroundings program frame) site number function values state) n s.units lag slack
+    pub paid : Passing tac worth start (enter (surroundings program frame) site number function values state) (n + worth) s.units lag (slack + ticks_per_unit * worth)
     pub there : At program placement (hidden_within placement s.locals s.objects hidden) (entered site number function state) [] 0 (begun_call number s) (enter (surroundings program frame) site number function values state)
     pub sound : Sound (context_of program []) (begun_call number s)
     pub inside : Runs tac program function.points (entered site number function state)
@@ -181,15 +184,19 @@ module _ (tac : Tac) (program : Program) (calls : Calls) (worth : ℕ) (points :
     around : (next : _) → execute tac (surroundings program frame) (O.Call site callee read) state ≡ next → execute tac (around_of tac state.running) (O.Call site callee read) state ≡ next
     around next e = ap (λ around. execute tac around (O.Call site callee read) state) (around_is tac program points placement hidden frame scope runs at s state h.stands) ∙ e
 
+    passes : length frame.callers < greatest_depth → Passes tac (O.Call site callee read) state (enter (surroundings program frame) site found.0 function held.values state)
+    passes less = record {
+      before = before_at tac program points placement hidden frame scope runs at (O.Call site callee read) s state has h.stands;
+      does = around _ (does.enters (subst (λ callers. length callers < greatest_depth) (sym h.stands.callers) less));
+    }
+
     -- calls may nest deeper
     pub goes_within : length frame.callers < greatest_depth → Within start n lag slack site found.0 function scalars s state
     goes_within less = record {
       values = held.values;
       stand = held.stand;
-      passing = stepped p (record {
-        before = before_at tac program points placement hidden frame scope runs at (O.Call site callee read) s state has h.stands;
-        does = around _ (does.enters (subst (λ callers. length callers < greatest_depth) (sym h.stands.callers) less));
-      }) (omega arith) (omega arith);
+      passing = stepped p (passes less) (omega arith) (omega arith);
+      paid = pays slack p (passes less) (omega arith);
       there = at_entered tac program calls worth points placement hidden frame scope at s state h site found.0 function held.values;
       sound = sound_entered tac program calls worth points placement hidden frame scope at s state h site found.0 function held.values;
       inside = entered_runs site found.0 function state there;

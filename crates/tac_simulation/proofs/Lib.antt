@@ -104,3 +104,4 @@ pub mod Handing
 pub mod Called
 pub mod Paid
 pub mod Running
+pub mod InBody
