@@ -5,7 +5,7 @@ use Rattle.c_syntax.specs.Trees.{ProgramTree}
 use Rattle.c_rules.specs.Programs.{violations}
 use Rattle.c_rules.specs.Elaborated.{typed_of}
 use Rattle.c_reader.specs.Readings.{IsProgram}
-use Rattle.c_filled.specs.Filled.{IsFilled}
+use Rattle.c_well_typed.specs.Sizes.{IsFilled}
 use Rattle.c_rules_filled.proofs.Program.{elaboration_gives_filled}
 use Rattle.c_rules_filled.proofs.Read.{spelled_given}
 

@@ -9,7 +9,7 @@ use Rattle.c_typed.specs.Types.{CType, CTypes, Pointer, Function, NoTypes, MoreT
 use Rattle.c_typed.specs.Layouts.{StructDef}
 use Rattle.c_typed.specs.Typed as typed
 use Rattle.c_typed.specs.Typed.{Value, Values, Designator}
-use Rattle.c_filled.specs.Filled.{has_filled, all_have_filled, designator_has_filled}
+use Rattle.c_well_typed.specs.Sizes.{makes, all_make, designator_makes, fills}
 use Rattle.c_rules.specs.Names.{Scope, Meaning, NoMeaning, Local, Outer, Library, meaning_of}
 use Rattle.c_rules.specs.Known.{Checked, Known, TypedExpr, OfValue, OfObject, OfFunction, OfLibrary, with_known, give, value_of_typed}
 use Rattle.c_rules.specs.Operators.{ArgumentValue, Arguments, converted, fits, as_many, passed_rule, passed, unconverted_argument, unconverted, is_free, call_of, call_value, called_as, call_rule, call}
@@ -22,10 +22,10 @@ use Rattle.c_rules_filled.proofs.Operands.{value_filled, converted_filled, uncon
 
 module _ (structs : List StructDef) where
   abbrev AllFilled : Values → Type 0
-  AllFilled values = all_have_filled structs values ≡ true
+  AllFilled values = all_make (fills structs) values ≡ true
 
   abbrev OneFilled : Value → Type 0
-  OneFilled value = has_filled structs value ≡ true
+  OneFilled value = makes (fills structs) value ≡ true
 
   -- ---- arguments
 
@@ -38,25 +38,25 @@ module _ (structs : List StructDef) where
       (of_known (KnownFilled structs) OneFilled argument.value (passed_rule whole argument.place first) all.0
       (λ known is. required (fits first known) T.T10 argument.place (give (converted whole first known)) (gives (converted whole first known) (converted_filled structs whole first known parts.0 is))))
       (passed_filled whole others parts.1 arguments all.1)
-      (λ value values one rest. gives (typed.MoreValues value values) (and_from (has_filled structs value) (all_have_filled structs values) one rest))
+      (λ value values one rest. gives (typed.MoreValues value values) (and_from (makes (fills structs) value) (all_make (fills structs) values) one rest))
 
-  one_unconverted : (known : Option Known) → IfKnown (KnownFilled structs) known → has_filled structs (unconverted_argument known) ≡ true
+  one_unconverted : (known : Option Known) → IfKnown (KnownFilled structs) known → makes (fills structs) (unconverted_argument known) ≡ true
   one_unconverted None filled = refl
   one_unconverted (Some known) filled = unconverted_filled structs _ known filled
 
   all_unconverted : (arguments : List ArgumentValue) → Every (ArgumentFilled structs) arguments → AllFilled (unconverted arguments)
   all_unconverted [] all = refl
   all_unconverted (argument ∷ arguments) all =
-      and_from (has_filled structs (unconverted_argument argument.value)) (all_have_filled structs (unconverted arguments)) (one_unconverted argument.value all.0) (all_unconverted arguments all.1)
+      and_from (makes (fills structs) (unconverted_argument argument.value)) (all_make (fills structs) (unconverted arguments)) (one_unconverted argument.value all.0) (all_unconverted arguments all.1)
 
   -- ---- what is called
 
-  through_filled : (value : Value) (values : Values) → OneFilled value → AllFilled values → (has_filled structs value && all_have_filled structs values) ≡ true
-  through_filled value values one rest = and_from (has_filled structs value) (all_have_filled structs values) one rest
+  through_filled : (value : Value) (values : Values) → OneFilled value → AllFilled values → (makes (fills structs) value && all_make (fills structs) values) ≡ true
+  through_filled value values one rest = and_from (makes (fills structs) value) (all_make (fills structs) values) one rest
 
   call_of_filled : (whole : Pos) (is_array : Bool) (expression : TypedExpr) (t : CType) (values : Values) → typed_filled structs expression ≡ true → AllFilled values → OneFilled (call_of whole is_array expression t values)
   call_of_filled whole b (OfLibrary function groups) t _ filled all = all
-  call_of_filled whole b (OfFunction function) t values filled all = and_from (designator_has_filled structs function) (all_have_filled structs values) filled all
+  call_of_filled whole b (OfFunction function) t values filled all = and_from (designator_makes (fills structs) function) (all_make (fills structs) values) filled all
   call_of_filled whole b (OfValue value) t values filled all = through_filled (value_of_typed whole b (OfValue value)) values (value_filled structs whole b (OfValue value) filled) all
   call_of_filled whole b (OfObject object) t values filled all = through_filled (value_of_typed whole b (OfObject object)) values (value_filled structs whole b (OfObject object) filled) all
 

@@ -15,7 +15,7 @@ use Rattle.c_rules_typing.proofs.Structures.{MemberFits, MembersFit, StructsFit}
 use Rattle.c_rules_typing.proofs.Items.{last}
 use Rattle.c_rules_filled.specs.Knows.{IfKnown, Every}
 use Rattle.c_rules_filled.proofs.Holding.{by_test}
-use Rattle.c_filled.specs.Filled.{is_known_filled, all_filled, has_some, are_filled}
+use Rattle.c_well_typed.specs.Sizes.{is_known_filled, all_filled, has_some, are_filled}
 use Rattle.c_rules_filled.specs.Whole.{IsWhole, MemberFilled}
 use Rattle.c_rules_filled.specs.Given.{some_named, declares_member, base_given, firsts_given, items_given}
 use Rattle.c_rules_filled.proofs.Types.{complete_filled}

@@ -6,7 +6,7 @@ use Rattle.c_syntax.specs.Trees.{ExprTree, ArgumentsTree, TypeTree}
 use Rattle.c_typed.specs.Types.{CType}
 use Rattle.c_typed.specs.Layouts.{StructDef}
 use Rattle.c_typed.specs.declared.typed.Stepping.TheVariants as S
-use Rattle.c_filled.specs.Filled.{has_filled}
+use Rattle.c_well_typed.specs.Sizes.{makes, fills}
 use Rattle.c_rules.specs.Names.{Scope}
 use Rattle.c_rules.specs.Known.{Checked, Known, as_value}
 use Rattle.c_rules.specs.Operators
@@ -98,30 +98,30 @@ module _ (structs : List StructDef) where
 
     -- ---- values of expressions
 
-    known_value_filled : (known : Option Known) → IfKnown (KnownFilled structs) known → has_filled structs (known_value known) ≡ true
+    known_value_filled : (known : Option Known) → IfKnown (KnownFilled structs) known → makes (fills structs) (known_value known) ≡ true
     known_value_filled None filled = refl
     known_value_filled (Some known) filled = in_filled structs known filled
 
-    test_filled : (known : Option Operators.Condition) → IfKnown (TestFilled structs) known → has_filled structs (condition_test known) ≡ true
+    test_filled : (known : Option Operators.Condition) → IfKnown (TestFilled structs) known → makes (fills structs) (condition_test known) ≡ true
     test_filled None filled = refl
     test_filled (Some condition) filled = filled
 
-    known_as_filled : (place : Pos) (t : CType) → IsWhole structs t → (known : Option Known) → IfKnown (KnownFilled structs) known → has_filled structs (known_as place t known) ≡ true
+    known_as_filled : (place : Pos) (t : CType) → IsWhole structs t → (known : Option Known) → IfKnown (KnownFilled structs) known → makes (fills structs) (known_as place t known) ≡ true
     known_as_filled place t filled None is = refl
     known_as_filled place t filled (Some known) is = converted_filled structs place t known filled is
 
-    pub value_of_filled : (e : ExprTree) → has_filled structs (value_of scope e) ≡ true
+    pub value_of_filled : (e : ExprTree) → makes (fills structs) (value_of scope e) ≡ true
     value_of_filled e =
         known_value_filled (as_value (place_of e) (expr scope e)).known (as_value_filled structs (place_of e) (expr scope e) (expr_filled e)).holds
 
-    pub unused_filled : (e : ExprTree) → has_filled structs (unused scope e) ≡ true
+    pub unused_filled : (e : ExprTree) → makes (fills structs) (unused scope e) ≡ true
     unused_filled e = dropped_filled structs (value_of scope e) (value_of_filled e)
 
-    pub test_of_filled : (e : ExprTree) → has_filled structs (test_of scope e) ≡ true
+    pub test_of_filled : (e : ExprTree) → makes (fills structs) (test_of scope e) ≡ true
     test_of_filled e =
         test_filled (as_condition (place_of e) (expr scope e)).known (as_condition_filled structs (place_of e) (expr scope e) (expr_filled e)).holds
 
-    pub value_as_filled : (t : Option CType) → IfKnown (IsWhole structs) t → (e : ExprTree) → has_filled structs (value_as scope t e) ≡ true
+    pub value_as_filled : (t : Option CType) → IfKnown (IsWhole structs) t → (e : ExprTree) → makes (fills structs) (value_as scope t e) ≡ true
     value_as_filled None filled e = refl
     value_as_filled (Some t) filled e =
         known_as_filled (place_of e) t filled (as_value (place_of e) (expr scope e)).known (as_value_filled structs (place_of e) (expr scope e) (expr_filled e)).holds

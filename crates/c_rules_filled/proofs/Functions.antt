@@ -9,7 +9,7 @@ use Rattle.c_typed.specs.Layouts.{StructDef}
 use Rattle.c_typed.specs.Typed.{FunctionDef}
 use Rattle.c_well_typed.specs.Expressions.{is_scalar}
 use Rattle.c_well_typed.specs.Programs.{with_parameters}
-use Rattle.c_filled.specs.Filled.{block_has_filled, functions_have_filled}
+use Rattle.c_well_typed.specs.Sizes.{block_makes, functions_make, fills}
 use Rattle.c_rules.specs.Names.{Scope, LocalName, locals_in}
 use Rattle.c_rules.specs.Expressions.{Required, declared_type, declared_name, adds}
 use Rattle.c_rules.specs.Statements.{FunctionContext, block}
@@ -56,7 +56,7 @@ module _ (structs : List StructDef) where
 
   function_typed : (scope : Scope) → Good scope → FilledNames structs scope → (base : Option CType) → IfKnown (IsWhole structs) base → ((t : CType) → base ≡ Some t → is_function t ≡ false) → (declarator : DeclaratorTree) (body : BlockTree) (name : NameTree)
       → FunctionFits scope base declarator body name
-      → block_has_filled structs (block_of (entered_function (body_filed scope base declarator name).scope (own_parameters declarator)).scope (result_of (body_own scope base declarator name).known) body) ≡ true
+      → block_makes (fills structs) (block_of (entered_function (body_filed scope base declarator name).scope (own_parameters declarator)).scope (result_of (body_own scope base declarator name).known) body) ≡ true
   function_typed scope good names base whole never declarator body name fit =
       block_filled structs (result_of own) (result_filled own result types known own_parts.0) inside inside_filled body
     where
@@ -124,11 +124,11 @@ module _ (structs : List StructDef) where
 
   defined_filled : (scope : Scope) → Good scope → FilledNames structs scope → (place : Pos) (base : Option CType) → ProperKnown base → IfKnown (IsWhole structs) base → ((t : CType) → base ≡ Some t → is_function t ≡ false) → (declarator : DeclaratorTree) (body : BlockTree) (name : Option NameTree)
       → (function_item scope place base declarator body name).found ≡ []
-      → (others : List FunctionDef) → functions_have_filled structs others ≡ true → functions_have_filled structs (defined_function scope base declarator body name ++ others) ≡ true
+      → (others : List FunctionDef) → functions_make (fills structs) others ≡ true → functions_make (fills structs) (defined_function scope base declarator body name ++ others) ≡ true
   defined_filled scope good names place base proper whole never declarator body None e others rest = rest
   defined_filled scope good names place base proper whole never declarator body (Some name) e others rest =
       let fit = function_fits scope good place base proper declarator body name e in
-      and_from (block_has_filled structs (block_of (entered_function (body_filed scope base declarator name).scope (own_parameters declarator)).scope (result_of (body_own scope base declarator name).known) body)) (functions_have_filled structs others)
+      and_from (block_makes (fills structs) (block_of (entered_function (body_filed scope base declarator name).scope (own_parameters declarator)).scope (result_of (body_own scope base declarator name).known) body)) (functions_make (fills structs) others)
       (function_typed scope good names base whole never declarator body name fit) rest
 
   -- the scope behind a function
@@ -141,7 +141,7 @@ module _ (structs : List StructDef) where
   -- ---- items
 
   pub items_filled : (scope : Scope) → Good scope → FilledNames structs scope → (trees : List ItemTree) → items scope trees ≡ [] → items_given trees ≡ true → Keeps (last scope trees).structs structs
-      → Every (GlobalFilled structs) (in_items scope trees).globals × (functions_have_filled structs (in_items scope trees).functions ≡ true)
+      → Every (GlobalFilled structs) (in_items scope trees).globals × (functions_make (fills structs) (in_items scope trees).functions ≡ true)
   items_filled scope good names [] e given keeps = (tt, refl)
   items_filled scope good names (Trees.Declaration base declarators ∷ others) e given keeps =
       let first = Trees.Declaration base declarators in

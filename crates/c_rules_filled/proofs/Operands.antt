@@ -9,7 +9,7 @@ use Rattle.c_typed.specs.Types.{CType, Void, Integer, Pointer, Array, Struct, Fu
 use Rattle.c_typed.specs.Layouts.{StructDef}
 use Rattle.c_typed.specs.Typed as typed
 use Rattle.c_typed.specs.Typed.{Value}
-use Rattle.c_filled.specs.Filled.{fills, has_filled, object_has_filled}
+use Rattle.c_well_typed.specs.Sizes.{fills, makes, object_makes}
 use Rattle.c_rules.specs.Names.{Scope, FileName, LocalName, Meaning, NoMeaning, Local, Outer, Library, library_named, library_meaning, file_name, file_meaning, local_meaning, locals_in, meaning_of}
 use Rattle.c_rules.specs.Known.{Checked, Known, TypedExpr, OfValue, OfObject, OfFunction, OfLibrary, give, as_value, value_rule, value_of_typed, value_in, read_value, grouped}
 use Rattle.c_rules.specs.Operators.{Condition, OperandKind, AnInteger, AnyValue, AScalar, is_scalar, scalar_rule, as_scalar, condition_of, as_condition, integer_rule, as_integer, operand, converted, unconverted_value, object_in, outer_name, name_as, named}
@@ -21,17 +21,17 @@ use Rattle.c_rules_filled.proofs.Types.{filled_itself, decayed_filled, library_f
 module _ (structs : List StructDef) where
   -- ---- values
 
-  pub value_filled : (place : Pos) (is_array : Bool) (expression : TypedExpr) → typed_filled structs expression ≡ true → has_filled structs (value_of_typed place is_array expression) ≡ true
+  pub value_filled : (place : Pos) (is_array : Bool) (expression : TypedExpr) → typed_filled structs expression ≡ true → makes (fills structs) (value_of_typed place is_array expression) ≡ true
   value_filled place b (OfValue value) filled = filled
   value_filled place true (OfObject object) filled = filled
   value_filled place false (OfObject object) filled = filled
   value_filled place b (OfFunction function) filled = filled
   value_filled place b (OfLibrary function groups) filled = refl
 
-  pub in_filled : (known : Known) → KnownFilled structs known → has_filled structs (value_in known) ≡ true
+  pub in_filled : (known : Known) → KnownFilled structs known → makes (fills structs) (value_in known) ≡ true
   in_filled known filled = value_filled _ (is_array known.c_type) known.typed filled.1
 
-  pub object_filled : (expression : TypedExpr) → typed_filled structs expression ≡ true → object_has_filled structs (object_in expression) ≡ true
+  pub object_filled : (expression : TypedExpr) → typed_filled structs expression ≡ true → object_makes (fills structs) (object_in expression) ≡ true
   object_filled (OfValue value) filled = refl
   object_filled (OfObject object) filled = filled
   object_filled (OfFunction function) filled = refl
@@ -65,7 +65,7 @@ module _ (structs : List StructDef) where
   operand_filled AScalar place part filled = as_scalar_filled place part filled
 
   abbrev pub TestFilled : Condition → Type 0
-  TestFilled condition = has_filled structs condition.test ≡ true
+  TestFilled condition = makes (fills structs) condition.test ≡ true
 
   pub condition_filled : (place : Pos) (known : Known) → KnownFilled structs known → TestFilled (condition_of place known)
   condition_filled place known filled = by_test TestFilled (is_integer known.c_type) _ _ (in_filled known filled) (in_filled known filled)
@@ -77,20 +77,20 @@ module _ (structs : List StructDef) where
   -- ---- conversions
 
   abbrev ValueFilled : Value → Type 0
-  ValueFilled value = has_filled structs value ≡ true
+  ValueFilled value = makes (fills structs) value ≡ true
 
-  pub converted_filled : (place : Pos) (t : CType) (known : Known) → IsWhole structs t → KnownFilled structs known → has_filled structs (converted place t known) ≡ true
+  pub converted_filled : (place : Pos) (t : CType) (known : Known) → IsWhole structs t → KnownFilled structs known → makes (fills structs) (converted place t known) ≡ true
   converted_filled place Void known filled known_filled = in_filled known known_filled
   converted_filled place (Integer n) known filled known_filled = in_filled known known_filled
   converted_filled place (Pointer target) known filled known_filled =
       by_test ValueFilled known.is_null (typed.MadeNull target (value_in known)) _ (in_filled known known_filled)
       (by_test ValueFilled (same_type (Pointer target) known.c_type) (value_in known) (typed.Repointed place target (value_in known)) (in_filled known known_filled)
-      (and_from (fills structs target) (has_filled structs (value_in known)) (filled_itself structs target filled) (in_filled known known_filled)))
+      (and_from (fills structs target) (makes (fills structs) (value_in known)) (filled_itself structs target filled) (in_filled known known_filled)))
   converted_filled place (Array t n) known filled known_filled = in_filled known known_filled
   converted_filled place (Struct tag) known filled known_filled = in_filled known known_filled
   converted_filled place (Function t ts) known filled known_filled = in_filled known known_filled
 
-  pub unconverted_filled : (target : CType) (known : Known) → KnownFilled structs known → has_filled structs (unconverted_value target known) ≡ true
+  pub unconverted_filled : (target : CType) (known : Known) → KnownFilled structs known → makes (fills structs) (unconverted_value target known) ≡ true
   unconverted_filled target known filled = by_test ValueFilled known.is_null (typed.MadeNull target (value_in known)) (value_in known) (in_filled known filled) (in_filled known filled)
 
   -- ---- names

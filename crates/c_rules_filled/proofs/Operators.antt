@@ -21,7 +21,7 @@ use Rattle.c_typed.specs.Typed as typed
 use Rattle.c_typed.specs.Typed.{Value, Object}
 use Rattle.c_typed.specs.declared.typed.Stepping.{Stepping}
 use Rattle.c_typed.specs.declared.typed.Stepping.TheVariants as S
-use Rattle.c_filled.specs.Filled.{fills, has_filled, object_has_filled}
+use Rattle.c_well_typed.specs.Sizes.{fills, makes, object_makes}
 use Rattle.c_rules.specs.Names.{Scope}
 use Rattle.c_rules.specs.Known.{Checked, Known, TypedExpr, OfValue, OfObject, OfFunction, OfLibrary, Address, give, refuse, require, given, as_value, value_in, value_of_type, object_at}
 use Rattle.c_rules.specs.Constants
@@ -38,15 +38,15 @@ module _ (structs : List StructDef) where
   abbrev pub Filled : Checked Known → Type 0
   Filled checked = Knows (KnownFilled structs) checked
 
-  has_both : (a b : Value) → has_filled structs a ≡ true → has_filled structs b ≡ true → (has_filled structs a && has_filled structs b) ≡ true
-  has_both a b one other = and_from (has_filled structs a) (has_filled structs b) one other
+  has_both : (a b : Value) → makes (fills structs) a ≡ true → makes (fills structs) b ≡ true → (makes (fills structs) a && makes (fills structs) b) ≡ true
+  has_both a b one other = and_from (makes (fills structs) a) (makes (fills structs) b) one other
 
-  in_both : (a b : Known) → KnownFilled structs a → KnownFilled structs b → (has_filled structs (value_in a) && has_filled structs (value_in b)) ≡ true
+  in_both : (a b : Known) → KnownFilled structs a → KnownFilled structs b → (makes (fills structs) (value_in a) && makes (fills structs) (value_in b)) ≡ true
   in_both a b one other = has_both (value_in a) (value_in b) (in_filled structs a one) (in_filled structs b other)
 
   -- ---- pointers
 
-  element_at_filled : (scope : Scope) (whole place : Pos) (pointer index : CType) (object : Object) (kept : Address) → IsWhole structs pointer → object_has_filled structs object ≡ true
+  element_at_filled : (scope : Scope) (whole place : Pos) (pointer index : CType) (object : Object) (kept : Address) → IsWhole structs pointer → object_makes (fills structs) object ≡ true
       → Filled (Operators.element_at scope whole place pointer index object kept)
   element_at_filled scope whole place pointer index object kept filled of_object =
       required _ T.T14 whole _ (required _ T.T07 place _ (gives _ (target_filled structs pointer filled, of_object)))
@@ -67,22 +67,22 @@ module _ (structs : List StructDef) where
   address_filled whole operand (OfFunction function) filled of_it = gives _ (filled, of_it)
   address_filled whole operand (OfLibrary function groups) filled of_it = refuses _ _
 
-  moved_filled : (scope : Scope) (whole : Pos) (value : Value) (c_type : CType) (kept : Address) → IsWhole structs c_type → has_filled structs value ≡ true → Filled (Operators.moved_pointer scope whole value c_type kept)
+  moved_filled : (scope : Scope) (whole : Pos) (value : Value) (c_type : CType) (kept : Address) → IsWhole structs c_type → makes (fills structs) value ≡ true → Filled (Operators.moved_pointer scope whole value c_type kept)
   moved_filled scope whole value c_type kept filled of_value = required _ T.T14 whole _ (gives _ (filled, of_value))
 
   -- ---- members
 
-  of_type_filled : (known : Option CType) (object : Object) (at : CType → Address) → IfKnown (IsWhole structs) known → object_has_filled structs object ≡ true → Filled (Operators.of_type known (λ c_type. give (object_at c_type object (at c_type))))
+  of_type_filled : (known : Option CType) (object : Object) (at : CType → Address) → IfKnown (IsWhole structs) known → object_makes (fills structs) object ≡ true → Filled (Operators.of_type known (λ c_type. give (object_at c_type object (at c_type))))
   of_type_filled None object at filled of_object = record { holds = tt }
   of_type_filled (Some c_type) object at filled of_object = gives _ (filled, of_object)
 
-  member_at_filled : (number : ℕ) (members : List MemberDef) → Every (MemberFilled structs) members → (name : List ℕ) (object : ℕ → Object) (from : Address) (whole : Pos) → ((n : ℕ) → object_has_filled structs (object n) ≡ true)
+  member_at_filled : (number : ℕ) (members : List MemberDef) → Every (MemberFilled structs) members → (name : List ℕ) (object : ℕ → Object) (from : Address) (whole : Pos) → ((n : ℕ) → object_makes (fills structs) (object n) ≡ true)
       → Filled (Operators.member_at number members name object from whole)
   member_at_filled number [] filled name object from whole of_object = refuses _ _
   member_at_filled number (member ∷ members) filled name object from whole of_object =
       chosen (bytes_eq member.name name) _ _ (of_type_filled member.c_type (object number) _ filled.0 (of_object number)) (member_at_filled (number + 1) members filled.1 name object from whole of_object)
 
-  member_in_filled : (members : Option (List MemberDef)) → IfKnown (Every (MemberFilled structs)) members → (name : List ℕ) (object : ℕ → Object) (from : Address) (whole : Pos) → ((n : ℕ) → object_has_filled structs (object n) ≡ true)
+  member_in_filled : (members : Option (List MemberDef)) → IfKnown (Every (MemberFilled structs)) members → (name : List ℕ) (object : ℕ → Object) (from : Address) (whole : Pos) → ((n : ℕ) → object_makes (fills structs) (object n) ≡ true)
       → Filled (Operators.member_in members name object from whole)
   member_in_filled None filled name object from whole of_object = refuses _ _
   member_in_filled (Some members) filled name object from whole of_object = member_at_filled 0 members filled name object from whole of_object
@@ -91,7 +91,7 @@ module _ (structs : List StructDef) where
   tag_filled [] filled tag = tt
   tag_filled (newest ∷ others) filled tag = by_test (IfKnown (Every (MemberFilled structs))) (bytes_eq newest.tag tag) (Some newest.members) (members_by_tag others tag) filled.0 (tag_filled others filled.1 tag)
 
-  member_of_filled : (scope : Scope) → FilledNames structs scope → (whole : Pos) (t : CType) (object : ℕ → Object) (from : Address) (member : NameTree) → ((n : ℕ) → object_has_filled structs (object n) ≡ true)
+  member_of_filled : (scope : Scope) → FilledNames structs scope → (whole : Pos) (t : CType) (object : ℕ → Object) (from : Address) (member : NameTree) → ((n : ℕ) → object_makes (fills structs) (object n) ≡ true)
       → Filled (Operators.member_of scope whole t object from member)
   member_of_filled scope names whole Void object from member of_object = refuses _ _
   member_of_filled scope names whole (Integer t) object from member of_object = refuses _ _
@@ -110,7 +110,7 @@ module _ (structs : List StructDef) where
 
   -- ---- operators of one operand
 
-  step_filled : (stepping : Stepping) (place : Pos) (t : CType) (object : Object) → object_has_filled structs object ≡ true → has_filled structs (Operators.step_value stepping place t object) ≡ true
+  step_filled : (stepping : Stepping) (place : Pos) (t : CType) (object : Object) → object_makes (fills structs) object ≡ true → makes (fills structs) (Operators.step_value stepping place t object) ≡ true
   step_filled stepping place Void object filled = filled
   step_filled stepping place (Integer t) object filled = filled
   step_filled stepping place (Pointer t) object filled = filled
@@ -143,7 +143,7 @@ module _ (structs : List StructDef) where
   size_filled scope place t = required _ T.T05 place _ (gives _ (refl, refl))
 
   -- a value that is left unused
-  pub dropped_filled : (value : Value) → has_filled structs value ≡ true → has_filled structs (Operators.dropped value) ≡ true
+  pub dropped_filled : (value : Value) → makes (fills structs) value ≡ true → makes (fills structs) (Operators.dropped value) ≡ true
   dropped_filled (typed.Call is_used place function c_type arguments) filled = filled
   dropped_filled (typed.Grouped inner) filled = dropped_filled inner filled
   dropped_filled value filled = filled
@@ -154,7 +154,7 @@ module _ (structs : List StructDef) where
   cast_filled scope whole (Pointer target) value filled of_value =
       chosen value.is_null _ _ (gives _ (filled, in_filled structs value of_value))
       (required _ T.T16 whole _
-      (gives _ (filled, and_from (fills structs target) (has_filled structs (value_in value)) (filled_itself structs target filled) (in_filled structs value of_value))))
+      (gives _ (filled, and_from (fills structs target) (makes (fills structs) (value_in value)) (filled_itself structs target filled) (in_filled structs value of_value))))
   cast_filled scope whole (Array t n) value filled of_value = refuses _ _
   cast_filled scope whole (Struct tag) value filled of_value = refuses _ _
   cast_filled scope whole (Function t ts) value filled of_value = refuses _ _
@@ -263,8 +263,8 @@ module _ (structs : List StructDef) where
       third : Checked Known
       third = require (Operators.pointers_agree a b) T.T11 whole (give (value_of_type agreed (typed.Conditional condition.test (Operators.converted whole agreed a) (Operators.converted whole agreed b))))
 
-      three : (x y : Value) → has_filled structs x ≡ true → has_filled structs y ≡ true → (has_filled structs condition.test && has_filled structs x && has_filled structs y) ≡ true
-      three x y x_is y_is = and_from (has_filled structs condition.test && has_filled structs x) (has_filled structs y) (has_both condition.test x test x_is) y_is
+      three : (x y : Value) → makes (fills structs) x ≡ true → makes (fills structs) y ≡ true → (makes (fills structs) condition.test && makes (fills structs) x && makes (fills structs) y) ≡ true
+      three x y x_is y_is = and_from (makes (fills structs) condition.test && makes (fills structs) x) (makes (fills structs) y) (has_both condition.test x test x_is) y_is
 
   -- ---- assignments
 
@@ -283,13 +283,13 @@ module _ (structs : List StructDef) where
   assigned_value_filled None place part filled = as_value_filled structs place part filled
   assigned_value_filled (Some op) place part filled = as_integer_filled structs place part filled
 
-  object_both : (object : Object) (value : Value) → object_has_filled structs object ≡ true → has_filled structs value ≡ true → (object_has_filled structs object && has_filled structs value) ≡ true
-  object_both object value one other = and_from (object_has_filled structs object) (has_filled structs value) one other
+  object_both : (object : Object) (value : Value) → object_makes (fills structs) object ≡ true → makes (fills structs) value ≡ true → (object_makes (fills structs) object && makes (fills structs) value) ≡ true
+  object_both object value one other = and_from (object_makes (fills structs) object) (makes (fills structs) value) one other
 
-  compound_filled : (op : BinOp) (whole : Pos) (t : CType) (object : Object) (value : Known) → object_has_filled structs object ≡ true → KnownFilled structs value → has_filled structs (Operators.compound_value op whole t object value) ≡ true
+  compound_filled : (op : BinOp) (whole : Pos) (t : CType) (object : Object) (value : Known) → object_makes (fills structs) object ≡ true → KnownFilled structs value → makes (fills structs) (Operators.compound_value op whole t object value) ≡ true
   compound_filled op whole Void object value filled is = object_both object (value_in value) filled (in_filled structs value is)
   compound_filled op whole (Integer t) object value filled is =
-      by_test (λ (v : Value). has_filled structs v ≡ true) (is_shift op) _ _ (object_both object (value_in value) filled (in_filled structs value is)) (object_both object (value_in value) filled (in_filled structs value is))
+      by_test (λ (v : Value). makes (fills structs) v ≡ true) (is_shift op) _ _ (object_both object (value_in value) filled (in_filled structs value is)) (object_both object (value_in value) filled (in_filled structs value is))
   compound_filled op whole (Pointer t) object value filled is = object_both object (value_in value) filled (in_filled structs value is)
   compound_filled op whole (Array t n) object value filled is = object_both object (value_in value) filled (in_filled structs value is)
   compound_filled op whole (Struct tag) object value filled is = object_both object (value_in value) filled (in_filled structs value is)

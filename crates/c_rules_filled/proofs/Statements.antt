@@ -8,7 +8,7 @@ use Rattle.c_syntax.specs.Trees.{NameTree, ExprTree, InitTree, InitDeclaratorTre
 use Rattle.c_typed.specs.Types.{CType}
 use Rattle.c_typed.specs.Layouts.{StructDef}
 use Rattle.c_typed.specs.Typed.{Value, LocalDef, Block}
-use Rattle.c_filled.specs.Filled.{fills, has_filled, any_has_filled, local_has_filled, locals_have_filled, start_has_filled, stmt_has_filled, block_has_filled, items_have_filled}
+use Rattle.c_well_typed.specs.Sizes.{fills, makes, any_makes, local_makes, locals_make, start_makes, stmt_makes, block_makes, items_make}
 use Rattle.c_rules.specs.Names.{Scope, LocalName, entered, locals_in}
 use Rattle.c_rules.specs.Operators.{as_integer}
 use Rattle.c_rules.specs.Expressions.{expr, place_of, words_type, declared_type, declared_name, name_place, Required}
@@ -40,7 +40,7 @@ module _ (structs : List StructDef) where
   -- ---- locals
 
   first_local_filled : (scope : Scope) → FilledNames structs scope → (known : Option CType) → IfKnown (IsWhole structs) known → (init : Option InitTree)
-      → any_has_filled structs (first_local scope known init) ≡ true
+      → any_makes (fills structs) (first_local scope known init) ≡ true
   first_local_filled scope names known filled None = refl
   first_local_filled scope names known filled (Some (Trees.InitList place inits)) = refl
   first_local_filled scope names known filled (Some (Trees.InitValue value)) = value_as_filled structs scope names known filled value
@@ -62,13 +62,13 @@ module _ (structs : List StructDef) where
     behind_filled : FilledNames structs (declare_local place base tree scope).scope
     behind_filled = declared_filled scope names (declared_name tree.declarator) own own_filled
 
-    local_filled : local_has_filled structs (local_of place base tree scope) ≡ true
+    local_filled : local_makes (fills structs) (local_of place base tree scope) ≡ true
     local_filled =
-        and_from (fills structs (type_or_void own)) (any_has_filled structs (first_local behind own tree.init)) (void_or_filled own own_filled)
+        and_from (fills structs (type_or_void own)) (any_makes (fills structs) (first_local behind own tree.init)) (void_or_filled own own_filled)
         (first_local_filled behind behind_filled own own_filled tree.init)
 
   abbrev LocalsFilled : Scope → List LocalDef → Type 0
-  LocalsFilled behind locals = (locals_have_filled structs locals ≡ true) × FilledNames structs behind
+  LocalsFilled behind locals = (locals_make (fills structs) locals ≡ true) × FilledNames structs behind
 
   locals_filled : (scope : Scope) → FilledNames structs scope → (place : Pos) (base : Option CType) → IfKnown (IsWhole structs) base → (trees : List InitDeclaratorTree)
       → LocalsFilled (declare_locals place base trees scope).scope (locals_of place base trees scope)
@@ -76,32 +76,32 @@ module _ (structs : List StructDef) where
   locals_filled scope names place base whole (first ∷ others) =
       let one = declare_local place base first scope in
       let rest = locals_filled one.scope (behind_filled scope names place base first whole) place base whole others in
-      (and_from (local_has_filled structs (local_of place base first scope)) (locals_have_filled structs (locals_of place base others one.scope)) (local_filled scope names place base first whole) rest.0, rest.1)
+      (and_from (local_makes (fills structs) (local_of place base first scope)) (locals_make (fills structs) (locals_of place base others one.scope)) (local_filled scope names place base first whole) rest.0, rest.1)
 
   declaration_filled : (scope : Scope) → FilledNames structs scope → (tree : DeclarationTree)
       → LocalsFilled (declaration scope tree).scope (declared_locals scope tree)
   declaration_filled scope names tree = locals_filled scope names tree.words.place (words_type scope tree.words).known (words_whole structs scope names.keeps tree.words).holds tree.declarators
 
-  each_filled : (locals : List LocalDef) (block : Block) → locals_have_filled structs locals ≡ true → block_has_filled structs block ≡ true → block_has_filled structs (declare_each locals block) ≡ true
+  each_filled : (locals : List LocalDef) (block : Block) → locals_make (fills structs) locals ≡ true → block_makes (fills structs) block ≡ true → block_makes (fills structs) (declare_each locals block) ≡ true
   each_filled [] block filled rest = rest
   each_filled (first ∷ others) block filled rest =
-      let parts = and_parts (local_has_filled structs first) (locals_have_filled structs others) filled in
-      and_from (local_has_filled structs first) (block_has_filled structs (declare_each others block)) parts.0 (each_filled others block parts.1 rest)
+      let parts = and_parts (local_makes (fills structs) first) (locals_make (fills structs) others) filled in
+      and_from (local_makes (fills structs) first) (block_makes (fills structs) (declare_each others block)) parts.0 (each_filled others block parts.1 rest)
 
   start_filled : (scope : Scope) → FilledNames structs scope → (tree : ForTree)
-      → (start_has_filled structs (start_of scope tree) ≡ true) × FilledNames structs (for_start scope tree).scope
+      → (start_makes (fills structs) (start_of scope tree) ≡ true) × FilledNames structs (for_start scope tree).scope
   start_filled scope names Trees.ForNothing = (refl, names)
   start_filled scope names (Trees.ForExpression value) = (unused_filled structs scope names value, names)
   start_filled scope names (Trees.ForDeclaration tree) = declaration_filled scope names tree
 
   -- ---- values that may be left out
 
-  mapped_filled : (scope : Scope) (f : ExprTree → Value) → ((e : ExprTree) → has_filled structs (f e) ≡ true)
-      → (value : Option ExprTree) → any_has_filled structs (mapped f value) ≡ true
+  mapped_filled : (scope : Scope) (f : ExprTree → Value) → ((e : ExprTree) → makes (fills structs) (f e) ≡ true)
+      → (value : Option ExprTree) → any_makes (fills structs) (mapped f value) ≡ true
   mapped_filled scope f filled None = refl
   mapped_filled scope f filled (Some value) = filled value
 
-  switched_filled : (int_type : Option IntType) (value : Value) → has_filled structs value ≡ true → has_filled structs (switched int_type value) ≡ true
+  switched_filled : (int_type : Option IntType) (value : Value) → makes (fills structs) value ≡ true → makes (fills structs) (switched int_type value) ≡ true
   switched_filled None value filled = filled
   switched_filled (Some int_type) value filled = filled
 
@@ -109,35 +109,35 @@ module _ (structs : List StructDef) where
 
   module _ (result : Option CType) (result_filled : IfKnown (IsWhole structs) result) where
     mutual
-      pub stmt_filled : (scope : Scope) → FilledNames structs scope → (s : StmtTree) → stmt_has_filled structs (stmt_of scope result s) ≡ true
+      pub stmt_filled : (scope : Scope) → FilledNames structs scope → (s : StmtTree) → stmt_makes (fills structs) (stmt_of scope result s) ≡ true
       stmt_filled scope names (Trees.BlockStmt place items) = block_filled (entered scope) (entered_filled scope names) items
       stmt_filled scope names (Trees.Empty place) = refl
       stmt_filled scope names (Trees.Expression value) = unused_filled structs scope names value
       stmt_filled scope names (Trees.If place condition taken) =
-          and_from (has_filled structs (test_of scope condition)) (stmt_has_filled structs (stmt_of scope result taken))
+          and_from (makes (fills structs) (test_of scope condition)) (stmt_makes (fills structs) (stmt_of scope result taken))
           (test_of_filled structs scope names condition)
           (stmt_filled scope names taken)
       stmt_filled scope names (Trees.IfElse place condition taken otherwise) =
-          and_from (has_filled structs (test_of scope condition) && stmt_has_filled structs (stmt_of scope result taken)) (stmt_has_filled structs (stmt_of scope result otherwise))
-          (and_from (has_filled structs (test_of scope condition)) (stmt_has_filled structs (stmt_of scope result taken))
+          and_from (makes (fills structs) (test_of scope condition) && stmt_makes (fills structs) (stmt_of scope result taken)) (stmt_makes (fills structs) (stmt_of scope result otherwise))
+          (and_from (makes (fills structs) (test_of scope condition)) (stmt_makes (fills structs) (stmt_of scope result taken))
           (test_of_filled structs scope names condition)
           (stmt_filled scope names taken))
           (stmt_filled scope names otherwise)
       stmt_filled scope names (Trees.While place condition body) =
-          and_from (has_filled structs (test_of scope condition)) (stmt_has_filled structs (stmt_of scope result body))
+          and_from (makes (fills structs) (test_of scope condition)) (stmt_makes (fills structs) (stmt_of scope result body))
           (test_of_filled structs scope names condition)
           (stmt_filled scope names body)
       stmt_filled scope names (Trees.Do place body condition) =
-          and_from (stmt_has_filled structs (stmt_of scope result body)) (has_filled structs (test_of scope condition))
+          and_from (stmt_makes (fills structs) (stmt_of scope result body)) (makes (fills structs) (test_of scope condition))
           (stmt_filled scope names body)
           (test_of_filled structs scope names condition)
       stmt_filled scope names (Trees.For place start condition step body) =
           let inside = (for_start (entered scope) start).scope in
           let started = start_filled (entered scope) (entered_filled scope names) start in
-          let b_start = start_has_filled structs (start_of (entered scope) start) in
-          let b_condition = any_has_filled structs (mapped (test_of inside) condition) in
-          let b_step = any_has_filled structs (mapped (unused inside) step) in
-          let b_body = stmt_has_filled structs (stmt_of inside result body) in
+          let b_start = start_makes (fills structs) (start_of (entered scope) start) in
+          let b_condition = any_makes (fills structs) (mapped (test_of inside) condition) in
+          let b_step = any_makes (fills structs) (mapped (unused inside) step) in
+          let b_body = stmt_makes (fills structs) (stmt_of inside result body) in
           and_from (b_start && b_condition && b_step) b_body
           (and_from (b_start && b_condition) b_step
           (and_from b_start b_condition started.0
@@ -146,7 +146,7 @@ module _ (structs : List StructDef) where
           (stmt_filled inside started.1 body)
       stmt_filled scope names (Trees.Switch place value items) =
           let int_type = label_type (as_integer (place_of value) (expr scope value)).known in
-          and_from (has_filled structs (switched int_type (value_of scope value))) (items_have_filled structs (switch_of scope result int_type items))
+          and_from (makes (fills structs) (switched int_type (value_of scope value))) (items_make (fills structs) (switch_of scope result int_type items))
           (switched_filled int_type (value_of scope value)
           (value_of_filled structs scope names value))
           (switch_filled scope names int_type items)
@@ -154,7 +154,7 @@ module _ (structs : List StructDef) where
       stmt_filled scope names (Trees.Continue place) = refl
       stmt_filled scope names (Trees.Return place value) = mapped_filled scope (value_as scope result) (value_as_filled structs scope names result result_filled) value
 
-      pub block_filled : (scope : Scope) → FilledNames structs scope → (b : BlockTree) → block_has_filled structs (block_of scope result b) ≡ true
+      pub block_filled : (scope : Scope) → FilledNames structs scope → (b : BlockTree) → block_makes (fills structs) (block_of scope result b) ≡ true
       block_filled scope names Trees.Close = refl
       block_filled scope names (Trees.Declare tree others) =
           let behind = (declaration scope tree).scope in
@@ -162,17 +162,17 @@ module _ (structs : List StructDef) where
           each_filled (declared_locals scope tree) (block_of behind result others) declared.0
           (block_filled behind declared.1 others)
       block_filled scope names (Trees.Perform one others) =
-          and_from (stmt_has_filled structs (stmt_of scope result one)) (block_has_filled structs (block_of scope result others))
+          and_from (stmt_makes (fills structs) (stmt_of scope result one)) (block_makes (fills structs) (block_of scope result others))
           (stmt_filled scope names one)
           (block_filled scope names others)
 
       switch_filled : (scope : Scope) → FilledNames structs scope → (int_type : Option IntType) (items : SwitchTree)
-          → items_have_filled structs (switch_of scope result int_type items) ≡ true
+          → items_make (fills structs) (switch_of scope result int_type items) ≡ true
       switch_filled scope names int_type Trees.SwitchEnd = refl
       switch_filled scope names int_type (Trees.Case place value others) =
           switch_filled scope names int_type others
       switch_filled scope names int_type (Trees.Default place others) = switch_filled scope names int_type others
       switch_filled scope names int_type (Trees.SwitchStmt one others) =
-          and_from (stmt_has_filled structs (stmt_of scope result one)) (items_have_filled structs (switch_of scope result int_type others))
+          and_from (stmt_makes (fills structs) (stmt_of scope result one)) (items_make (fills structs) (switch_of scope result int_type others))
           (stmt_filled scope names one)
           (switch_filled scope names int_type others)

@@ -8,7 +8,7 @@ use Rattle.c_typed.specs.Types.{CType}
 use Rattle.c_typed.specs.Layouts.{StructDef, MemberDef, members_by_tag}
 use Rattle.c_typed.specs.Values.{Held}
 use Rattle.c_typed.specs.Typed.{GlobalDef}
-use Rattle.c_filled.specs.Filled.{fills}
+use Rattle.c_well_typed.specs.Sizes.{fills}
 use Rattle.c_rules.specs.Names.{Scope, FileName, file_name, with_file_name, locals_in}
 use Rattle.c_rules.specs.Expressions.{words_type, declared_type, declared_name, name_place, Required}
 use Rattle.c_rules.specs.Statements.{object_type}

@@ -7,7 +7,7 @@ use Rattle.c_typed.specs.declared.typed.LibraryFunction.{LibraryFunction}
 use Rattle.c_typed.specs.declared.typed.LibraryFunction.TheVariants as L
 use Rattle.c_typed.specs.Types.{CType, CTypes, Void, Integer, Pointer, Array, Struct, Function, decayed}
 use Rattle.c_typed.specs.Layouts.{StructDef, is_complete}
-use Rattle.c_filled.specs.Filled.{is_filled, fills}
+use Rattle.c_well_typed.specs.Sizes.{is_filled, fills}
 use Rattle.c_rules.specs.Names.{library_type}
 use Rattle.c_rules.specs.Operators.{target_of}
 use Rattle.c_rules_filled.specs.Whole.{is_whole, are_whole, IsWhole}

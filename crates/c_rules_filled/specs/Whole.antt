@@ -2,7 +2,7 @@
 use Rattle.std.specs.Prelude.{◌≡◌, ℕ, Bool, true, ◌&&◌, nat_lt, List, Some}
 use Rattle.c_typed.specs.Types.{CType, CTypes, Pointer, Array, Function, NoTypes, MoreTypes}
 use Rattle.c_typed.specs.Layouts.{StructDef, MemberDef, is_complete, members_by_tag}
-use Rattle.c_filled.specs.Filled.{has_filled, object_has_filled, designator_has_filled}
+use Rattle.c_well_typed.specs.Sizes.{makes, object_makes, designator_makes, fills}
 use Rattle.c_rules.specs.Names.{Scope, FileName, LocalName, Meaning, Local, Outer, Library, locals_in}
 use Rattle.c_rules.specs.Known.{Known, TypedExpr, OfValue, OfObject, OfFunction, OfLibrary}
 use Rattle.c_rules.specs.Operators.{ArgumentValue}
@@ -53,9 +53,9 @@ module _ (structs : List StructDef) where
 
   -- expressions
   abbrev pub typed_filled : TypedExpr → Bool
-  typed_filled (OfValue value) = has_filled structs value
-  typed_filled (OfObject object) = object_has_filled structs object
-  typed_filled (OfFunction function) = designator_has_filled structs function
+  typed_filled (OfValue value) = makes (fills structs) value
+  typed_filled (OfObject object) = object_makes (fills structs) object
+  typed_filled (OfFunction function) = designator_makes (fills structs) function
   typed_filled (OfLibrary function groups) = true
 
   abbrev pub KnownFilled : Known → Type 0

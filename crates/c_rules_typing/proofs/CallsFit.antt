@@ -13,7 +13,7 @@ use Rattle.c_rules.specs.Known.{Known, TypedExpr, OfValue, OfObject, OfFunction,
 use Rattle.c_rules.specs.Operators.{fits, converted, ArgumentValue, as_many, passed_rule, passed, unconverted, is_free, call_of, call_value, called_as}
 use Rattle.c_well_typed.specs.Context.{Context}
 use Rattle.c_well_typed.specs.Expressions as well
-use Rattle.c_well_typed.specs.Expressions.{where_holds, is_scalar, is_conversion, result_of, pointed_function, type_of, types_of, type_of_designator}
+use Rattle.c_well_typed.specs.Expressions.{where_holds, is_scalar, is_conversion, all_scalar, result_of, pointed_function, type_of, types_of, type_of_designator}
 use Rattle.c_rules_typing.specs.Proper.{is_proper, are_proper}
 use Rattle.c_rules_typing.specs.Fitting.{Yields, TypedFits, KnownFits, ValueFits}
 use Rattle.c_rules_typing.proofs.Yielding.{known_yields, give_yields, refuse_yields, require_yields, given_yields, given_two_yields}
@@ -63,11 +63,12 @@ same_types-refl NoTypes = refl
 same_types-refl (MoreTypes first others) = and_from (same_type first first) (same_types others others) (same_type-refl first) (same_types-refl others)
 
 call_type : (around : Context) (whole : Pos) (function : typed.Designator) (result : CType) (parameters : CTypes) (values : Values) → type_of_designator around function ≡ Some (Function result parameters) → types_of around values ≡ Some parameters
-    → (is_scalar result || is_void result) ≡ true → type_of around (typed.Call true whole function (Function result parameters) values) ≡ Some result
-call_type around whole function result parameters values one other kind =
+    → all_scalar parameters ≡ true → (is_scalar result || is_void result) ≡ true → type_of around (typed.Call true whole function (Function result parameters) values) ≡ Some result
+call_type around whole function result parameters values one other scalars kind =
     given_two_is (type_of_designator around function) (Function result parameters) (types_of around values) parameters (λ t types. well.given (result_of types t) (λ r. where_holds (same_type t (Function result parameters)) r)) result one other
     (given_is (result_of parameters (Function result parameters)) result (λ r. where_holds (same_type (Function result parameters) (Function result parameters)) r) result
-    (holds_is (same_types parameters parameters && (is_scalar result || is_void result)) result (and_from (same_types parameters parameters) (is_scalar result || is_void result) (same_types-refl parameters) kind))
+    (holds_is (all_scalar parameters && same_types parameters parameters && (is_scalar result || is_void result)) result
+    (and_from (all_scalar parameters && same_types parameters parameters) (is_scalar result || is_void result) (and_from (all_scalar parameters) (same_types parameters parameters) scalars (same_types-refl parameters)) kind))
     (holds_is (same_type (Function result parameters) (Function result parameters)) result (same_type-refl (Function result parameters))))
 
 -- a value that is called is a pointer to the function, and no conversion
@@ -83,23 +84,31 @@ function_is (Function own types) result parameters is same = cc
 function_is t result parameters is same = absurd (false≢true is)
 
 call_fits : (around : Context) (whole : Pos) (known : Known) (expression : TypedExpr) (result : CType) (parameters : CTypes) (arguments : List ArgumentValue) (passing : Values) → TypedFits around known.c_type expression → not (is_struct known.c_type) ≡ true
-    → is_proper known.c_type ≡ true → decayed known.c_type ≡ Pointer (Function result parameters) → types_of around passing ≡ Some parameters → (is_scalar result || is_void result) ≡ true
+    → is_proper known.c_type ≡ true → decayed known.c_type ≡ Pointer (Function result parameters) → types_of around passing ≡ Some parameters → all_scalar parameters ≡ true → (is_scalar result || is_void result) ≡ true
     → (type_of around (call_of whole (is_array known.c_type) expression (Function result parameters) (if is_free expression then unconverted arguments else passing)) ≡ Some result)
     × (is_conversion (call_of whole (is_array known.c_type) expression (Function result parameters) (if is_free expression then unconverted arguments else passing)) ≡ false)
-call_fits around whole known (OfFunction function) result parameters arguments passing fit plain proper same given_types kind =
-    (call_type around whole function result parameters passing (fit.0 ∙ ap Some (function_is known.c_type result parameters fit.1 same)) given_types kind, refl)
-call_fits around whole known (OfValue value) result parameters arguments passing fit plain proper same given_types kind =
+call_fits around whole known (OfFunction function) result parameters arguments passing fit plain proper same given_types scalars kind =
+    (call_type around whole function result parameters passing (fit.0 ∙ ap Some (function_is known.c_type result parameters fit.1 same)) given_types scalars kind, refl)
+call_fits around whole known (OfValue value) result parameters arguments passing fit plain proper same given_types scalars kind =
     let read = read_typed around whole known.c_type (OfValue value) fit plain proper in
-    (call_type around whole (typed.ThroughPointer whole (value_from whole known.c_type (OfValue value))) result parameters passing (through_type around whole (value_from whole known.c_type (OfValue value)) (decayed known.c_type) result parameters read.0 read.1 same) given_types kind, refl)
-call_fits around whole known (OfObject object) result parameters arguments passing fit plain proper same given_types kind =
+    (call_type around whole (typed.ThroughPointer whole (value_from whole known.c_type (OfValue value))) result parameters passing (through_type around whole (value_from whole known.c_type (OfValue value)) (decayed known.c_type) result parameters read.0 read.1 same) given_types scalars kind, refl)
+call_fits around whole known (OfObject object) result parameters arguments passing fit plain proper same given_types scalars kind =
     let read = read_typed around whole known.c_type (OfObject object) fit plain proper in
-    (call_type around whole (typed.ThroughPointer whole (value_from whole known.c_type (OfObject object))) result parameters passing (through_type around whole (value_from whole known.c_type (OfObject object)) (decayed known.c_type) result parameters read.0 read.1 same) given_types kind, refl)
-call_fits around whole known (OfLibrary function groups) result parameters arguments passing fit plain proper same given_types kind = absurd fit
+    (call_type around whole (typed.ThroughPointer whole (value_from whole known.c_type (OfObject object))) result parameters passing (through_type around whole (value_from whole known.c_type (OfObject object)) (decayed known.c_type) result parameters read.0 read.1 same) given_types scalars kind, refl)
+call_fits around whole known (OfLibrary function groups) result parameters arguments passing fit plain proper same given_types scalars kind = absurd fit
 
-function_parts : (result : CType) (parameters : CTypes) → is_proper (Function result parameters) ≡ true → ((is_scalar result || is_void result) ≡ true) × (is_proper result ≡ true)
+proper_scalars : (types : CTypes) → are_proper types ≡ true → all_scalar types ≡ true
+proper_scalars NoTypes proper = refl
+proper_scalars (MoreTypes first others) proper =
+    let outer = and_parts (is_scalar first && is_proper first) (are_proper others) proper in
+    and_from (is_scalar first) (all_scalar others) (and_parts (is_scalar first) (is_proper first) outer.0).0 (proper_scalars others outer.1)
+
+function_parts : (result : CType) (parameters : CTypes) → is_proper (Function result parameters) ≡ true
+    → ((is_scalar result || is_void result) ≡ true) × (is_proper result ≡ true) × (all_scalar parameters ≡ true)
 function_parts result parameters proper =
     let outer = and_parts ((is_scalar result || is_void result) && is_proper result) (are_proper parameters) proper in
-    and_parts (is_scalar result || is_void result) (is_proper result) outer.0
+    let inner = and_parts (is_scalar result || is_void result) (is_proper result) outer.0 in
+    (inner.0, inner.1, proper_scalars parameters outer.1)
 
 pub called_yields : (around : Context) (whole : Pos) (known : Known) (arguments : List ArgumentValue) → KnownFits around known → not (is_struct known.c_type) ≡ true → ArgumentsFit around arguments
     → (t : CType) → decayed known.c_type ≡ t → is_proper t ≡ true → Yields (KnownFits around) (called_as whole known t arguments)
@@ -107,7 +116,7 @@ called_yields around whole known arguments fit plain all (Pointer (Function resu
     require_yields (KnownFits around) (as_many parameters arguments) T.T13 whole _
     (λ many. given_yields (ValuesPass around parameters arguments) (KnownFits around) (passed whole parameters arguments) _ (passed_yields around whole parameters arguments many all)
     (λ values pass. let parts = function_parts result parameters proper in
-    let call = call_fits around whole known known.typed result parameters arguments values fit.typed plain fit.proper same pass.0 parts.0 in
+    let call = call_fits around whole known known.typed result parameters arguments values fit.typed plain fit.proper same pass.0 parts.2 parts.0 in
     give_yields (KnownFits around) _ (value_result around result (call_value whole known (Function result parameters) arguments values) call.0 call.1 parts.0 parts.1)))
 called_yields around whole known arguments fit plain all (Pointer t) same proper = refuse_yields (KnownFits around) T.T12 whole
 called_yields around whole known arguments fit plain all t same proper = refuse_yields (KnownFits around) T.T12 whole

@@ -9,10 +9,12 @@ use Rattle.c_reader.specs.Readings.{IsProgram}
 use Rattle.c_reader_literals.proofs.Programs.{literals_apart}
 use Rattle.c_typed.specs.Typed.{Program}
 use Rattle.c_well_typed.specs.Programs.{IsWellTyped}
-use Rattle.c_well_typed.specs.Sizes.{HasSmallTypes}
+use Rattle.c_well_typed.specs.Sizes.{HasStorableTypes}
+use Rattle.c_well_typed.proofs.Storable.{storable_types}
 use Rattle.c_rules.specs.Programs.{violations}
 use Rattle.c_rules.specs.Elaborated.{typed_of}
 use Rattle.c_rules_typing.proofs.ProgramsFit.{elaboration_keeps_types}
+use Rattle.c_rules_filled.proofs.Accepted.{accepted_filled}
 use Rattle.c_types_expressions.specs.Named.{NamedType}
 use Rattle.c_types.specs.NamedItems.{named_types}
 use Rattle.c_types_limits.specs.Limits.{exceeded}
@@ -22,10 +24,10 @@ none_from : {A : Type 0} (option : Option A) → is_some option ≡ false → op
 none_from None e = refl
 none_from (Some a) e = absurd (true≢false e)
 
--- The typed tree is well typed, and its types have exact sizes.
+-- The typed tree is well typed, and the types of its objects have exact sizes and a byte at least.
 pub record Premises (typed : Program) : Type 0 where
   pub well_typed : IsWellTyped typed
-  pub small : HasSmallTypes typed
+  pub storable : HasStorableTypes typed
 
 -- So is that of a program that a text spells, which violates no rule and exceeds no limit.
 pub accepted_premises : (text : List ℕ) (leaves : List Leaf) (program : ProgramTree) (typed : Program) (named : List NamedType)
@@ -36,5 +38,5 @@ accepted_premises text leaves program typed named divides spelled none elaborate
     subst (λ (tree : Program). Premises tree) (sym elaborated)
     (record {
       well_typed = elaboration_keeps_types program (literals_apart text leaves program divides spelled) none;
-      small = limits_give_small_types program none (sym same ∙ none_from (exceeded typed named) within);
+      storable = storable_types (typed_of program) (limits_give_small_types program none (sym same ∙ none_from (exceeded typed named) within)) (accepted_filled leaves program spelled none);
     })

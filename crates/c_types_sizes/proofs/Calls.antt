@@ -9,7 +9,7 @@ use Rattle.c_typed.specs.Types.{CType, CTypes, Pointer, Function, NoTypes, MoreT
 use Rattle.c_typed.specs.Layouts.{StructDef}
 use Rattle.c_typed.specs.Typed as typed
 use Rattle.c_typed.specs.Typed.{Value, Values, Designator}
-use Rattle.c_well_typed.specs.Sizes.{has_small, all_have_small, designator_has_small}
+use Rattle.c_well_typed.specs.Sizes.{makes, all_make, designator_makes, is_small}
 use Rattle.c_rules.specs.Names.{Scope, Meaning, NoMeaning, Local, Outer, Library, meaning_of}
 use Rattle.c_rules.specs.Known.{Checked, Known, TypedExpr, OfValue, OfObject, OfFunction, OfLibrary, with_known, give, value_of_typed}
 use Rattle.c_rules.specs.Operators.{ArgumentValue, Arguments, converted, fits, as_many, passed_rule, passed, unconverted_argument, unconverted, is_free, call_of, call_value, called_as, call_rule, call}
@@ -21,10 +21,10 @@ use Rattle.c_types_sizes.proofs.Operands.{value_small, converted_small, unconver
 
 module _ (structs : List StructDef) where
   abbrev AllSmall : Values → Type 0
-  AllSmall values = all_have_small structs values ≡ true
+  AllSmall values = all_make (is_small structs) values ≡ true
 
   abbrev OneSmall : Value → Type 0
-  OneSmall value = has_small structs value ≡ true
+  OneSmall value = makes (is_small structs) value ≡ true
 
   -- ---- arguments
 
@@ -37,25 +37,25 @@ module _ (structs : List StructDef) where
       (of_known (KnownSmall structs) OneSmall argument.value (passed_rule whole argument.place first) all.0
       (λ known is. required (fits first known) T.T10 argument.place (give (converted whole first known)) (gives (converted whole first known) (converted_small structs whole first known parts.0 is))))
       (passed_small whole others parts.1 arguments all.1)
-      (λ value values one rest. gives (typed.MoreValues value values) (and_from (has_small structs value) (all_have_small structs values) one rest))
+      (λ value values one rest. gives (typed.MoreValues value values) (and_from (makes (is_small structs) value) (all_make (is_small structs) values) one rest))
 
-  one_unconverted : (known : Option Known) → IfKnown (KnownSmall structs) known → has_small structs (unconverted_argument known) ≡ true
+  one_unconverted : (known : Option Known) → IfKnown (KnownSmall structs) known → makes (is_small structs) (unconverted_argument known) ≡ true
   one_unconverted None small = refl
   one_unconverted (Some known) small = unconverted_small structs _ known small
 
   all_unconverted : (arguments : List ArgumentValue) → Every (ArgumentSmall structs) arguments → AllSmall (unconverted arguments)
   all_unconverted [] all = refl
   all_unconverted (argument ∷ arguments) all =
-      and_from (has_small structs (unconverted_argument argument.value)) (all_have_small structs (unconverted arguments)) (one_unconverted argument.value all.0) (all_unconverted arguments all.1)
+      and_from (makes (is_small structs) (unconverted_argument argument.value)) (all_make (is_small structs) (unconverted arguments)) (one_unconverted argument.value all.0) (all_unconverted arguments all.1)
 
   -- ---- what is called
 
-  through_small : (value : Value) (values : Values) → OneSmall value → AllSmall values → (has_small structs value && all_have_small structs values) ≡ true
-  through_small value values one rest = and_from (has_small structs value) (all_have_small structs values) one rest
+  through_small : (value : Value) (values : Values) → OneSmall value → AllSmall values → (makes (is_small structs) value && all_make (is_small structs) values) ≡ true
+  through_small value values one rest = and_from (makes (is_small structs) value) (all_make (is_small structs) values) one rest
 
   call_of_small : (whole : Pos) (is_array : Bool) (expression : TypedExpr) (t : CType) (values : Values) → typed_small structs expression ≡ true → AllSmall values → OneSmall (call_of whole is_array expression t values)
   call_of_small whole b (OfLibrary function groups) t _ small all = all
-  call_of_small whole b (OfFunction function) t values small all = and_from (designator_has_small structs function) (all_have_small structs values) small all
+  call_of_small whole b (OfFunction function) t values small all = and_from (designator_makes (is_small structs) function) (all_make (is_small structs) values) small all
   call_of_small whole b (OfValue value) t values small all = through_small (value_of_typed whole b (OfValue value)) values (value_small structs whole b (OfValue value) small) all
   call_of_small whole b (OfObject object) t values small all = through_small (value_of_typed whole b (OfObject object)) values (value_small structs whole b (OfObject object) small) all
 

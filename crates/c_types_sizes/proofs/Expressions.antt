@@ -7,7 +7,7 @@ use Rattle.c_typed.specs.Types.{CType}
 use Rattle.c_typed.specs.Layouts.{StructDef}
 use Rattle.c_typed.specs.Typed.{LiteralDef}
 use Rattle.c_typed.specs.declared.typed.Stepping.TheVariants as S
-use Rattle.c_well_typed.specs.Sizes.{has_small}
+use Rattle.c_well_typed.specs.Sizes.{makes, is_small}
 use Rattle.c_rules.specs.Names.{Scope}
 use Rattle.c_rules.specs.Known.{Checked, Known, as_value}
 use Rattle.c_rules.specs.Operators
@@ -129,30 +129,30 @@ module _ (structs : List StructDef) where
 
     -- ---- values of expressions
 
-    known_value_small : (known : Option Known) → IfKnown (KnownSmall structs) known → has_small structs (known_value known) ≡ true
+    known_value_small : (known : Option Known) → IfKnown (KnownSmall structs) known → makes (is_small structs) (known_value known) ≡ true
     known_value_small None small = refl
     known_value_small (Some known) small = in_small structs known small
 
-    test_small : (known : Option Operators.Condition) → IfKnown (TestSmall structs) known → has_small structs (condition_test known) ≡ true
+    test_small : (known : Option Operators.Condition) → IfKnown (TestSmall structs) known → makes (is_small structs) (condition_test known) ≡ true
     test_small None small = refl
     test_small (Some condition) small = small
 
-    known_as_small : (place : Pos) (t : CType) → IsSmall structs t → (known : Option Known) → IfKnown (KnownSmall structs) known → has_small structs (known_as place t known) ≡ true
+    known_as_small : (place : Pos) (t : CType) → IsSmall structs t → (known : Option Known) → IfKnown (KnownSmall structs) known → makes (is_small structs) (known_as place t known) ≡ true
     known_as_small place t small None is = refl
     known_as_small place t small (Some known) is = converted_small structs place t known small is
 
-    pub value_of_small : (e : ExprTree) → Named (named_in scope e) → Listed (literals_in e) → has_small structs (value_of scope e) ≡ true
+    pub value_of_small : (e : ExprTree) → Named (named_in scope e) → Listed (literals_in e) → makes (is_small structs) (value_of scope e) ≡ true
     value_of_small e all listed =
         known_value_small (as_value (place_of e) (expr scope e)).known (as_value_small structs (place_of e) (expr scope e) (expr_small e all listed)).holds
 
-    pub unused_small : (e : ExprTree) → Named (named_in scope e) → Listed (literals_in e) → has_small structs (unused scope e) ≡ true
+    pub unused_small : (e : ExprTree) → Named (named_in scope e) → Listed (literals_in e) → makes (is_small structs) (unused scope e) ≡ true
     unused_small e all listed = dropped_small structs (value_of scope e) (value_of_small e all listed)
 
-    pub test_of_small : (e : ExprTree) → Named (named_in scope e) → Listed (literals_in e) → has_small structs (test_of scope e) ≡ true
+    pub test_of_small : (e : ExprTree) → Named (named_in scope e) → Listed (literals_in e) → makes (is_small structs) (test_of scope e) ≡ true
     test_of_small e all listed =
         test_small (as_condition (place_of e) (expr scope e)).known (as_condition_small structs (place_of e) (expr scope e) (expr_small e all listed)).holds
 
-    pub value_as_small : (t : Option CType) → IfKnown (IsSmall structs) t → (e : ExprTree) → Named (named_in scope e) → Listed (literals_in e) → has_small structs (value_as scope t e) ≡ true
+    pub value_as_small : (t : Option CType) → IfKnown (IsSmall structs) t → (e : ExprTree) → Named (named_in scope e) → Listed (literals_in e) → makes (is_small structs) (value_as scope t e) ≡ true
     value_as_small None small e all listed = refl
     value_as_small (Some t) small e all listed =
         known_as_small (place_of e) t small (as_value (place_of e) (expr scope e)).known (as_value_small structs (place_of e) (expr scope e) (expr_small e all listed)).holds

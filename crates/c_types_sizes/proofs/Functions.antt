@@ -9,7 +9,7 @@ use Rattle.c_typed.specs.Layouts.{StructDef}
 use Rattle.c_typed.specs.Typed.{FunctionDef}
 use Rattle.c_well_typed.specs.Expressions.{is_scalar}
 use Rattle.c_well_typed.specs.Programs.{with_parameters}
-use Rattle.c_well_typed.specs.Sizes.{block_has_small, functions_have_small}
+use Rattle.c_well_typed.specs.Sizes.{block_makes, functions_make, is_small}
 use Rattle.c_rules.specs.Names.{Scope, LocalName, locals_in}
 use Rattle.c_rules.specs.Expressions.{Required, declared_type, declared_name, adds}
 use Rattle.c_rules.specs.Statements.{FunctionContext, block}
@@ -55,7 +55,7 @@ module _ (structs : List StructDef) where
 
   function_typed : (scope : Scope) → Good scope → SmallNames structs scope → (base : Option CType) → ((t : CType) → base ≡ Some t → is_function t ≡ false) → (declarator : DeclaratorTree) (body : BlockTree) (name : NameTree)
       → FunctionFits scope base declarator body name → Named structs (named_in_function scope base declarator body (Some name)) → Listed structs (literals_in_block body)
-      → block_has_small structs (block_of (entered_function (body_filed scope base declarator name).scope (own_parameters declarator)).scope (result_of (body_own scope base declarator name).known) body) ≡ true
+      → block_makes (is_small structs) (block_of (entered_function (body_filed scope base declarator name).scope (own_parameters declarator)).scope (result_of (body_own scope base declarator name).known) body) ≡ true
   function_typed scope good names base never declarator body name fit all listed =
       block_small structs (result_of own) (result_small own result types known own_parts.0) inside inside_small body (named_right structs front (named_in_block inside body) all) listed
     where
@@ -125,11 +125,11 @@ module _ (structs : List StructDef) where
 
   defined_small : (scope : Scope) → Good scope → SmallNames structs scope → (place : Pos) (base : Option CType) → ProperKnown base → ((t : CType) → base ≡ Some t → is_function t ≡ false) → (declarator : DeclaratorTree) (body : BlockTree) (name : Option NameTree)
       → (function_item scope place base declarator body name).found ≡ [] → Named structs (named_in_function scope base declarator body name) → Listed structs (literals_in_block body)
-      → (others : List FunctionDef) → functions_have_small structs others ≡ true → functions_have_small structs (defined_function scope base declarator body name ++ others) ≡ true
+      → (others : List FunctionDef) → functions_make (is_small structs) others ≡ true → functions_make (is_small structs) (defined_function scope base declarator body name ++ others) ≡ true
   defined_small scope good names place base proper never declarator body None e all listed others rest = rest
   defined_small scope good names place base proper never declarator body (Some name) e all listed others rest =
       let fit = function_fits scope good place base proper declarator body name e in
-      and_from (block_has_small structs (block_of (entered_function (body_filed scope base declarator name).scope (own_parameters declarator)).scope (result_of (body_own scope base declarator name).known) body)) (functions_have_small structs others)
+      and_from (block_makes (is_small structs) (block_of (entered_function (body_filed scope base declarator name).scope (own_parameters declarator)).scope (result_of (body_own scope base declarator name).known) body)) (functions_make (is_small structs) others)
       (function_typed scope good names base never declarator body name fit all listed) rest
 
   -- the scope behind a function
@@ -146,7 +146,7 @@ module _ (structs : List StructDef) where
   -- ---- items
 
   pub items_small : (scope : Scope) → Good scope → SmallNames structs scope → (trees : List ItemTree) → items scope trees ≡ [] → Named structs (named_in_items scope trees) → Listed structs (literals_in_items trees)
-      → Every (GlobalSmall structs) (in_items scope trees).globals × (functions_have_small structs (in_items scope trees).functions ≡ true)
+      → Every (GlobalSmall structs) (in_items scope trees).globals × (functions_make (is_small structs) (in_items scope trees).functions ≡ true)
   items_small scope good names [] e all listed = (tt, refl)
   items_small scope good names (Trees.Declaration base declarators ∷ others) e all listed =
       let first = Trees.Declaration base declarators in

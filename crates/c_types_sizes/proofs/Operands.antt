@@ -9,7 +9,7 @@ use Rattle.c_typed.specs.Types.{CType, Void, Integer, Pointer, Array, Struct, Fu
 use Rattle.c_typed.specs.Layouts.{StructDef}
 use Rattle.c_typed.specs.Typed as typed
 use Rattle.c_typed.specs.Typed.{Value}
-use Rattle.c_well_typed.specs.Sizes.{is_small, has_small, object_has_small}
+use Rattle.c_well_typed.specs.Sizes.{is_small, makes, object_makes}
 use Rattle.c_rules.specs.Names.{Scope, FileName, LocalName, Meaning, NoMeaning, Local, Outer, Library, library_named, library_meaning, file_name, file_meaning, local_meaning, locals_in, meaning_of}
 use Rattle.c_rules.specs.Known.{Checked, Known, TypedExpr, OfValue, OfObject, OfFunction, OfLibrary, give, as_value, value_rule, value_of_typed, value_in, read_value, grouped}
 use Rattle.c_rules.specs.Operators.{Condition, OperandKind, AnInteger, AnyValue, AScalar, is_scalar, scalar_rule, as_scalar, condition_of, as_condition, integer_rule, as_integer, operand, converted, unconverted_value, object_in, outer_name, name_as, named}
@@ -20,17 +20,17 @@ use Rattle.c_types_sizes.proofs.Types.{small_itself, decayed_small, library_smal
 module _ (structs : List StructDef) where
   -- ---- values
 
-  pub value_small : (place : Pos) (is_array : Bool) (expression : TypedExpr) → typed_small structs expression ≡ true → has_small structs (value_of_typed place is_array expression) ≡ true
+  pub value_small : (place : Pos) (is_array : Bool) (expression : TypedExpr) → typed_small structs expression ≡ true → makes (is_small structs) (value_of_typed place is_array expression) ≡ true
   value_small place b (OfValue value) small = small
   value_small place true (OfObject object) small = small
   value_small place false (OfObject object) small = small
   value_small place b (OfFunction function) small = small
   value_small place b (OfLibrary function groups) small = refl
 
-  pub in_small : (known : Known) → KnownSmall structs known → has_small structs (value_in known) ≡ true
+  pub in_small : (known : Known) → KnownSmall structs known → makes (is_small structs) (value_in known) ≡ true
   in_small known small = value_small _ (is_array known.c_type) known.typed small.1
 
-  pub object_small : (expression : TypedExpr) → typed_small structs expression ≡ true → object_has_small structs (object_in expression) ≡ true
+  pub object_small : (expression : TypedExpr) → typed_small structs expression ≡ true → object_makes (is_small structs) (object_in expression) ≡ true
   object_small (OfValue value) small = refl
   object_small (OfObject object) small = small
   object_small (OfFunction function) small = refl
@@ -64,7 +64,7 @@ module _ (structs : List StructDef) where
   operand_small AScalar place part small = as_scalar_small place part small
 
   abbrev pub TestSmall : Condition → Type 0
-  TestSmall condition = has_small structs condition.test ≡ true
+  TestSmall condition = makes (is_small structs) condition.test ≡ true
 
   pub condition_small : (place : Pos) (known : Known) → KnownSmall structs known → TestSmall (condition_of place known)
   condition_small place known small = by_test TestSmall (is_integer known.c_type) _ _ (in_small known small) (in_small known small)
@@ -76,20 +76,20 @@ module _ (structs : List StructDef) where
   -- ---- conversions
 
   abbrev ValueSmall : Value → Type 0
-  ValueSmall value = has_small structs value ≡ true
+  ValueSmall value = makes (is_small structs) value ≡ true
 
-  pub converted_small : (place : Pos) (t : CType) (known : Known) → IsSmall structs t → KnownSmall structs known → has_small structs (converted place t known) ≡ true
+  pub converted_small : (place : Pos) (t : CType) (known : Known) → IsSmall structs t → KnownSmall structs known → makes (is_small structs) (converted place t known) ≡ true
   converted_small place Void known small known_small = in_small known known_small
   converted_small place (Integer n) known small known_small = in_small known known_small
   converted_small place (Pointer target) known small known_small =
       by_test ValueSmall known.is_null (typed.MadeNull target (value_in known)) _ (in_small known known_small)
       (by_test ValueSmall (same_type (Pointer target) known.c_type) (value_in known) (typed.Repointed place target (value_in known)) (in_small known known_small)
-      (and_from (is_small structs target) (has_small structs (value_in known)) (small_itself structs target small) (in_small known known_small)))
+      (and_from (is_small structs target) (makes (is_small structs) (value_in known)) (small_itself structs target small) (in_small known known_small)))
   converted_small place (Array t n) known small known_small = in_small known known_small
   converted_small place (Struct tag) known small known_small = in_small known known_small
   converted_small place (Function t ts) known small known_small = in_small known known_small
 
-  pub unconverted_small : (target : CType) (known : Known) → KnownSmall structs known → has_small structs (unconverted_value target known) ≡ true
+  pub unconverted_small : (target : CType) (known : Known) → KnownSmall structs known → makes (is_small structs) (unconverted_value target known) ≡ true
   unconverted_small target known small = by_test ValueSmall known.is_null (typed.MadeNull target (value_in known)) (value_in known) (in_small known small) (in_small known small)
 
   -- ---- names

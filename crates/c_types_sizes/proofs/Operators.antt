@@ -21,7 +21,7 @@ use Rattle.c_typed.specs.Typed as typed
 use Rattle.c_typed.specs.Typed.{Value, Object}
 use Rattle.c_typed.specs.declared.typed.Stepping.{Stepping}
 use Rattle.c_typed.specs.declared.typed.Stepping.TheVariants as S
-use Rattle.c_well_typed.specs.Sizes.{is_small, has_small, object_has_small}
+use Rattle.c_well_typed.specs.Sizes.{is_small, makes, object_makes}
 use Rattle.c_rules.specs.Names.{Scope}
 use Rattle.c_rules.specs.Known.{Checked, Known, TypedExpr, OfValue, OfObject, OfFunction, OfLibrary, Address, give, refuse, require, given, as_value, value_in, value_of_type, object_at}
 use Rattle.c_rules.specs.Constants
@@ -37,15 +37,15 @@ module _ (structs : List StructDef) where
   abbrev pub Small : Checked Known → Type 0
   Small checked = Knows (KnownSmall structs) checked
 
-  has_both : (a b : Value) → has_small structs a ≡ true → has_small structs b ≡ true → (has_small structs a && has_small structs b) ≡ true
-  has_both a b one other = and_from (has_small structs a) (has_small structs b) one other
+  has_both : (a b : Value) → makes (is_small structs) a ≡ true → makes (is_small structs) b ≡ true → (makes (is_small structs) a && makes (is_small structs) b) ≡ true
+  has_both a b one other = and_from (makes (is_small structs) a) (makes (is_small structs) b) one other
 
-  in_both : (a b : Known) → KnownSmall structs a → KnownSmall structs b → (has_small structs (value_in a) && has_small structs (value_in b)) ≡ true
+  in_both : (a b : Known) → KnownSmall structs a → KnownSmall structs b → (makes (is_small structs) (value_in a) && makes (is_small structs) (value_in b)) ≡ true
   in_both a b one other = has_both (value_in a) (value_in b) (in_small structs a one) (in_small structs b other)
 
   -- ---- pointers
 
-  element_at_small : (scope : Scope) (whole place : Pos) (pointer index : CType) (object : Object) (kept : Address) → IsSmall structs pointer → object_has_small structs object ≡ true
+  element_at_small : (scope : Scope) (whole place : Pos) (pointer index : CType) (object : Object) (kept : Address) → IsSmall structs pointer → object_makes (is_small structs) object ≡ true
       → Small (Operators.element_at scope whole place pointer index object kept)
   element_at_small scope whole place pointer index object kept small of_object =
       required _ T.T14 whole _ (required _ T.T07 place _ (gives _ (target_small structs pointer small, of_object)))
@@ -66,22 +66,22 @@ module _ (structs : List StructDef) where
   address_small whole operand (OfFunction function) small of_it = gives _ (small, of_it)
   address_small whole operand (OfLibrary function groups) small of_it = refuses _ _
 
-  moved_small : (scope : Scope) (whole : Pos) (value : Value) (c_type : CType) (kept : Address) → IsSmall structs c_type → has_small structs value ≡ true → Small (Operators.moved_pointer scope whole value c_type kept)
+  moved_small : (scope : Scope) (whole : Pos) (value : Value) (c_type : CType) (kept : Address) → IsSmall structs c_type → makes (is_small structs) value ≡ true → Small (Operators.moved_pointer scope whole value c_type kept)
   moved_small scope whole value c_type kept small of_value = required _ T.T14 whole _ (gives _ (small, of_value))
 
   -- ---- members
 
-  of_type_small : (known : Option CType) (object : Object) (at : CType → Address) → IfKnown (IsSmall structs) known → object_has_small structs object ≡ true → Small (Operators.of_type known (λ c_type. give (object_at c_type object (at c_type))))
+  of_type_small : (known : Option CType) (object : Object) (at : CType → Address) → IfKnown (IsSmall structs) known → object_makes (is_small structs) object ≡ true → Small (Operators.of_type known (λ c_type. give (object_at c_type object (at c_type))))
   of_type_small None object at small of_object = record { holds = tt }
   of_type_small (Some c_type) object at small of_object = gives _ (small, of_object)
 
-  member_at_small : (number : ℕ) (members : List MemberDef) → Every (MemberSmall structs) members → (name : List ℕ) (object : ℕ → Object) (from : Address) (whole : Pos) → ((n : ℕ) → object_has_small structs (object n) ≡ true)
+  member_at_small : (number : ℕ) (members : List MemberDef) → Every (MemberSmall structs) members → (name : List ℕ) (object : ℕ → Object) (from : Address) (whole : Pos) → ((n : ℕ) → object_makes (is_small structs) (object n) ≡ true)
       → Small (Operators.member_at number members name object from whole)
   member_at_small number [] small name object from whole of_object = refuses _ _
   member_at_small number (member ∷ members) small name object from whole of_object =
       chosen (bytes_eq member.name name) _ _ (of_type_small member.c_type (object number) _ small.0 (of_object number)) (member_at_small (number + 1) members small.1 name object from whole of_object)
 
-  member_in_small : (members : Option (List MemberDef)) → IfKnown (Every (MemberSmall structs)) members → (name : List ℕ) (object : ℕ → Object) (from : Address) (whole : Pos) → ((n : ℕ) → object_has_small structs (object n) ≡ true)
+  member_in_small : (members : Option (List MemberDef)) → IfKnown (Every (MemberSmall structs)) members → (name : List ℕ) (object : ℕ → Object) (from : Address) (whole : Pos) → ((n : ℕ) → object_makes (is_small structs) (object n) ≡ true)
       → Small (Operators.member_in members name object from whole)
   member_in_small None small name object from whole of_object = refuses _ _
   member_in_small (Some members) small name object from whole of_object = member_at_small 0 members small name object from whole of_object
@@ -90,7 +90,7 @@ module _ (structs : List StructDef) where
   tag_small [] small tag = tt
   tag_small (newest ∷ others) small tag = by_test (IfKnown (Every (MemberSmall structs))) (bytes_eq newest.tag tag) (Some newest.members) (members_by_tag others tag) small.0 (tag_small others small.1 tag)
 
-  member_of_small : (scope : Scope) → SmallNames structs scope → (whole : Pos) (t : CType) (object : ℕ → Object) (from : Address) (member : NameTree) → ((n : ℕ) → object_has_small structs (object n) ≡ true)
+  member_of_small : (scope : Scope) → SmallNames structs scope → (whole : Pos) (t : CType) (object : ℕ → Object) (from : Address) (member : NameTree) → ((n : ℕ) → object_makes (is_small structs) (object n) ≡ true)
       → Small (Operators.member_of scope whole t object from member)
   member_of_small scope names whole Void object from member of_object = refuses _ _
   member_of_small scope names whole (Integer t) object from member of_object = refuses _ _
@@ -109,7 +109,7 @@ module _ (structs : List StructDef) where
 
   -- ---- operators of one operand
 
-  step_small : (stepping : Stepping) (place : Pos) (t : CType) (object : Object) → object_has_small structs object ≡ true → has_small structs (Operators.step_value stepping place t object) ≡ true
+  step_small : (stepping : Stepping) (place : Pos) (t : CType) (object : Object) → object_makes (is_small structs) object ≡ true → makes (is_small structs) (Operators.step_value stepping place t object) ≡ true
   step_small stepping place Void object small = small
   step_small stepping place (Integer t) object small = small
   step_small stepping place (Pointer t) object small = small
@@ -142,7 +142,7 @@ module _ (structs : List StructDef) where
   size_small scope place t = required _ T.T05 place _ (gives _ (refl, refl))
 
   -- a value that is left unused
-  pub dropped_small : (value : Value) → has_small structs value ≡ true → has_small structs (Operators.dropped value) ≡ true
+  pub dropped_small : (value : Value) → makes (is_small structs) value ≡ true → makes (is_small structs) (Operators.dropped value) ≡ true
   dropped_small (typed.Call is_used place function c_type arguments) small = small
   dropped_small (typed.Grouped inner) small = dropped_small inner small
   dropped_small value small = small
@@ -153,7 +153,7 @@ module _ (structs : List StructDef) where
   cast_small scope whole (Pointer target) value small of_value =
       chosen value.is_null _ _ (gives _ (small, in_small structs value of_value))
       (required _ T.T16 whole _
-      (gives _ (small, and_from (is_small structs target) (has_small structs (value_in value)) (small_itself structs target small) (in_small structs value of_value))))
+      (gives _ (small, and_from (is_small structs target) (makes (is_small structs) (value_in value)) (small_itself structs target small) (in_small structs value of_value))))
   cast_small scope whole (Array t n) value small of_value = refuses _ _
   cast_small scope whole (Struct tag) value small of_value = refuses _ _
   cast_small scope whole (Function t ts) value small of_value = refuses _ _
@@ -262,8 +262,8 @@ module _ (structs : List StructDef) where
       third : Checked Known
       third = require (Operators.pointers_agree a b) T.T11 whole (give (value_of_type agreed (typed.Conditional condition.test (Operators.converted whole agreed a) (Operators.converted whole agreed b))))
 
-      three : (x y : Value) → has_small structs x ≡ true → has_small structs y ≡ true → (has_small structs condition.test && has_small structs x && has_small structs y) ≡ true
-      three x y x_is y_is = and_from (has_small structs condition.test && has_small structs x) (has_small structs y) (has_both condition.test x test x_is) y_is
+      three : (x y : Value) → makes (is_small structs) x ≡ true → makes (is_small structs) y ≡ true → (makes (is_small structs) condition.test && makes (is_small structs) x && makes (is_small structs) y) ≡ true
+      three x y x_is y_is = and_from (makes (is_small structs) condition.test && makes (is_small structs) x) (makes (is_small structs) y) (has_both condition.test x test x_is) y_is
 
   -- ---- assignments
 
@@ -282,13 +282,13 @@ module _ (structs : List StructDef) where
   assigned_value_small None place part small = as_value_small structs place part small
   assigned_value_small (Some op) place part small = as_integer_small structs place part small
 
-  object_both : (object : Object) (value : Value) → object_has_small structs object ≡ true → has_small structs value ≡ true → (object_has_small structs object && has_small structs value) ≡ true
-  object_both object value one other = and_from (object_has_small structs object) (has_small structs value) one other
+  object_both : (object : Object) (value : Value) → object_makes (is_small structs) object ≡ true → makes (is_small structs) value ≡ true → (object_makes (is_small structs) object && makes (is_small structs) value) ≡ true
+  object_both object value one other = and_from (object_makes (is_small structs) object) (makes (is_small structs) value) one other
 
-  compound_small : (op : BinOp) (whole : Pos) (t : CType) (object : Object) (value : Known) → object_has_small structs object ≡ true → KnownSmall structs value → has_small structs (Operators.compound_value op whole t object value) ≡ true
+  compound_small : (op : BinOp) (whole : Pos) (t : CType) (object : Object) (value : Known) → object_makes (is_small structs) object ≡ true → KnownSmall structs value → makes (is_small structs) (Operators.compound_value op whole t object value) ≡ true
   compound_small op whole Void object value small is = object_both object (value_in value) small (in_small structs value is)
   compound_small op whole (Integer t) object value small is =
-      by_test (λ (v : Value). has_small structs v ≡ true) (is_shift op) _ _ (object_both object (value_in value) small (in_small structs value is)) (object_both object (value_in value) small (in_small structs value is))
+      by_test (λ (v : Value). makes (is_small structs) v ≡ true) (is_shift op) _ _ (object_both object (value_in value) small (in_small structs value is)) (object_both object (value_in value) small (in_small structs value is))
   compound_small op whole (Pointer t) object value small is = object_both object (value_in value) small (in_small structs value is)
   compound_small op whole (Array t n) object value small is = object_both object (value_in value) small (in_small structs value is)
   compound_small op whole (Struct tag) object value small is = object_both object (value_in value) small (in_small structs value is)

@@ -7,7 +7,7 @@ use Rattle.c_typed.specs.Types.{literal_type}
 use Rattle.c_typed.specs.Names.{contains}
 use Rattle.c_typed.specs.Layouts.{StructDef}
 use Rattle.c_typed.specs.Typed.{GlobalDef, LiteralDef}
-use Rattle.c_well_typed.specs.Sizes.{HasSmallTypes, is_small, globals_have_small, literals_have_small, functions_have_small}
+use Rattle.c_well_typed.specs.Sizes.{HasSmallTypes, is_small, globals_make, literals_make, functions_make}
 use Rattle.c_rules.specs.declared.rule.TypeRule.TheVariants as T
 use Rattle.c_rules.specs.Known.{unless}
 use Rattle.c_rules.specs.Programs.{violations, items, outermost}
@@ -23,14 +23,14 @@ use Rattle.c_types_sizes.proofs.Functions.{items_small}
 use Rattle.c_types_sizes.proofs.Bounds.{named_small, literals_small}
 
 module _ (structs : List StructDef) where
-  all_globals : (globals : List GlobalDef) → Every (GlobalSmall structs) globals → globals_have_small structs globals ≡ true
+  all_globals : (globals : List GlobalDef) → Every (GlobalSmall structs) globals → globals_make (is_small structs) globals ≡ true
   all_globals [] all = refl
-  all_globals (first ∷ others) all = and_from (is_small structs first.c_type) (globals_have_small structs others) all.0 (all_globals others all.1)
+  all_globals (first ∷ others) all = and_from (is_small structs first.c_type) (globals_make (is_small structs) others) all.0 (all_globals others all.1)
 
-  all_literals : (literals : List LiteralDef) → Every (LiteralSmall structs) literals → literals_have_small structs literals ≡ true
+  all_literals : (literals : List LiteralDef) → Every (LiteralSmall structs) literals → literals_make (is_small structs) literals ≡ true
   all_literals [] all = refl
   all_literals (first ∷ others) all =
-      and_from (is_small structs (literal_type first.bytes)) (literals_have_small structs others) (small_itself structs (literal_type first.bytes) all.0) (all_literals others all.1)
+      and_from (is_small structs (literal_type first.bytes)) (literals_make (is_small structs) others) (small_itself structs (literal_type first.bytes) all.0) (all_literals others all.1)
 
 pub limits_give_small_types : (program : ProgramTree) → violations program ≡ [] → exceeded (typed_of program) (named_types program) ≡ None → HasSmallTypes (typed_of program)
 limits_give_small_types program none within =
@@ -42,7 +42,7 @@ limits_give_small_types program none within =
     let names : SmallNames structs begin = record { locals = tt; file = tt; members = tt } in
     let listed = literals_small typed (named_types program) within in
     let all = items_small structs begin begins names program.items no_rule (named_small typed (named_types program) within) listed in
-    and_from (globals_have_small structs typed.globals && literals_have_small structs typed.literals) (functions_have_small structs typed.functions)
-    (and_from (globals_have_small structs typed.globals) (literals_have_small structs typed.literals)
+    and_from (globals_make (is_small structs) typed.globals && literals_make (is_small structs) typed.literals) (functions_make (is_small structs) typed.functions)
+    (and_from (globals_make (is_small structs) typed.globals) (literals_make (is_small structs) typed.literals)
     (all_globals structs typed.globals (each_global_small structs [] (in_items begin program.items).globals tt all.0)) (all_literals structs typed.literals listed))
     all.1

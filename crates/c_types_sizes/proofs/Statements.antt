@@ -8,7 +8,7 @@ use Rattle.c_syntax.specs.Trees.{NameTree, ExprTree, InitTree, InitDeclaratorTre
 use Rattle.c_typed.specs.Types.{CType}
 use Rattle.c_typed.specs.Layouts.{StructDef}
 use Rattle.c_typed.specs.Typed.{Value, LocalDef, Block}
-use Rattle.c_well_typed.specs.Sizes.{is_small, has_small, any_has_small, local_has_small, locals_have_small, start_has_small, stmt_has_small, block_has_small, items_have_small}
+use Rattle.c_well_typed.specs.Sizes.{is_small, makes, any_makes, local_makes, locals_make, start_makes, stmt_makes, block_makes, items_make}
 use Rattle.c_rules.specs.Names.{Scope, LocalName, entered, locals_in}
 use Rattle.c_rules.specs.Operators.{as_integer}
 use Rattle.c_rules.specs.Expressions.{expr, place_of, words_type, declared_type, declared_name, name_place, Required}
@@ -40,7 +40,7 @@ module _ (structs : List StructDef) where
   -- ---- locals
 
   first_local_small : (scope : Scope) → SmallNames structs scope → (known : Option CType) → IfKnown (IsSmall structs) known → (init : Option InitTree) → Named structs (named_in_first scope init) → Listed structs (literals_in_first init)
-      → any_has_small structs (first_local scope known init) ≡ true
+      → any_makes (is_small structs) (first_local scope known init) ≡ true
   first_local_small scope names known small None all listed = refl
   first_local_small scope names known small (Some (Trees.InitList place inits)) all listed = refl
   first_local_small scope names known small (Some (Trees.InitValue value)) all listed = value_as_small structs scope names known small value all listed
@@ -63,13 +63,13 @@ module _ (structs : List StructDef) where
     behind_small : SmallNames structs (declare_local place base tree scope).scope
     behind_small = declared_small scope names (declared_name tree.declarator) own own_small
 
-    local_small : Listed structs (literals_in_first tree.init) → local_has_small structs (local_of place base tree scope) ≡ true
+    local_small : Listed structs (literals_in_first tree.init) → local_makes (is_small structs) (local_of place base tree scope) ≡ true
     local_small listed =
-        and_from (is_small structs (type_or_void own)) (any_has_small structs (first_local behind own tree.init)) (void_or_small own own_small)
+        and_from (is_small structs (type_or_void own)) (any_makes (is_small structs) (first_local behind own tree.init)) (void_or_small own own_small)
         (first_local_small behind behind_small own own_small tree.init (named_right structs (named_in_declarator scope tree.declarator ++ named_at here own) (named_in_first behind tree.init) all) listed)
 
   abbrev LocalsSmall : Scope → List LocalDef → Type 0
-  LocalsSmall behind locals = (locals_have_small structs locals ≡ true) × SmallNames structs behind
+  LocalsSmall behind locals = (locals_make (is_small structs) locals ≡ true) × SmallNames structs behind
 
   locals_small : (scope : Scope) → SmallNames structs scope → (place : Pos) (base : Option CType) (trees : List InitDeclaratorTree) → Named structs (named_in_locals place base trees scope) → Listed structs (literals_in_declarators trees)
       → LocalsSmall (declare_locals place base trees scope).scope (locals_of place base trees scope)
@@ -81,32 +81,32 @@ module _ (structs : List StructDef) where
       let own_literals = literals_in_declarator first.declarator ++ literals_in_first first.init in
       let own_listed = listed_right structs (literals_in_declarator first.declarator) (literals_in_first first.init) (listed_left structs own_literals (literals_in_declarators others) listed) in
       let rest = locals_small one.scope (behind_small scope names place base first own_all) place base others others_all (listed_right structs own_literals (literals_in_declarators others) listed) in
-      (and_from (local_has_small structs (local_of place base first scope)) (locals_have_small structs (locals_of place base others one.scope)) (local_small scope names place base first own_all own_listed) rest.0, rest.1)
+      (and_from (local_makes (is_small structs) (local_of place base first scope)) (locals_make (is_small structs) (locals_of place base others one.scope)) (local_small scope names place base first own_all own_listed) rest.0, rest.1)
 
   declaration_small : (scope : Scope) → SmallNames structs scope → (tree : DeclarationTree) → Named structs (named_in_declaration scope tree) → Listed structs (literals_in_declarators tree.declarators)
       → LocalsSmall (declaration scope tree).scope (declared_locals scope tree)
   declaration_small scope names tree all listed = locals_small scope names tree.words.place (words_type scope tree.words).known tree.declarators all listed
 
-  each_small : (locals : List LocalDef) (block : Block) → locals_have_small structs locals ≡ true → block_has_small structs block ≡ true → block_has_small structs (declare_each locals block) ≡ true
+  each_small : (locals : List LocalDef) (block : Block) → locals_make (is_small structs) locals ≡ true → block_makes (is_small structs) block ≡ true → block_makes (is_small structs) (declare_each locals block) ≡ true
   each_small [] block small rest = rest
   each_small (first ∷ others) block small rest =
-      let parts = and_parts (local_has_small structs first) (locals_have_small structs others) small in
-      and_from (local_has_small structs first) (block_has_small structs (declare_each others block)) parts.0 (each_small others block parts.1 rest)
+      let parts = and_parts (local_makes (is_small structs) first) (locals_make (is_small structs) others) small in
+      and_from (local_makes (is_small structs) first) (block_makes (is_small structs) (declare_each others block)) parts.0 (each_small others block parts.1 rest)
 
   start_small : (scope : Scope) → SmallNames structs scope → (tree : ForTree) → Named structs (named_in_start scope tree) → Listed structs (literals_in_start tree)
-      → (start_has_small structs (start_of scope tree) ≡ true) × SmallNames structs (for_start scope tree).scope
+      → (start_makes (is_small structs) (start_of scope tree) ≡ true) × SmallNames structs (for_start scope tree).scope
   start_small scope names Trees.ForNothing all listed = (refl, names)
   start_small scope names (Trees.ForExpression value) all listed = (unused_small structs scope names value all listed, names)
   start_small scope names (Trees.ForDeclaration tree) all listed = declaration_small scope names tree all listed
 
   -- ---- values that may be left out
 
-  mapped_small : (scope : Scope) (f : ExprTree → Value) → ((e : ExprTree) → Named structs (named_in scope e) → Listed structs (literals_in e) → has_small structs (f e) ≡ true)
-      → (value : Option ExprTree) → Named structs (named_in_value scope value) → Listed structs (literals_in_value value) → any_has_small structs (mapped f value) ≡ true
+  mapped_small : (scope : Scope) (f : ExprTree → Value) → ((e : ExprTree) → Named structs (named_in scope e) → Listed structs (literals_in e) → makes (is_small structs) (f e) ≡ true)
+      → (value : Option ExprTree) → Named structs (named_in_value scope value) → Listed structs (literals_in_value value) → any_makes (is_small structs) (mapped f value) ≡ true
   mapped_small scope f small None all listed = refl
   mapped_small scope f small (Some value) all listed = small value all listed
 
-  switched_small : (int_type : Option IntType) (value : Value) → has_small structs value ≡ true → has_small structs (switched int_type value) ≡ true
+  switched_small : (int_type : Option IntType) (value : Value) → makes (is_small structs) value ≡ true → makes (is_small structs) (switched int_type value) ≡ true
   switched_small None value small = small
   switched_small (Some int_type) value small = small
 
@@ -114,29 +114,29 @@ module _ (structs : List StructDef) where
 
   module _ (result : Option CType) (result_small : IfKnown (IsSmall structs) result) where
     mutual
-      pub stmt_small : (scope : Scope) → SmallNames structs scope → (s : StmtTree) → Named structs (named_in_stmt scope s) → Listed structs (literals_in_stmt s) → stmt_has_small structs (stmt_of scope result s) ≡ true
+      pub stmt_small : (scope : Scope) → SmallNames structs scope → (s : StmtTree) → Named structs (named_in_stmt scope s) → Listed structs (literals_in_stmt s) → stmt_makes (is_small structs) (stmt_of scope result s) ≡ true
       stmt_small scope names (Trees.BlockStmt place items) all listed = block_small (entered scope) (entered_small scope names) items all listed
       stmt_small scope names (Trees.Empty place) all listed = refl
       stmt_small scope names (Trees.Expression value) all listed = unused_small structs scope names value all listed
       stmt_small scope names (Trees.If place condition taken) all listed =
-          and_from (has_small structs (test_of scope condition)) (stmt_has_small structs (stmt_of scope result taken))
+          and_from (makes (is_small structs) (test_of scope condition)) (stmt_makes (is_small structs) (stmt_of scope result taken))
           (test_of_small structs scope names condition (named_left structs (named_in scope condition) (named_in_stmt scope taken) all) (listed_left structs (literals_in condition) (literals_in_stmt taken) listed))
           (stmt_small scope names taken (named_right structs (named_in scope condition) (named_in_stmt scope taken) all) (listed_right structs (literals_in condition) (literals_in_stmt taken) listed))
       stmt_small scope names (Trees.IfElse place condition taken otherwise) all listed =
           let front = named_left structs (named_in scope condition ++ named_in_stmt scope taken) (named_in_stmt scope otherwise) all in
           let front_listed = listed_left structs (literals_in condition ++ literals_in_stmt taken) (literals_in_stmt otherwise) listed in
-          and_from (has_small structs (test_of scope condition) && stmt_has_small structs (stmt_of scope result taken)) (stmt_has_small structs (stmt_of scope result otherwise))
-          (and_from (has_small structs (test_of scope condition)) (stmt_has_small structs (stmt_of scope result taken))
+          and_from (makes (is_small structs) (test_of scope condition) && stmt_makes (is_small structs) (stmt_of scope result taken)) (stmt_makes (is_small structs) (stmt_of scope result otherwise))
+          (and_from (makes (is_small structs) (test_of scope condition)) (stmt_makes (is_small structs) (stmt_of scope result taken))
           (test_of_small structs scope names condition (named_left structs (named_in scope condition) (named_in_stmt scope taken) front) (listed_left structs (literals_in condition) (literals_in_stmt taken) front_listed))
           (stmt_small scope names taken (named_right structs (named_in scope condition) (named_in_stmt scope taken) front) (listed_right structs (literals_in condition) (literals_in_stmt taken) front_listed)))
           (stmt_small scope names otherwise (named_right structs (named_in scope condition ++ named_in_stmt scope taken) (named_in_stmt scope otherwise) all)
           (listed_right structs (literals_in condition ++ literals_in_stmt taken) (literals_in_stmt otherwise) listed))
       stmt_small scope names (Trees.While place condition body) all listed =
-          and_from (has_small structs (test_of scope condition)) (stmt_has_small structs (stmt_of scope result body))
+          and_from (makes (is_small structs) (test_of scope condition)) (stmt_makes (is_small structs) (stmt_of scope result body))
           (test_of_small structs scope names condition (named_left structs (named_in scope condition) (named_in_stmt scope body) all) (listed_left structs (literals_in condition) (literals_in_stmt body) listed))
           (stmt_small scope names body (named_right structs (named_in scope condition) (named_in_stmt scope body) all) (listed_right structs (literals_in condition) (literals_in_stmt body) listed))
       stmt_small scope names (Trees.Do place body condition) all listed =
-          and_from (stmt_has_small structs (stmt_of scope result body)) (has_small structs (test_of scope condition))
+          and_from (stmt_makes (is_small structs) (stmt_of scope result body)) (makes (is_small structs) (test_of scope condition))
           (stmt_small scope names body (named_left structs (named_in_stmt scope body) (named_in scope condition) all) (listed_left structs (literals_in_stmt body) (literals_in condition) listed))
           (test_of_small structs scope names condition (named_right structs (named_in_stmt scope body) (named_in scope condition) all) (listed_right structs (literals_in_stmt body) (literals_in condition) listed))
       stmt_small scope names (Trees.For place start condition step body) all listed =
@@ -154,10 +154,10 @@ module _ (structs : List StructDef) where
           let listed_three = listed_left structs (l_start ++ l_condition ++ l_step) l_body listed in
           let listed_two = listed_left structs (l_start ++ l_condition) l_step listed_three in
           let started = start_small (entered scope) (entered_small scope names) start (named_left structs n_start n_condition all_two) (listed_left structs l_start l_condition listed_two) in
-          let b_start = start_has_small structs (start_of (entered scope) start) in
-          let b_condition = any_has_small structs (mapped (test_of inside) condition) in
-          let b_step = any_has_small structs (mapped (unused inside) step) in
-          let b_body = stmt_has_small structs (stmt_of inside result body) in
+          let b_start = start_makes (is_small structs) (start_of (entered scope) start) in
+          let b_condition = any_makes (is_small structs) (mapped (test_of inside) condition) in
+          let b_step = any_makes (is_small structs) (mapped (unused inside) step) in
+          let b_body = stmt_makes (is_small structs) (stmt_of inside result body) in
           and_from (b_start && b_condition && b_step) b_body
           (and_from (b_start && b_condition) b_step
           (and_from b_start b_condition started.0
@@ -166,7 +166,7 @@ module _ (structs : List StructDef) where
           (stmt_small inside started.1 body (named_right structs (n_start ++ n_condition ++ n_step) n_body all) (listed_right structs (l_start ++ l_condition ++ l_step) l_body listed))
       stmt_small scope names (Trees.Switch place value items) all listed =
           let int_type = label_type (as_integer (place_of value) (expr scope value)).known in
-          and_from (has_small structs (switched int_type (value_of scope value))) (items_have_small structs (switch_of scope result int_type items))
+          and_from (makes (is_small structs) (switched int_type (value_of scope value))) (items_make (is_small structs) (switch_of scope result int_type items))
           (switched_small int_type (value_of scope value)
           (value_of_small structs scope names value (named_left structs (named_in scope value) (named_in_switch scope items) all) (listed_left structs (literals_in value) (literals_in_switch items) listed)))
           (switch_small scope names int_type items (named_right structs (named_in scope value) (named_in_switch scope items) all) (listed_right structs (literals_in value) (literals_in_switch items) listed))
@@ -174,7 +174,7 @@ module _ (structs : List StructDef) where
       stmt_small scope names (Trees.Continue place) all listed = refl
       stmt_small scope names (Trees.Return place value) all listed = mapped_small scope (value_as scope result) (value_as_small structs scope names result result_small) value all listed
 
-      pub block_small : (scope : Scope) → SmallNames structs scope → (b : BlockTree) → Named structs (named_in_block scope b) → Listed structs (literals_in_block b) → block_has_small structs (block_of scope result b) ≡ true
+      pub block_small : (scope : Scope) → SmallNames structs scope → (b : BlockTree) → Named structs (named_in_block scope b) → Listed structs (literals_in_block b) → block_makes (is_small structs) (block_of scope result b) ≡ true
       block_small scope names Trees.Close all listed = refl
       block_small scope names (Trees.Declare tree others) all listed =
           let behind = (declaration scope tree).scope in
@@ -182,17 +182,17 @@ module _ (structs : List StructDef) where
           each_small (declared_locals scope tree) (block_of behind result others) declared.0
           (block_small behind declared.1 others (named_right structs (named_in_declaration scope tree) (named_in_block behind others) all) (listed_right structs (literals_in_declarators tree.declarators) (literals_in_block others) listed))
       block_small scope names (Trees.Perform one others) all listed =
-          and_from (stmt_has_small structs (stmt_of scope result one)) (block_has_small structs (block_of scope result others))
+          and_from (stmt_makes (is_small structs) (stmt_of scope result one)) (block_makes (is_small structs) (block_of scope result others))
           (stmt_small scope names one (named_left structs (named_in_stmt scope one) (named_in_block scope others) all) (listed_left structs (literals_in_stmt one) (literals_in_block others) listed))
           (block_small scope names others (named_right structs (named_in_stmt scope one) (named_in_block scope others) all) (listed_right structs (literals_in_stmt one) (literals_in_block others) listed))
 
       switch_small : (scope : Scope) → SmallNames structs scope → (int_type : Option IntType) (items : SwitchTree) → Named structs (named_in_switch scope items) → Listed structs (literals_in_switch items)
-          → items_have_small structs (switch_of scope result int_type items) ≡ true
+          → items_make (is_small structs) (switch_of scope result int_type items) ≡ true
       switch_small scope names int_type Trees.SwitchEnd all listed = refl
       switch_small scope names int_type (Trees.Case place value others) all listed =
           switch_small scope names int_type others (named_right structs (named_in scope value) (named_in_switch scope others) all) (listed_right structs (literals_in value) (literals_in_switch others) listed)
       switch_small scope names int_type (Trees.Default place others) all listed = switch_small scope names int_type others all listed
       switch_small scope names int_type (Trees.SwitchStmt one others) all listed =
-          and_from (stmt_has_small structs (stmt_of scope result one)) (items_have_small structs (switch_of scope result int_type others))
+          and_from (stmt_makes (is_small structs) (stmt_of scope result one)) (items_make (is_small structs) (switch_of scope result int_type others))
           (stmt_small scope names one (named_left structs (named_in_stmt scope one) (named_in_switch scope others) all) (listed_left structs (literals_in_stmt one) (literals_in_switch others) listed))
           (switch_small scope names int_type others (named_right structs (named_in_stmt scope one) (named_in_switch scope others) all) (listed_right structs (literals_in_stmt one) (literals_in_switch others) listed))

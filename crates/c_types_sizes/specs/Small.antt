@@ -3,7 +3,7 @@ use Rattle.std.specs.Prelude.{◌≡◌, Bool, true, ◌&&◌, List, [], ◌∷�
 use Rattle.c_typed.specs.Types.{CType, CTypes, Pointer, Array, Function, NoTypes, MoreTypes, literal_type}
 use Rattle.c_typed.specs.Layouts.{StructDef, MemberDef}
 use Rattle.c_typed.specs.Typed.{LiteralDef}
-use Rattle.c_well_typed.specs.Sizes.{is_small, has_small, object_has_small, designator_has_small}
+use Rattle.c_well_typed.specs.Sizes.{is_small, makes, object_makes, designator_makes}
 use Rattle.c_rules.specs.Names.{Scope, FileName, LocalName, Meaning, Local, Outer, Library, locals_in}
 use Rattle.c_rules.specs.Known.{Checked, Known, TypedExpr, OfValue, OfObject, OfFunction, OfLibrary}
 use Rattle.c_rules.specs.Operators.{ArgumentValue}
@@ -72,9 +72,9 @@ module _ (structs : List StructDef) where
 
   -- expressions
   abbrev pub typed_small : TypedExpr → Bool
-  typed_small (OfValue value) = has_small structs value
-  typed_small (OfObject object) = object_has_small structs object
-  typed_small (OfFunction function) = designator_has_small structs function
+  typed_small (OfValue value) = makes (is_small structs) value
+  typed_small (OfObject object) = object_makes (is_small structs) object
+  typed_small (OfFunction function) = designator_makes (is_small structs) function
   typed_small (OfLibrary function groups) = true
 
   abbrev pub KnownSmall : Known → Type 0

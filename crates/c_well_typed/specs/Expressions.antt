@@ -80,10 +80,14 @@ abbrev pub member_of : List StructDef → ℕ → CType → Option CType
 member_of structs number (Struct tag) = member_type (slice_get (known_members (members_by_tag structs tag)) number)
 member_of structs number _ = None
 
--- What a function gives for arguments of these types (C17 6.5.2.2 paragraph 2). A call whose value isn't used gives nothing: the
--- function may end without one (6.9.1 paragraph 12).
+abbrev pub all_scalar : CTypes → Bool
+all_scalar NoTypes = true
+all_scalar (MoreTypes first others) = is_scalar first && all_scalar others
+
+-- What a function gives for arguments of these types (C17 6.5.2.2 paragraph 2); it takes scalars, and gives one or nothing. A call whose
+-- value isn't used gives nothing: the function may end without one (6.9.1 paragraph 12).
 abbrev pub result_of : CTypes → CType → Option CType
-result_of arguments (Function result parameters) = where_holds (same_types parameters arguments && (is_scalar result || is_void result)) result
+result_of arguments (Function result parameters) = where_holds (all_scalar parameters && same_types parameters arguments && (is_scalar result || is_void result)) result
 result_of arguments _ = None
 
 -- `free` takes any pointer to objects (C17 7.22.3.3)

@@ -1,4 +1,4 @@
--- The typed tree of an accepted text is well typed, and the types that its objects get have exact sizes.
+-- The typed tree of an accepted text is well typed, and the types that its objects get have exact sizes and a byte at least.
 use Rattle.std.proofs.Common.{◌≡◌, ℕ, List, is_some, refl, ap, ◌∙◌}
 use Rattle.c_syntax.specs.Trees.{ProgramTree}
 use Rattle.c_typed.specs.Typed.{Program}

@@ -4,7 +4,7 @@ ghost use Rattle.std.specs.Prelude.{◌≡◌, ◌≢◌, ℕ, ◌<◌, ◌≤�
 ghost use Rattle.pcc_outside.specs.Outside.{Rose, Missing, Holds};
 ghost use Rattle.c_typed.specs.DefinitionViews.{program_of, ProgramStands};
 ghost use Rattle.c_well_typed.specs.Programs.{IsWellTyped};
-ghost use Rattle.c_well_typed.specs.Sizes.{HasSmallTypes};
+ghost use Rattle.c_well_typed.specs.Sizes.{HasStorableTypes};
 ghost use Rattle.ref_meaning.specs.Running.{behaviour_of};
 ghost use Rattle.poolcc.specs.Premises.{AReadFailed, NoneFailed, AnswersMissing};
 ghost use Rattle.poolcc.specs.Exec.{IsUsage, source_limit};
@@ -88,7 +88,7 @@ fn ref_program<I: Source, O: Sink>(
 ) -> RefEnd
     requires stands { ProgramStands program.now }
     requires well_typed { IsWellTyped (program_of program.now) }
-    requires small { HasSmallTypes (program_of program.now) }
+    requires storable { HasStorableTypes (program_of program.now) }
     ensures gives { (left base : List ℕ) → I.left input.old ≡ Some left → O.written out.old ≡ Some base
         → ProgramGives (behaviour_of (program_of program.now) left steps) base result (I.left input.new) (O.written out.new) }
     ensures read_cause { result ≡ RefEnd.ReadFault → Rose (I.faults input.old) (I.faults input.new) }

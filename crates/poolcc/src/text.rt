@@ -7,7 +7,7 @@ ghost use Rattle.c_rules.specs.Elaborated as elaborated;
 ghost use Rattle.c_typed.specs.DefinitionViews.{program_of as typed_program_of, ProgramStands};
 ghost use Rattle.c_sizes.specs.TypedNodes.{program_nodes, greatest_nodes};
 ghost use Rattle.c_well_typed.specs.Programs.{IsWellTyped};
-ghost use Rattle.c_well_typed.specs.Sizes.{HasSmallTypes};
+ghost use Rattle.c_well_typed.specs.Sizes.{HasStorableTypes};
 ghost use Rattle.c_token.specs.Leaves.{Leaf, leaves_of};
 ghost use Rattle.c_lexer.specs.Tokens.{Divides};
 ghost use Rattle.c_syntax.specs.Views.{program_tree};
@@ -116,7 +116,7 @@ pub fn typed_program(alloc: Global, text: &[u8]) -> Result<c_typed::Program, Sto
     ensures found { IfOk result (λ typed.
         (program : whole.ProgramTree) × IsAccepted text.now program × (typed_program_of typed ≡ elaborated.typed_of program)) }
     ensures well_typed { IfOk result (λ typed. IsWellTyped (typed_program_of typed)) }
-    ensures small { IfOk result (λ typed. HasSmallTypes (typed_program_of typed)) }
+    ensures storable { IfOk result (λ typed. HasStorableTypes (typed_program_of typed)) }
     ensures stands { IfOk result ProgramStands }
     ensures stop { IfErr result (IsStop text.now) }
     ensures at_once { IfErr result IsAtOnce }

@@ -7,7 +7,7 @@ ghost use Rattle.c_typed.specs.Table.{Interned};
 ghost use Rattle.c_typed.specs.Typed.{SwitchItems};
 ghost use Rattle.c_typed.specs.DefinitionViews.{program_of, ProgramStands};
 ghost use Rattle.c_well_typed.specs.Programs.{IsWellTyped};
-ghost use Rattle.c_well_typed.specs.Sizes.{HasSmallTypes};
+ghost use Rattle.c_well_typed.specs.Sizes.{HasStorableTypes};
 ghost use Rattle.ref_steps.specs.Steps.{ScalarGiven, Search, First};
 ghost use Rattle.ref_steps.specs.Units.{takes_unit};
 ghost use Rattle.ref_store.specs.Views.{scalar_in, ScalarStands};
@@ -124,7 +124,7 @@ impl<'a> RefRun<'a> {
     pub fn new(alloc: Global, program: &'a Program) -> Result<RefRun<'a>, AllocError>
         requires stand { ProgramStands program.now }
         requires well_typed { IsWellTyped (program_of program.now) }
-        requires small { HasSmallTypes (program_of program.now) }
+        requires storable { HasStorableTypes (program_of program.now) }
         ensures stands { IfOk result (λ run. StandsFor run [] (behaviour_of (program_of program.now))) }
         ensures spent { IfOk result (λ run. run.spent ≡ 0) }
     {

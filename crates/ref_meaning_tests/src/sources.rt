@@ -3,7 +3,7 @@
 ghost use Rattle.std.specs.Prelude.{IfOk};
 ghost use Rattle.c_typed.specs.DefinitionViews.{program_of, ProgramStands};
 ghost use Rattle.c_well_typed.specs.Programs.{IsWellTyped};
-ghost use Rattle.c_well_typed.specs.Sizes.{HasSmallTypes};
+ghost use Rattle.c_well_typed.specs.Sizes.{HasStorableTypes};
 
 use c_lexer::tokens;
 use c_reader::read;
@@ -16,7 +16,7 @@ use std::alloc::{AllocError, Global};
 pub(crate) fn program(alloc: Global, text: &str) -> Result<Program, AllocError>
     ensures stands { IfOk result ProgramStands }
     ensures well_typed { IfOk result (λ made. IsWellTyped (program_of made)) }
-    ensures small { IfOk result (λ made. HasSmallTypes (program_of made)) }
+    ensures storable { IfOk result (λ made. HasStorableTypes (program_of made)) }
 {
     if text.len() > 1_048_576 {
         return Err(AllocError);

@@ -6,7 +6,7 @@
 ghost use Rattle.std.specs.Prelude.{◌≤◌, length};
 ghost use Rattle.c_typed.specs.DefinitionViews.{program_of, ProgramStands};
 ghost use Rattle.c_well_typed.specs.Programs.{IsWellTyped};
-ghost use Rattle.c_well_typed.specs.Sizes.{HasSmallTypes};
+ghost use Rattle.c_well_typed.specs.Sizes.{HasStorableTypes};
 
 use c_lexer::{LexErr, tokens};
 use c_reader::{SyntaxErr, read};
@@ -35,7 +35,7 @@ struct Ran {
 fn run(alloc: Global, program: &c_typed::Program) -> Result<Ran, AllocError>
     requires stands { ProgramStands program.now }
     requires well_typed { IsWellTyped (program_of program.now) }
-    requires small { HasSmallTypes (program_of program.now) }
+    requires storable { HasStorableTypes (program_of program.now) }
 {
     let mut run = RefRun::new(alloc, program)?;
     let mut input = MemSource::new(Vec::new(alloc), Vec::new(alloc), 1);
@@ -79,7 +79,7 @@ fn answer_program<W: Write>(
 ) -> io::Result<()>
     requires stands { ProgramStands program.now }
     requires well_typed { IsWellTyped (program_of program.now) }
-    requires small { HasSmallTypes (program_of program.now) }
+    requires storable { HasStorableTypes (program_of program.now) }
 {
     let ran = run(alloc, program)?;
     write_end(ran.end, out)?;

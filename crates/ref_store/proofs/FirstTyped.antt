@@ -15,7 +15,7 @@ use Rattle.c_typed.specs.DefinitionViews.{program_of, global_in, all_first, Glob
 use Rattle.c_well_typed.specs.Expressions.{given, is_scalar}
 use Rattle.c_well_typed.specs.Programs.{IsWellTyped, RowType, one_of, row_within, row_at, is_place, is_first, is_held, all_held, are_globals, are_structs}
 use Rattle.c_well_typed.specs.Programs as rules
-use Rattle.c_well_typed.specs.Sizes.{HasSmallTypes, is_small, globals_have_small, literals_have_small, functions_have_small}
+use Rattle.c_well_typed.specs.Sizes.{HasStorableTypes, is_small, fills, is_storable, globals_make, literals_make, functions_make}
 use Rattle.ref_semantics.specs.First.{around_of, name_of, stepped}
 use Rattle.ref_semantics.specs.Values.{Name, Heap, Place, object_place}
 use Rattle.ref_typing.specs.Rows.{Whole}
@@ -58,7 +58,7 @@ module _ (program : Program) (state : State) (root : CType) (name : Name) where
 
 -- ---- first values
 
-module _ (program : Program) (well : IsWellTyped program) (small : HasSmallTypes program) where
+module _ (program : Program) (well : IsWellTyped program) (storable : HasStorableTypes program) where
   abbrev state : State
   state = first_state program [] 0
 
@@ -70,7 +70,7 @@ module _ (program : Program) (well : IsWellTyped program) (small : HasSmallTypes
       by_row t root None at is = absurd (false≢true (rw is at h))
       by_row t root (Some row) at is =
           let parts = and_parts (nat_le place.index row.count) (is_like_void program.completed target || same_type row.element target) (rw is at h) in
-          subst (λ c_type. StepsLead (around_of program) (object_place (name_of place.root) c_type) place.steps place.index) (sym (root_static program well small [] 0 place.root t root).0)
+          subst (λ c_type. StepsLead (around_of program) (object_place (name_of place.root) c_type) place.steps place.index) (sym (root_static program well storable [] 0 place.root t root).0)
           (object_leads program state t (name_of place.root) place.steps row place.index at (leb-true place.index row.count parts.0))
 
       by_type : (known : Option CType) → rules.static_type program place.root ≡ known → PlaceLeads program place
@@ -108,23 +108,24 @@ module _ (program : Program) (well : IsWellTyped program) (small : HasSmallTypes
   all_lead t (one ∷ others) h = let parts = and_parts (is_held program t one) (all_held program t others) h in (held_leads t one parts.0, all_lead t others parts.1)
 
   fit_all : (table : Interned) → structs_in table ≡ program.structs → (globals : List memory_global.GlobalDef) → GlobalsStand table globals → are_globals program (map (global_in table) globals) ≡ true
-      → globals_have_small program.structs (map (global_in table) globals) ≡ true → GlobalsFit program table globals
+      → globals_make (is_storable program.structs) (map (global_in table) globals) ≡ true → GlobalsFit program table globals
   fit_all table same [] stand typed sized = tt
   fit_all table same (global ∷ others) stand typed sized =
       let t = type_in table global.c_type in
       let held = all_first global.first.items in
       let known = and_parts (is_complete program.structs t && all_held program t held) (are_globals program (map (global_in table) others)) typed in
       let own = and_parts (is_complete program.structs t) (all_held program t held) known.0 in
-      let sizes = and_parts (is_small program.structs t) (globals_have_small program.structs (map (global_in table) others)) sized in (
-        (small_object table global.c_type (ap are_structs same ∙ well_structs program well) stand.0 (ap (λ s. is_small s t) same ∙ sizes.0), all_lead t held own.1),
+      let sizes = and_parts (is_storable program.structs t) (globals_make (is_storable program.structs) (map (global_in table) others)) sized in
+      let small = (and_parts (is_small program.structs t) (fills program.structs t) sizes.0).0 in (
+        (small_object table global.c_type (ap are_structs same ∙ well_structs program well) stand.0 (ap (λ s. is_small s t) same ∙ small), all_lead t held own.1),
         fit_all table same others stand.1 known.1 sizes.1,
       )
 
 -- the variables of a program
-pub globals_fit : (program : memory_program.Program) → ProgramStands program → IsWellTyped (program_of program) → HasSmallTypes (program_of program)
+pub globals_fit : (program : memory_program.Program) → ProgramStands program → IsWellTyped (program_of program) → HasStorableTypes (program_of program)
     → GlobalsFit (program_of program) program.types program.globals.items
-globals_fit program stand well small =
+globals_fit program stand well storable =
     let typed = program_of program in
-    let sizes = and_parts (globals_have_small typed.structs typed.globals && literals_have_small typed.structs typed.literals) (functions_have_small typed.structs typed.functions) small in
-    let own = and_parts (globals_have_small typed.structs typed.globals) (literals_have_small typed.structs typed.literals) sizes.0 in
-    fit_all typed well small program.types refl program.globals.items stand.globals (well_globals typed well) own.0
+    let sizes = and_parts (globals_make (is_storable typed.structs) typed.globals && literals_make (is_storable typed.structs) typed.literals) (functions_make (is_storable typed.structs) typed.functions) storable.1 in
+    let own = and_parts (globals_make (is_storable typed.structs) typed.globals) (literals_make (is_storable typed.structs) typed.literals) sizes.0 in
+    fit_all typed well storable program.types refl program.globals.items stand.globals (well_globals typed well) own.0

@@ -5,7 +5,7 @@ ghost use Rattle.c_typed.specs.Types as types;
 ghost use Rattle.c_typed.specs.Table.{type_in, structs_in};
 ghost use Rattle.c_typed.specs.DefinitionViews.{program_of, first_of, literal_of, scalar_of, static_of, ProgramStands, LiteralStands, LiteralsStand};
 ghost use Rattle.c_well_typed.specs.Programs.{IsWellTyped};
-ghost use Rattle.c_well_typed.specs.Sizes.{HasSmallTypes};
+ghost use Rattle.c_well_typed.specs.Sizes.{HasStorableTypes};
 ghost use Rattle.ref_semantics.specs.Values as meaning;
 ghost use Rattle.ref_semantics.specs.Values.{object_place};
 ghost use Rattle.ref_semantics.specs.Store.{TypeEnvironment, State, with_content};
@@ -43,7 +43,7 @@ impl<'a> Store<'a> {
     pub fn new(alloc: Global, program: &'a Program) -> Result<Store<'a>, AllocError>
         requires stand { ProgramStands program.now }
         requires well_typed { IsWellTyped (program_of program.now) }
-        requires small { HasSmallTypes (program_of program.now) }
+        requires storable { HasStorableTypes (program_of program.now) }
         ensures stands { (input : List ℕ) (units : ℕ) → IfOk result (λ store.
             At (around_of (program_of program.now)) store 0 (first_state (program_of program.now) input units)) }
         ensures types { IfOk result (λ store. store.types.now ≡ program.now.types) }

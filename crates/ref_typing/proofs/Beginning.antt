@@ -20,11 +20,12 @@ use Rattle.c_well_typed.specs.Context.{global_type, function_type, literal_bytes
 use Rattle.c_well_typed.specs.Expressions.{given, is_scalar, member_of}
 use Rattle.c_well_typed.specs.Programs.{IsWellTyped, RowType, one_of, row_within, row_at, is_place, is_first, is_held, all_held, is_global, are_globals}
 use Rattle.c_well_typed.specs.Programs as rules
-use Rattle.c_well_typed.specs.Sizes.{HasSmallTypes, is_small, globals_have_small, literals_have_small}
+use Rattle.c_well_typed.specs.Sizes.{HasStorableTypes, is_small, globals_make, literals_make, is_storable}
 use Rattle.ref_semantics.specs.First.{around_of, type_of_global, literal_at, option_type, or_void, static_type, name_of, stepped, walked, first_place, first_scalar, first_held, global_content, characters, literal_content, first_objects, first_state}
 use Rattle.ref_semantics.specs.Values.{Name, Heap, GlobalObject, LiteralObject, LocalObject, Place, Scalar, IntegerValue, Dead, Elements, whole_row, first_of_row, object_place, at_index}
 use Rattle.ref_semantics.specs.Store.{State, offset_of, member_at, decayed, inner_row}
 use Rattle.ref_typing.specs.Rows.{RowOf, Whole, InArray, InStruct, LeafAt, element_offset}
+use Rattle.ref_typing.proofs.Storable.{storable_small, storable_filled}
 use Rattle.ref_typing.specs.Sound.{HasType, StandsIn, IsPlace, WasGiven, HoldsTyped, IsSoundContent, IsStatic, Sound}
 use Rattle.ref_typing.proofs.WellTyped.{well_globals, found_member}
 use Rattle.ref_typing.proofs.Pointing.{member_row_is}
@@ -156,7 +157,7 @@ literal_is (first ∷ others) place bytes is = by (is_same_place first.place pla
     by true is rest = (first, refl, same_Some first.bytes bytes is)
     by false is rest = rest is
 
-module _ (program : Program) (well : IsWellTyped program) (small : HasSmallTypes program) (input : List ℕ) (units : ℕ) where
+module _ (program : Program) (well : IsWellTyped program) (storable : HasStorableTypes program) (input : List ℕ) (units : ℕ) where
   -- a variable outside functions has its type
   global_stands : (globals : List GlobalDef) (name : List ℕ) (t : CType) → global_type globals name ≡ Some t
       → (held : ℕ → Option Scalar) × (global_content program globals name ≡ Elements true t 1 held)
@@ -300,15 +301,21 @@ module _ (program : Program) (well : IsWellTyped program) (small : HasSmallTypes
           (leaf.0, subst (λ k. LeafAt program.structs t 1 k leaf.0) (eqb-true _ offset same) leaf.1, subst (HasType program (first_state program input units) leaf.0) (same_Some (first_scalar program one.value) value is) leaf.2)
       by false same is leaf rest = rest is
 
-  globals_hold : (globals : List GlobalDef) (name : List ℕ) → are_globals program globals ≡ true → globals_have_small program.structs globals ≡ true
+  globals_hold : (globals : List GlobalDef) (name : List ℕ) → are_globals program globals ≡ true → globals_make (is_storable program.structs) globals ≡ true
       → IsSoundContent program (first_state program input units) (global_content program globals name)
   globals_hold [] name h sizes = tt
   globals_hold (first ∷ others) name h sizes =
       let parts = and_parts (is_global program first) (are_globals program others) h in
       let own = and_parts (is_complete program.structs first.c_type) (all_held program first.c_type first.first) parts.0 in
-      let own_sizes = and_parts (is_small program.structs first.c_type) (globals_have_small program.structs others) sizes in
+      let own_sizes = and_parts (is_storable program.structs first.c_type) (globals_make (is_storable program.structs) others) sizes in
       by (bytes_eq first.name name)
-      (record { complete = own.0; small = ltb-true (layout_of program.structs first.c_type).size greatest own_sizes.0; leaves = held_stands first.c_type first.first own.1 })
+      (record {
+        complete = own.0;
+        small = storable_small program.structs first.c_type own_sizes.0;
+        filled = storable_filled program.structs first.c_type own_sizes.0 own.0;
+        some = omega arith;
+        leaves = held_stands first.c_type first.first own.1;
+      })
       (globals_hold others name parts.1 own_sizes.1)
     where
       by : (same : Bool) → HoldsTyped program (first_state program input units) first.c_type 1 (first_held program first.c_type first.first)
@@ -343,15 +350,17 @@ module _ (program : Program) (well : IsWellTyped program) (small : HasSmallTypes
     stands = omega arith;
   }
 
-  literals_hold : (literals : List LiteralDef) (place : Pos) → literals_have_small program.structs literals ≡ true
+  literals_hold : (literals : List LiteralDef) (place : Pos) → literals_make (is_storable program.structs) literals ≡ true
       → IsSoundContent program (first_state program input units) (literal_content (literal_at literals place))
   literals_hold [] place sizes = tt
   literals_hold (first ∷ others) place sizes =
-      let own_sizes = and_parts (is_small program.structs (literal_type first.bytes)) (literals_have_small program.structs others) sizes in
+      let own_sizes = and_parts (is_storable program.structs (literal_type first.bytes)) (literals_make (is_storable program.structs) others) sizes in
       by (is_same_place first.place place)
       (record {
         complete = refl;
-        small = ltb-true (layout_of program.structs (literal_type first.bytes)).size greatest own_sizes.0;
+        small = storable_small program.structs (literal_type first.bytes) own_sizes.0;
+        filled = storable_filled program.structs (literal_type first.bytes) own_sizes.0 refl;
+        some = omega arith;
         leaves = λ offset value is. let one = characters_typed first.bytes offset value is in (Integer I.Char, character_stands first.bytes offset one.0, one.1);
       })
       (literals_hold others place own_sizes.1)
@@ -364,9 +373,9 @@ module _ (program : Program) (well : IsWellTyped program) (small : HasSmallTypes
 
   -- ---- the first state
 
-  all_sizes : (globals_have_small program.structs program.globals ≡ true) × (literals_have_small program.structs program.literals ≡ true)
-  all_sizes = and_parts (globals_have_small program.structs program.globals) (literals_have_small program.structs program.literals)
-      (and_parts (globals_have_small program.structs program.globals && literals_have_small program.structs program.literals) _ small).0
+  all_sizes : (globals_make (is_storable program.structs) program.globals ≡ true) × (literals_make (is_storable program.structs) program.literals ≡ true)
+  all_sizes = and_parts (globals_make (is_storable program.structs) program.globals) (literals_make (is_storable program.structs) program.literals)
+      (and_parts (globals_make (is_storable program.structs) program.globals && literals_make (is_storable program.structs) program.literals) _ storable.1).0
 
   first_contents : (name : Name) → IsSoundContent program (first_state program input units) (first_objects program name)
   first_contents (Heap number) = tt

@@ -118,10 +118,12 @@ module _ (program : Program) {before after : State} (goes : Goes before after) w
 
   pub content_goes : (content : Content) → IsSoundContent program before content → IsSoundContent program after content
   content_goes Dead h = tt
-  content_goes (Raw size) h = tt
+  content_goes (Raw size) h = h
   content_goes (Elements s t n held) h = record {
     complete = h.complete;
     small = h.small;
+    filled = h.filled;
+    some = h.some;
     leaves = λ offset value e. let leaf = h.leaves offset value e in (leaf.0, leaf.1, type_goes leaf.0 value leaf.2);
   }
 

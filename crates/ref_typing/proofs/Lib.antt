@@ -3,13 +3,13 @@ pub mod Stays
 pub mod Placed
 pub mod Inward
 pub mod Sized
+pub mod Storable
 pub mod Leaves
 pub mod Lasting
 pub mod Objects
 pub mod WellTyped
 pub mod Pointing
 pub mod Storing
-pub mod Splitting
 pub mod Operating
 pub mod ValuesKeep
 pub mod StatementsKeep

@@ -28,7 +28,8 @@ use Rattle.ref_semantics.specs.Meaning.{Calls, outcome_at, converted, right_of, 
 use Rattle.ref_typing.specs.Sound.{HasType, HaveTypes, Sound}
 use Rattle.ref_typing.specs.Keeping.{IsElement, CallsKeep}
 use Rattle.ref_typing.proofs.Lasting.{GivesAt, give_gives, undefined_gives}
-use Rattle.ref_typing.proofs.Splitting.{held_parts, to_complete, Called, function_is, some_is}
+use Rattle.c_well_typed.proofs.Splitting.{held_parts, to_complete, Called, function_is, some_is}
+use Rattle.ref_typing.proofs.WellTyped.{well_functions}
 use Rattle.ref_typing.proofs.Pointing.{complete_object, element_address, decayed_address, member_element, member_complete, added_keeps}
 
 -- ---- integers
@@ -85,7 +86,7 @@ module _ (program : Program) (state : State) where
     member_address_type number own t p is h = address_type t (member_at (around_of program) p number) (member_complete program well number own t is) (member_type number own t p is h)
 
     pub function_type_is : (name : List ℕ) (t : CType) → function_type program.functions name ≡ Some t → HasType program state (Pointer t) (FunctionValue name)
-    function_type_is name t is = (function_is program well name t is, some_is (function_type program.functions name) t is)
+    function_type_is name t is = (function_is program (well_functions program well) name t is, some_is (function_type program.functions name) t is)
 
 -- ---- evaluations
 

@@ -21,7 +21,9 @@ use Rattle.ref_semantics.specs.Values.{Name, Heap, GlobalObject, LiteralObject, 
 use Rattle.ref_semantics.specs.Store.{State, give, store_content, premise, member_at, member_row, members_of, inner_row, known_type, offset_of, decayed, size_of, row_of, is_null_pointer, is_dead_pointer}
 use Rattle.ref_semantics.specs.Pointers.{truth, accessed, added, element, of_allocation, retyped, repointed, tested, compared_pointers, difference, index_moved, is_negative, is_above, is_at_least, or_zero, is_equality, truth_of_equality, are_equal, index_of, is_end_beside, are_in_one_row}
 use Rattle.ref_semantics.specs.Meaning.{named, local_name, local_place}
-use Rattle.ref_typing.specs.Rows.{Whole, InArray, InStruct, IsSmall}
+use Rattle.ref_typing.specs.Rows.{Whole, InArray, InStruct}
+use Rattle.c_well_typed.specs.Sizes.{is_storable}
+use Rattle.ref_typing.proofs.Storable.{storable_small, storable_filled, some_elements}
 use Rattle.ref_typing.specs.Sound.{HasType, StandsIn, IsPlace, Sound, IsStatic, AreLocals, HoldsTyped, IsSoundContent, WasGiven, MayBecome}
 use Rattle.ref_typing.specs.Keeping.{IsElement}
 use Rattle.ref_typing.proofs.Lasting.{GivesAt, give_gives, undefined_gives, objects_gives, if_gives, unless_gives, guarded}
@@ -306,16 +308,22 @@ module _ (program : Program) (well : IsWellTyped program) (locals : List CType) 
   neither true h = false≢true h
   neither false h = false≢true h
 
-  of_allocation_keeps : (here : Pos) (target : CType) (number : ℕ) → is_complete program.structs target ≡ true → is_function target ≡ false → IsSmall program.structs target → number < before.next_heap
+  of_allocation_keeps : (here : Pos) (target : CType) (number : ℕ) → is_complete program.structs target ≡ true → is_function target ≡ false → is_storable program.structs target ≡ true → number < before.next_heap
       → (content : Content) → before.objects (Heap number) ≡ content
       → GivesAt (record { program = program; locals = locals }) (λ after value. HasType program after (Pointer target) value) (of_allocation (around_of program) here target number content) before
-  of_allocation_keeps here target number complete object small given (Raw size) is =
+  of_allocation_keeps here target number complete object storable given (Raw size) is =
       let count = size / size_of (around_of program) target in
       let content = Elements false target count (λ offset. None) in
       let value = PointerValue (first_of_row (Heap number) (whole_row target count)) in
       guarded here (premise (not (size % size_of (around_of program) target == 0)) Ub.U13 ∷ []) (store_content (Heap number) content (give value)) refl (λ none.
       store_gives {rest = give value} (Heap number) content sound given (subst (λ c. MayBecome c content) (sym is) tt) (λ other. absurd (other tt))
-      (record { complete = complete; small = small; leaves = λ offset value e. absurd (none-some value e) })
+      (record {
+        complete = complete;
+        small = storable_small program.structs target storable;
+        filled = storable_filled program.structs target storable complete;
+        some = some_elements size (size_of (around_of program) target) (subst (IsSoundContent program before) is (sound.contents (Heap number))) none.0;
+        leaves = λ offset value e. absurd (none-some value e);
+      })
       (λ keeps.
       let typed : HasType program (stored before (Heap number) content) (Pointer target) value = (
         object,
@@ -326,29 +334,29 @@ module _ (program : Program) (well : IsWellTyped program) (locals : List CType) 
         λ known. refl,
       ) in
       give_gives {value = value} keeps.sound typed))
-  of_allocation_keeps here target number complete object small given (Elements s t n held) is =
+  of_allocation_keeps here target number complete object storable given (Elements s t n held) is =
       unless_gives here (premise (not (same_type t target)) Ub.U12 ∷ []) (λ none.
       let typed : HasType program before (Pointer target) (PointerValue (first_of_row (Heap number) (whole_row t n))) =
       (object, record { given = given; stands = whole_stands program before s t n held (Heap number) is }, λ known. same_type-true t target (not-false (same_type t target) none.0)) in
       give_gives sound typed)
-  of_allocation_keeps here target number complete object small given Dead is = undefined_gives
+  of_allocation_keeps here target number complete object storable given Dead is = undefined_gives
 
-  retyped_keeps : (here : Pos) (t target : CType) (value : Scalar) → is_function target ≡ is_function t → is_like_void program.completed target ≡ false → IsSmall program.structs target
+  retyped_keeps : (here : Pos) (t target : CType) (value : Scalar) → is_function target ≡ is_function t → is_like_void program.completed target ≡ false → is_storable program.structs target ≡ true
       → HasType program before (Pointer t) value
       → GivesAt (record { program = program; locals = locals }) (λ after value. HasType program after (Pointer target) value) (retyped (around_of program) here target value) before
-  retyped_keeps here t target (IntegerValue z) same known small typed = absurd typed
-  retyped_keeps here t target NullValue same known small typed = give_gives sound tt
-  retyped_keeps here t target (FunctionValue name) same known small typed =
+  retyped_keeps here t target (IntegerValue z) same known storable typed = absurd typed
+  retyped_keeps here t target NullValue same known storable typed = give_gives sound tt
+  retyped_keeps here t target (FunctionValue name) same known storable typed =
       let typed' : HasType program before (Pointer target) (FunctionValue name) = (same ∙ typed.0, typed.1) in
       give_gives sound typed'
-  retyped_keeps here t target (PointerValue place) same known small typed =
+  retyped_keeps here t target (PointerValue place) same known storable typed =
       unless_gives here (premise (not (same_type place.row.c_type target)) Ub.U12 ∷ []) (λ none.
       let typed' : HasType program before (Pointer target) (PointerValue place) =
       (same ∙ typed.0, typed.1, λ other. same_type-true place.row.c_type target (not-false (same_type place.row.c_type target) none.0)) in
       give_gives sound typed')
-  retyped_keeps here t target (RawPointer number) same known small typed =
+  retyped_keeps here t target (RawPointer number) same known storable typed =
       let object = same ∙ like_object program well t typed.0 in
-      objects_gives (λ objects. of_allocation (around_of program) here target number (objects (Heap number))) (of_allocation_keeps here target number (known_complete program well target known object) object small typed.1 (before.objects (Heap number)) refl)
+      objects_gives (λ objects. of_allocation (around_of program) here target number (objects (Heap number))) (of_allocation_keeps here target number (known_complete program well target known object) object storable typed.1 (before.objects (Heap number)) refl)
 
   as_void : (t target : CType) (value : Scalar) → is_function target ≡ is_function t → is_like_void program.completed target ≡ true → HasType program before (Pointer t) value
       → HasType program before (Pointer target) value
@@ -359,20 +367,20 @@ module _ (program : Program) (well : IsWellTyped program) (locals : List CType) 
   as_void t target (RawPointer number) same like typed = (like, typed.1)
 
   -- an allocation without a type gets one
-  pub repointed_keeps : (here : Pos) (t target : CType) (value : Scalar) → repoints t target ≡ true → IsSmall program.structs target → HasType program before t value
+  pub repointed_keeps : (here : Pos) (t target : CType) (value : Scalar) → repoints t target ≡ true → is_storable program.structs target ≡ true → HasType program before t value
       → GivesAt (record { program = program; locals = locals }) (λ after value. HasType program after (Pointer target) value) (repointed (around_of program) here target value) before
-  repointed_keeps here (Pointer t) target value repoints small typed =
+  repointed_keeps here (Pointer t) target value repoints storable typed =
       let same = same_kind (is_function target) (is_function t) repoints in
       guarded here (premise (is_dead_pointer before.objects value) Ub.U06 ∷ [])
       (if is_like_void program.completed target then give value else retyped (around_of program) here target value) refl
       (λ none. if_gives (is_like_void program.completed target)
       (λ like. give_gives sound (as_void t target value same like typed))
-      (λ known. retyped_keeps here t target value same known small typed))
-  repointed_keeps here Void target value repoints small typed = absurd (neither (is_function target) repoints)
-  repointed_keeps here (Integer t) target value repoints small typed = absurd (neither (is_function target) repoints)
-  repointed_keeps here (Array t n) target value repoints small typed = absurd (neither (is_function target) repoints)
-  repointed_keeps here (Struct tag) target value repoints small typed = absurd (neither (is_function target) repoints)
-  repointed_keeps here (Function t ts) target value repoints small typed = absurd (neither (is_function target) repoints)
+      (λ known. retyped_keeps here t target value same known storable typed))
+  repointed_keeps here Void target value repoints storable typed = absurd (neither (is_function target) repoints)
+  repointed_keeps here (Integer t) target value repoints storable typed = absurd (neither (is_function target) repoints)
+  repointed_keeps here (Array t n) target value repoints storable typed = absurd (neither (is_function target) repoints)
+  repointed_keeps here (Struct tag) target value repoints storable typed = absurd (neither (is_function target) repoints)
+  repointed_keeps here (Function t ts) target value repoints storable typed = absurd (neither (is_function target) repoints)
 
   -- ---- tests and comparisons
 

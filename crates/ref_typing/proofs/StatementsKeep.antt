@@ -12,7 +12,7 @@ use Rattle.c_well_typed.specs.Context.{Context}
 use Rattle.c_well_typed.specs.Expressions.{given, is_scalar, type_of}
 use Rattle.c_well_typed.specs.Statements.{Within, in_loop, in_switch, holds_for, is_expression, is_condition, is_of_type, if_any, is_return, is_local, are_locals, with_locals, is_start, with_start, is_label, is_stmt, is_block, are_items}
 use Rattle.c_well_typed.specs.Programs.{IsWellTyped}
-use Rattle.c_well_typed.specs.Sizes.{is_small, has_small, any_has_small, local_has_small, locals_have_small, start_has_small, stmt_has_small, block_has_small, items_have_small}
+use Rattle.c_well_typed.specs.Sizes.{is_small, makes, any_makes, local_makes, locals_make, start_makes, stmt_makes, block_makes, items_make, is_storable}
 use Rattle.ref_semantics.specs.First.{around_of}
 use Rattle.ref_semantics.specs.Values.{Place, Scalar, integer_of}
 use Rattle.ref_semantics.specs.Store.{State, Outcome, Then, Eval, ◌>>=◌, give}
@@ -120,41 +120,41 @@ TurnEnds program state result None = Unit {0}
 module _ (program : Program) (well : IsWellTyped program) (calls : Calls) (keep : CallsKeep program calls) where
   -- ---- expressions in statements
 
-  typed_value : (locals : List CType) (t : CType) (v : Value) → holds_for (same_type t) (type_of (record { program = program; locals = locals }) v) ≡ true → has_small program.structs v ≡ true
+  typed_value : (locals : List CType) (t : CType) (v : Value) → holds_for (same_type t) (type_of (record { program = program; locals = locals }) v) ≡ true → makes (is_storable program.structs) v ≡ true
       → (before : State) → Sound (record { program = program; locals = locals }) before
       → GivesAt (record { program = program; locals = locals }) (λ after a. HasType program after t a) (value (around_of program) calls v) before
   typed_value locals t v typed small before sound =
       let known = holds_for-some (same_type t) (type_of (record { program = program; locals = locals }) v) typed in
       record { gives = value_keeps program well calls keep locals v small t (known.1 ∙ ap Some (sym (same_type-true t known.0 known.2))) before sound }
 
-  some_value : (locals : List CType) (v : Value) → is_some (type_of (record { program = program; locals = locals }) v) ≡ true → has_small program.structs v ≡ true
+  some_value : (locals : List CType) (v : Value) → is_some (type_of (record { program = program; locals = locals }) v) ≡ true → makes (is_storable program.structs) v ≡ true
       → (before : State) → Sound (record { program = program; locals = locals }) before
       → GivesAt (record { program = program; locals = locals }) (λ after a. Unit {0}) (value (around_of program) calls v) before
   some_value locals v typed small before sound =
       let known = some_type (type_of (record { program = program; locals = locals }) v) typed in
       gives_as (record { gives = value_keeps program well calls keep locals v small known.0 known.1 before sound }) (λ a after keeps h. tt)
 
-  condition_value : (locals : List CType) (v : Value) → is_condition (record { program = program; locals = locals }) v ≡ true → has_small program.structs v ≡ true
+  condition_value : (locals : List CType) (v : Value) → is_condition (record { program = program; locals = locals }) v ≡ true → makes (is_storable program.structs) v ≡ true
       → (before : State) → Sound (record { program = program; locals = locals }) before
       → GivesAt (record { program = program; locals = locals }) (λ after a. Unit {0}) (value (around_of program) calls v) before
   condition_value locals v typed small before sound =
       let known = holds_for-some is_integer (type_of (record { program = program; locals = locals }) v) typed in
       gives_as (record { gives = value_keeps program well calls keep locals v small known.0 known.1 before sound }) (λ a after keeps h. tt)
 
-  any_condition : (locals : List CType) (v : Option Value) → if_any (is_condition (record { program = program; locals = locals })) v ≡ true → any_has_small program.structs v ≡ true
+  any_condition : (locals : List CType) (v : Option Value) → if_any (is_condition (record { program = program; locals = locals })) v ≡ true → any_makes (is_storable program.structs) v ≡ true
       → (before : State) → Sound (record { program = program; locals = locals }) before
       → GivesAt (record { program = program; locals = locals }) (λ after a. Unit {0}) (optional_value (value (around_of program) calls) v) before
   any_condition locals None typed small before sound = give_gives sound tt
   any_condition locals (Some v) typed small before sound = gives_then (condition_value locals v typed small before sound) (λ a middle keeps h. give_gives keeps.sound tt)
 
-  any_step : (locals : List CType) (v : Option Value) → if_any (is_expression (record { program = program; locals = locals })) v ≡ true → any_has_small program.structs v ≡ true
+  any_step : (locals : List CType) (v : Option Value) → if_any (is_expression (record { program = program; locals = locals })) v ≡ true → any_makes (is_storable program.structs) v ≡ true
       → (before : State) → Sound (record { program = program; locals = locals }) before
       → GivesAt (record { program = program; locals = locals }) (λ after a. Unit {0}) (optional_value (value (around_of program) calls) v) before
   any_step locals None typed small before sound = give_gives sound tt
   any_step locals (Some v) typed small before sound = gives_then (some_value locals v typed small before sound) (λ a middle keeps h. give_gives keeps.sound tt)
 
   -- a value that is returned is of the function's result
-  returned_value : (locals : List CType) (result : CType) (v : Option Value) → is_return (record { program = program; locals = locals }) result v ≡ true → any_has_small program.structs v ≡ true
+  returned_value : (locals : List CType) (result : CType) (v : Option Value) → is_return (record { program = program; locals = locals }) result v ≡ true → any_makes (is_storable program.structs) v ≡ true
       → (before : State) → Sound (record { program = program; locals = locals }) before
       → GivesAt (record { program = program; locals = locals }) (λ after a. EndsTyped program after result (Return a)) (optional_value (value (around_of program) calls) v) before
   returned_value locals result None typed small before sound = give_gives sound tt
@@ -165,7 +165,7 @@ module _ (program : Program) (well : IsWellTyped program) (calls : Calls) (keep 
   -- ---- locals
 
   first_value : (locals : List CType) (t : CType) (v : Option Value)
-      → if_any (λ value. is_scalar t && is_of_type (record { program = program; locals = t ∷ locals }) t value) v ≡ true → any_has_small program.structs v ≡ true
+      → if_any (λ value. is_scalar t && is_of_type (record { program = program; locals = t ∷ locals }) t value) v ≡ true → any_makes (is_storable program.structs) v ≡ true
       → (before : State) → Sound (record { program = program; locals = t ∷ locals }) before
       → GivesAt (record { program = program; locals = t ∷ locals }) (λ after a. FirstIs program after t a) (optional_value (value (around_of program) calls) v) before
   first_value locals t None typed small before sound = give_gives sound tt
@@ -173,13 +173,13 @@ module _ (program : Program) (well : IsWellTyped program) (calls : Calls) (keep 
       let parts = and_parts (is_scalar t) (is_of_type (record { program = program; locals = t ∷ locals }) t v) typed in
       gives_then (typed_value (t ∷ locals) t v parts.1 small before sound) (λ a middle keeps h. give_gives keeps.sound (parts.0, h))
 
-  declare_leads : (locals : List CType) (local : LocalDef) → is_local (record { program = program; locals = locals }) local ≡ true → local_has_small program.structs local ≡ true
+  declare_leads : (locals : List CType) (local : LocalDef) → is_local (record { program = program; locals = locals }) local ≡ true → local_makes (is_storable program.structs) local ≡ true
       → (before : State) → Sound (record { program = program; locals = locals }) before
       → Leads (λ after way. OpensTo program locals (local.c_type ∷ locals) before after × (way ≡ Normal)) (declare (around_of program) calls local before)
   declare_leads locals local typed small before sound =
       let parts = and_parts (is_complete program.structs local.c_type) _ typed in
-      let sizes = and_parts (is_small program.structs local.c_type) (any_has_small program.structs local.first) small in
-      leads_then (new_local_keeps program well locals before sound local.c_type parts.0 (ltb-true (layout_of program.structs local.c_type).size greatest sizes.0))
+      let sizes = and_parts (is_storable program.structs local.c_type) (any_makes (is_storable program.structs) local.first) small in
+      leads_then (new_local_keeps program well locals before sound local.c_type parts.0 sizes.0)
       (λ place middle begins. leads_as (gives_leads (gives_then (first_value locals local.c_type local.first parts.1 sizes.1 middle begins.sound)
       (λ a last keeps h. stored_first_keeps program well (local.c_type ∷ locals) last keeps.sound local.c_type place a (element_lasts program keeps.later local.c_type place begins.is_element) (first_is last keeps.sound a h))))
       (λ way after h. (opens_keeps (opens_begun begins) h.0, h.1)))
@@ -198,13 +198,13 @@ module _ (program : Program) (well : IsWellTyped program) (calls : Calls) (keep 
   behind_is [] locals = refl
   behind_is (first ∷ others) locals = behind_is others (first.c_type ∷ locals)
 
-  declare_all_leads : (locals : List CType) (defs : List LocalDef) → are_locals (record { program = program; locals = locals }) defs ≡ true → locals_have_small program.structs defs ≡ true
+  declare_all_leads : (locals : List CType) (defs : List LocalDef) → are_locals (record { program = program; locals = locals }) defs ≡ true → locals_make (is_storable program.structs) defs ≡ true
       → (before : State) → Sound (record { program = program; locals = locals }) before
       → Leads (λ after way. OpensTo program locals (types_behind defs locals) before after) (declare_all (around_of program) calls defs before)
   declare_all_leads locals [] typed small before sound = then_leads Normal before (opens_none (keeps_refl _ before sound))
   declare_all_leads locals (first ∷ others) typed small before sound =
       let parts = and_parts (is_local (record { program = program; locals = locals }) first) _ typed in
-      let sizes = and_parts (local_has_small program.structs first) (locals_have_small program.structs others) small in
+      let sizes = and_parts (local_makes (is_storable program.structs) first) (locals_make (is_storable program.structs) others) small in
       leads_then (declare_leads locals first parts.0 sizes.0 before sound)
       (λ way middle h. leads_as (declare_all_leads (first.c_type ∷ locals) others parts.1 sizes.1 middle (opens_sound h.0)) (λ way' after rest. opens_more h.0 rest))
 
@@ -217,7 +217,7 @@ module _ (program : Program) (well : IsWellTyped program) (calls : Calls) (keep 
   begun_is (T.StartValue v) locals = refl
   begun_is (T.StartLocals defs) locals = behind_is defs locals
 
-  start_leads : (locals : List CType) (begin : ForStart) → is_start (record { program = program; locals = locals }) begin ≡ true → start_has_small program.structs begin ≡ true
+  start_leads : (locals : List CType) (begin : ForStart) → is_start (record { program = program; locals = locals }) begin ≡ true → start_makes (is_storable program.structs) begin ≡ true
       → (before : State) → Sound (record { program = program; locals = locals }) before
       → Leads (λ after way. OpensTo program locals (types_begun begin locals) before after) (start (around_of program) calls begin before)
   start_leads locals T.StartNothing typed small before sound = then_leads Normal before (opens_none (keeps_refl _ before sound))
@@ -336,13 +336,13 @@ module _ (program : Program) (well : IsWellTyped program) (calls : Calls) (keep 
     tests : if_any (is_condition (record { program = program; locals = types_begun begin locals })) condition ≡ true
     steps : if_any (is_expression (record { program = program; locals = types_begun begin locals })) step ≡ true
     turns_well : is_stmt (record { program = program; locals = types_begun begin locals }) (in_loop within) body ≡ true
-    begins_small : start_has_small program.structs begin ≡ true
-    tests_small : any_has_small program.structs condition ≡ true
-    steps_small : any_has_small program.structs step ≡ true
-    turns_small : stmt_has_small program.structs body ≡ true
+    begins_small : start_makes (is_storable program.structs) begin ≡ true
+    tests_small : any_makes (is_storable program.structs) condition ≡ true
+    steps_small : any_makes (is_storable program.structs) step ≡ true
+    turns_small : stmt_makes (is_storable program.structs) body ≡ true
 
   for_parts : (locals : List CType) (within : Within) (begin : ForStart) (condition step : Option Value) (body : Stmt)
-      → is_stmt (record { program = program; locals = locals }) within (T.For begin condition step body) ≡ true → stmt_has_small program.structs (T.For begin condition step body) ≡ true
+      → is_stmt (record { program = program; locals = locals }) within (T.For begin condition step body) ≡ true → stmt_makes (is_storable program.structs) (T.For begin condition step body) ≡ true
       → ForParts locals within begin condition step body
   for_parts locals within begin condition step body typed small =
       let around = with_start begin (record { program = program; locals = locals }) in
@@ -350,9 +350,9 @@ module _ (program : Program) (well : IsWellTyped program) (calls : Calls) (keep 
       let three = and_parts (is_start (record { program = program; locals = locals }) begin && if_any (is_condition around) condition && if_any (is_expression around) step) _ typed in
       let two = and_parts (is_start (record { program = program; locals = locals }) begin && if_any (is_condition around) condition) _ three.0 in
       let one = and_parts (is_start (record { program = program; locals = locals }) begin) _ two.0 in
-      let three_small = and_parts (start_has_small program.structs begin && any_has_small program.structs condition && any_has_small program.structs step) _ small in
-      let two_small = and_parts (start_has_small program.structs begin && any_has_small program.structs condition) _ three_small.0 in
-      let one_small = and_parts (start_has_small program.structs begin) _ two_small.0 in
+      let three_small = and_parts (start_makes (is_storable program.structs) begin && any_makes (is_storable program.structs) condition && any_makes (is_storable program.structs) step) _ small in
+      let two_small = and_parts (start_makes (is_storable program.structs) begin && any_makes (is_storable program.structs) condition) _ three_small.0 in
+      let one_small = and_parts (start_makes (is_storable program.structs) begin) _ two_small.0 in
       record {
         begins = one.0;
         tests = subst (λ c. if_any (is_condition c) condition ≡ true) same one.1;
@@ -365,7 +365,7 @@ module _ (program : Program) (well : IsWellTyped program) (calls : Calls) (keep 
       }
 
   mutual
-    pub stmt_gives : (locals : List CType) (within : Within) (s : Stmt) → is_stmt (record { program = program; locals = locals }) within s ≡ true → stmt_has_small program.structs s ≡ true
+    pub stmt_gives : (locals : List CType) (within : Within) (s : Stmt) → is_stmt (record { program = program; locals = locals }) within s ≡ true → stmt_makes (is_storable program.structs) s ≡ true
         → (before : State) → Sound (record { program = program; locals = locals }) before
         → GivesAt (record { program = program; locals = locals }) (λ after way. EndsTyped program after within.result way) (stmt (around_of program) calls s) before
     stmt_gives locals within (T.BlockStmt items) typed small before sound =
@@ -377,26 +377,26 @@ module _ (program : Program) (well : IsWellTyped program) (calls : Calls) (keep 
         gives_then {next = λ a. give Normal} (some_value locals v typed small middle keeps.sound) (λ a last keeps' h. give_gives {value = Normal} keeps'.sound tt))
     stmt_gives locals within (T.If condition taken) typed small before sound =
         let parts = and_parts (is_condition (record { program = program; locals = locals }) condition) _ typed in
-        let sizes = and_parts (has_small program.structs condition) _ small in
+        let sizes = and_parts (makes (is_storable program.structs) condition) _ small in
         tick_gives sound (λ middle keeps. gives_then (condition_value locals condition parts.0 sizes.0 middle keeps.sound) (λ c last keeps' h.
         branch_gives locals within.result _ (give Normal) (is_true c) last (stmt_gives locals within taken parts.1 sizes.1 last keeps'.sound) (give_gives keeps'.sound tt)))
     stmt_gives locals within (T.IfElse condition taken otherwise) typed small before sound =
         let parts = and_parts (is_condition (record { program = program; locals = locals }) condition && is_stmt (record { program = program; locals = locals }) within taken) _ typed in
         let first = and_parts (is_condition (record { program = program; locals = locals }) condition) _ parts.0 in
-        let sizes = and_parts (has_small program.structs condition && stmt_has_small program.structs taken) _ small in
-        let first_sizes = and_parts (has_small program.structs condition) _ sizes.0 in
+        let sizes = and_parts (makes (is_storable program.structs) condition && stmt_makes (is_storable program.structs) taken) _ small in
+        let first_sizes = and_parts (makes (is_storable program.structs) condition) _ sizes.0 in
         tick_gives sound (λ middle keeps. gives_then (condition_value locals condition first.0 first_sizes.0 middle keeps.sound) (λ c last keeps' h.
         branch_gives locals within.result _ _ (is_true c) last (stmt_gives locals within taken first.1 first_sizes.1 last keeps'.sound) (stmt_gives locals within otherwise parts.1 sizes.1 last keeps'.sound)))
     stmt_gives locals within (T.While condition body) typed small before sound =
         let parts = and_parts (is_condition (record { program = program; locals = locals }) condition) _ typed in
-        let sizes = and_parts (has_small program.structs condition) _ small in
+        let sizes = and_parts (makes (is_storable program.structs) condition) _ small in
         tick_gives {rest = loop _} sound (λ middle keeps. loop_gives locals within.result _ (λ from from_sound.
         gives_then (condition_value locals condition parts.0 sizes.0 from from_sound) (λ c next keeps' h.
         turn_gives locals within.result _ (is_true c) next keeps'.sound
         (gives_then (stmt_gives locals (in_loop within) body parts.1 sizes.1 next keeps'.sound) (λ way last keeps'' ends. give_gives keeps''.sound (after_ends last within.result way ends))))) middle keeps.sound)
     stmt_gives locals within (T.DoWhile body condition) typed small before sound =
         let parts = and_parts (is_stmt (record { program = program; locals = locals }) (in_loop within) body) _ typed in
-        let sizes = and_parts (stmt_has_small program.structs body) _ small in
+        let sizes = and_parts (stmt_makes (is_storable program.structs) body) _ small in
         tick_gives {rest = loop _} sound (λ middle keeps. loop_gives locals within.result _ (λ from from_sound.
         gives_then (stmt_gives locals (in_loop within) body parts.0 sizes.0 from from_sound) (λ way next keeps' ends.
         do_gives locals within.result (value (around_of program) calls condition) (after_body way) next keeps'.sound (after_ends next within.result way ends)
@@ -415,7 +415,7 @@ module _ (program : Program) (well : IsWellTyped program) (calls : Calls) (keep 
         opened (opens_sound opens))) (λ way after done. ((opens_keeps opens done.0).opens, done.1)))))
     stmt_gives locals within (T.Switch v items) typed small before sound =
         let parts = and_parts (is_condition (record { program = program; locals = locals }) v) _ typed in
-        let sizes = and_parts (has_small program.structs v) _ small in
+        let sizes = and_parts (makes (is_storable program.structs) v) _ small in
         tick_gives sound (λ middle keeps. gives_then (condition_value locals v parts.0 sizes.0 middle keeps.sound) (λ a next keeps' h.
         gives_then (case_gives locals (integer_of a) 0 items next keeps'.sound) (λ found from keeps'' none.
         gives_then (switch_gives locals (in_switch within) (given (type_of (record { program = program; locals = locals }) v) integer_type) items parts.1 sizes.1 (entry_or found (default_at items)) from keeps''.sound)
@@ -426,23 +426,23 @@ module _ (program : Program) (well : IsWellTyped program) (calls : Calls) (keep 
         tick_gives {rest = optional_value (value (around_of program) calls) v >>= λ a. give (Return a)} sound (λ middle keeps.
         gives_then {next = λ a. give (Return a)} (returned_value locals within.result v typed small middle keeps.sound) (λ a last keeps' h. give_gives {value = Return a} keeps'.sound h))
 
-    pub block_leads : (locals : List CType) (within : Within) (items : Block) → is_block (record { program = program; locals = locals }) within items ≡ true → block_has_small program.structs items ≡ true
+    pub block_leads : (locals : List CType) (within : Within) (items : Block) → is_block (record { program = program; locals = locals }) within items ≡ true → block_makes (is_storable program.structs) items ≡ true
         → (before : State) → Sound (record { program = program; locals = locals }) before
         → Leads (λ after way. Opens (record { program = program; locals = locals }) before after × EndsTyped program after within.result way) (block (around_of program) calls items before)
     block_leads locals within T.Close typed small before sound = then_leads Normal before ((opens_none (keeps_refl _ before sound)).opens, tt)
     block_leads locals within (T.Declare local others) typed small before sound =
         let parts = and_parts (is_local (record { program = program; locals = locals }) local) _ typed in
-        let sizes = and_parts (local_has_small program.structs local) _ small in
+        let sizes = and_parts (local_makes (is_storable program.structs) local) _ small in
         leads_then (declare_leads locals local parts.0 sizes.0 before sound) (λ begun middle h.
         leads_as (block_leads (local.c_type ∷ locals) within others parts.1 sizes.1 middle (opens_sound h.0)) (λ way after rest. (opens_then_some h.0 rest.0, rest.1)))
     block_leads locals within (T.Perform one others) typed small before sound =
         let parts = and_parts (is_stmt (record { program = program; locals = locals }) within one) _ typed in
-        let sizes = and_parts (stmt_has_small program.structs one) _ small in
+        let sizes = and_parts (stmt_makes (is_storable program.structs) one) _ small in
         leads_then (gives_leads (stmt_gives locals within one parts.0 sizes.0 before sound)) (λ way middle h.
         rest_leads locals within.result (block (around_of program) calls others) way before middle h.0 h.1 (block_leads locals within others parts.1 sizes.1 middle h.0.sound))
 
     pub switch_gives : (locals : List CType) (within : Within) (switched : Option IntType) (items : SwitchItems) → are_items (record { program = program; locals = locals }) within switched items ≡ true
-        → items_have_small program.structs items ≡ true → (entry : Entry) → (before : State) → Sound (record { program = program; locals = locals }) before
+        → items_make (is_storable program.structs) items ≡ true → (entry : Entry) → (before : State) → Sound (record { program = program; locals = locals }) before
         → GivesAt (record { program = program; locals = locals }) (λ after way. EndsTyped program after within.result way) (switch_from (around_of program) calls entry items) before
     switch_gives locals within switched items typed small NoEntry before sound = give_gives sound tt
     switch_gives locals within switched T.SwitchEnd typed small (At number) before sound = give_gives sound tt
@@ -453,7 +453,7 @@ module _ (program : Program) (well : IsWellTyped program) (calls : Calls) (keep 
     switch_gives locals within switched (T.SwitchStmt one others) typed small (At (suc number)) before sound =
         record {
           gives = (switch_gives locals within switched others (and_parts (is_stmt (record { program = program; locals = locals }) within one) _ typed).1
-              (and_parts (stmt_has_small program.structs one) _ small).1 (At number) before sound).gives;
+              (and_parts (stmt_makes (is_storable program.structs) one) _ small).1 (At number) before sound).gives;
         }
     switch_gives locals within switched (T.Case label others) typed small (At zero) before sound =
         record { gives = (switch_gives locals within switched others (and_parts (is_label switched label) _ typed).1 small (At zero) before sound).gives }
@@ -461,12 +461,12 @@ module _ (program : Program) (well : IsWellTyped program) (calls : Calls) (keep 
         record { gives = (switch_gives locals within switched others typed small (At zero) before sound).gives }
     switch_gives locals within switched (T.SwitchStmt one others) typed small (At zero) before sound =
         let parts = and_parts (is_stmt (record { program = program; locals = locals }) within one) _ typed in
-        let sizes = and_parts (stmt_has_small program.structs one) _ small in
+        let sizes = and_parts (stmt_makes (is_storable program.structs) one) _ small in
         gives_then (stmt_gives locals within one parts.0 sizes.0 before sound) (λ way middle keeps ends.
         rest_gives locals within.result (switch_from (around_of program) calls (At 0) others) way middle keeps.sound ends
         (switch_gives locals within switched others parts.1 sizes.1 (At zero) middle keeps.sound))
 
   -- from each sound state
-  pub stmt_keeps : (locals : List CType) (within : Within) (s : Stmt) → is_stmt (record { program = program; locals = locals }) within s ≡ true → stmt_has_small program.structs s ≡ true
+  pub stmt_keeps : (locals : List CType) (within : Within) (s : Stmt) → is_stmt (record { program = program; locals = locals }) within s ≡ true → stmt_makes (is_storable program.structs) s ≡ true
       → Yields (record { program = program; locals = locals }) (λ after way. EndsTyped program after within.result way) (stmt (around_of program) calls s)
   stmt_keeps locals within s typed small before sound = (stmt_gives locals within s typed small before sound).gives

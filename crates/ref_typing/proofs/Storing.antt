@@ -24,7 +24,9 @@ use Rattle.ref_semantics.specs.Store.{State, Objects, Outcome, Then, Eval, give,
 use Rattle.ref_semantics.specs.Pointers.{access, loaded, read, write}
 use Rattle.ref_semantics.specs.Library.{library, low_byte, natural_of, next_byte, written, allocated, freed, is_heap, is_unfreeable}
 use Rattle.ref_semantics.specs.Meaning.{Normal, new_local, stored_first, killed, kept}
-use Rattle.ref_typing.specs.Rows.{Whole, LeafAt, IsSmall}
+use Rattle.ref_typing.specs.Rows.{Whole, LeafAt}
+use Rattle.c_well_typed.specs.Sizes.{is_storable}
+use Rattle.ref_typing.proofs.Storable.{storable_small, storable_filled}
 use Rattle.ref_typing.specs.Sound.{HasType, HaveTypes, StandsIn, WasGiven, IsSoundContent, IsOfHeap, MayBecome, LivesOn, Sound, Later}
 use Rattle.ref_typing.specs.Keeping.{Keeps, IsElement}
 use Rattle.ref_typing.proofs.Lasting.{Leads, GivesAt, Goes, later_trans, may_refl, may_trans, lives_refl, keeps_refl, keeps_trans, aside_keeps, given_lasts, type_lasts, content_goes, content_lasts, locals_last, sound_later, sound_later_with, then_value, then_state, give_gives, gives_then, halt_gives, undefined_gives, emit_gives, guarded}
@@ -252,14 +254,20 @@ begun_later before c_type = record {
     fresh name same given = lt_irrefl before.next_local (subst (WasGiven before) (sym same) given)
 
 begun_sound : (program : Program) (locals : List CType) (before : State) (c_type : CType) → Sound (record { program = program; locals = locals }) before
-    → is_complete program.structs c_type ≡ true → IsSmall program.structs c_type → Sound (record { program = program; locals = c_type ∷ locals }) (begun before c_type)
-begun_sound program locals before c_type sound complete small =
+    → is_complete program.structs c_type ≡ true → is_storable program.structs c_type ≡ true → Sound (record { program = program; locals = c_type ∷ locals }) (begun before c_type)
+begun_sound program locals before c_type sound complete storable =
     let after = begun before c_type in
     let later = begun_later before c_type in
     let content = Elements false c_type 1 (λ offset. None) in
     sound_later_with sound later
     (λ name. either_content (IsSoundContent program after) (LocalObject before.next_local) name content (before.objects name)
-    (λ same. record { complete = complete; small = small; leaves = λ offset value e. absurd (none-some value e) })
+    (λ same. record {
+      complete = complete;
+      small = storable_small program.structs c_type storable;
+      filled = storable_filled program.structs c_type storable complete;
+      some = omega arith;
+      leaves = λ offset value e. absurd (none-some value e);
+    })
     (content_lasts program later (before.objects name) (sound.contents name)))
     (λ name fresh. either_content (λ c. c ≡ Dead) (LocalObject before.next_local) name content (before.objects name)
     (λ same. absurd (fresh (subst (WasGiven after) same (lt-suc_self before.next_local))))
@@ -272,10 +280,10 @@ leads_given {A} {post} value state h = record {
 }
 
 pub new_local_keeps : (program : Program) → IsWellTyped program → (locals : List CType) (before : State) → Sound (record { program = program; locals = locals }) before
-    → (c_type : CType) → is_complete program.structs c_type ≡ true → IsSmall program.structs c_type → Leads (Begins program locals before c_type) (new_local c_type before)
-new_local_keeps program well locals before sound c_type complete small =
+    → (c_type : CType) → is_complete program.structs c_type ≡ true → is_storable program.structs c_type ≡ true → Leads (Begins program locals before c_type) (new_local c_type before)
+new_local_keeps program well locals before sound c_type complete storable =
     leads_given (object_place (LocalObject before.next_local) c_type) (begun before c_type) (record {
-      sound = begun_sound program locals before c_type sound complete small;
+      sound = begun_sound program locals before c_type sound complete storable;
       later = begun_later before c_type;
       locals = refl;
       is_element = record {
@@ -347,9 +355,9 @@ module _ (program : Program) (well : IsWellTyped program) (before : State) where
       → (content : Content) → StandsIn program content place → IsSoundContent program before content
       → IsSoundContent program before (holding (offset_of (around_of program) place) value content)
   sound_holding t place value scalar lt is typed Dead stands h = tt
-  sound_holding t place value scalar lt is typed (Raw size) stands h = tt
+  sound_holding t place value scalar lt is typed (Raw size) stands h = h
   sound_holding t place value scalar lt is typed (Elements s c_type count held) stands h =
-      record { complete = h.complete; small = h.small; leaves = λ offset one e. by (offset_of (around_of program) place == offset) offset refl one e }
+      record { complete = h.complete; small = h.small; filled = h.filled; some = h.some; leaves = λ offset one e. by (offset_of (around_of program) place == offset) offset refl one e }
     where
       by : (b : Bool) (offset : ℕ) → (offset_of (around_of program) place == offset) ≡ b → (one : Scalar) → (if b then Some value else held offset) ≡ Some one
           → (own : CType) × LeafAt program.structs c_type count offset own × HasType program before own one
@@ -381,9 +389,9 @@ given_then program locals before state t value keeps typed a after run =
 abbrev raised : State → ℕ → State
 raised before size = record before { objects = with_content (Heap before.next_heap) (Raw size) before.objects; next_heap = suc before.next_heap }
 
-raised_keeps : (program : Program) (locals : List CType) (before : State) (size : ℕ) → Sound (record { program = program; locals = locals }) before
+raised_keeps : (program : Program) (locals : List CType) (before : State) (size : ℕ) → 1 ≤ size → Sound (record { program = program; locals = locals }) before
     → Keeps (record { program = program; locals = locals }) before (raised before size)
-raised_keeps program locals before size sound =
+raised_keeps program locals before size some sound =
     let after = raised before size in
     let later : Later before after = record {
       next_local = le_refl before.next_local;
@@ -395,7 +403,7 @@ raised_keeps program locals before size sound =
     } in
     record {
       sound = sound_later sound later
-          (λ name. either_content (IsSoundContent program after) (Heap before.next_heap) name (Raw size) (before.objects name) (λ same. tt)
+          (λ name. either_content (IsSoundContent program after) (Heap before.next_heap) name (Raw size) (before.objects name) (λ same. some)
           (content_lasts program later (before.objects name) (sound.contents name)))
           (λ name new. either_content (λ c. c ≡ Dead) (Heap before.next_heap) name (Raw size) (before.objects name)
           (λ same. absurd (new (subst (WasGiven after) same (lt-suc_self before.next_heap))))
@@ -482,7 +490,7 @@ module _ (program : Program) (well : IsWellTyped program) (locals : List CType) 
   allocated_keeps zero = record { gives = (give_gives {value = NullValue} sound tt).gives }
   allocated_keeps (suc size) =
       let after = raised before (suc size) in
-      let keeps = raised_keeps program locals before (suc size) sound in
+      let keeps = raised_keeps program locals before (suc size) (omega arith) sound in
       let rest : GivesAt (record { program = program; locals = locals }) (λ after value. HasType program after (Pointer Void) value)
       (emit (Allocated before.next_heap (suc size) ∷ []) (give (RawPointer before.next_heap))) after =
       emit_gives {rest = give (RawPointer before.next_heap)} {events = Allocated before.next_heap (suc size) ∷ []} keeps.sound

@@ -5,6 +5,7 @@ use Rattle.text_place.specs.declared.place.Pos.{Pos}
 use Rattle.c_typed.specs.Types.{CType, CTypes, Void, Integer, Pointer, NoTypes, MoreTypes, literal_type, is_function, is_like_void}
 use Rattle.c_typed.specs.Layouts.{is_complete}
 use Rattle.c_typed.specs.Typed.{Program}
+use Rattle.c_well_typed.specs.Sizes.{is_filled}
 use Rattle.c_well_typed.specs.Context.{Context, global_type, function_type, literal_bytes}
 use Rattle.ref_semantics.specs.Values.{Name, Heap, GlobalObject, LiteralObject, LocalObject, Place, Scalar, IntegerValue, NullValue, FunctionValue, PointerValue, RawPointer, Content, Dead, Raw, Elements}
 use Rattle.ref_semantics.specs.Store.{State}
@@ -53,15 +54,18 @@ HaveTypes program state _ _ = ⊥
 
 -- ---- objects
 
--- What an object holds stands at its leaves, and is of their types. It is of a complete type of an exact size.
+-- What an object holds stands at its leaves, and is of their types. It is of a complete type of an exact size, and has a byte at least.
 pub record HoldsTyped (program : Program) (state : State) (c_type : CType) (count : ℕ) (held : ℕ → Option Scalar) : Type 0 where
   pub complete : is_complete program.structs c_type ≡ true
   pub small : IsSmall program.structs c_type
+  pub filled : is_filled program.structs c_type ≡ true
+  pub some : 1 ≤ count
   pub leaves : (offset : ℕ) (value : Scalar) → held offset ≡ Some value → (own : CType) × LeafAt program.structs c_type count offset own × HasType program state own value
 
 abbrev pub IsSoundContent : Program → State → Content → Type 0
 IsSoundContent program state (Elements is_static c_type count held) = HoldsTyped program state c_type count held
-IsSoundContent program state _ = Unit {0}
+IsSoundContent program state (Raw size) = 1 ≤ size
+IsSoundContent program state Dead = Unit {0}
 
 -- a local in scope lives and is of its type
 abbrev pub AreLocals : State → List ℕ → List CType → Type 0

@@ -1,1 +1,2 @@
 -- What is proved of lowering.
+pub mod Forms

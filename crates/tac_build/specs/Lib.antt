@@ -3,3 +3,4 @@ pub mod Spots
 pub mod Code
 pub mod StatementCode
 pub mod ProgramCode
+pub mod Forms

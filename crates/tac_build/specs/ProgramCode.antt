@@ -79,3 +79,4 @@ pub record Code (program : Program) (tac : Tac) : Type 0 where
   pub main : ℕ
   pub named : function_number 0 program.functions (codes "main") ≡ Some main
   pub start : tac.start.points ≡ start_points main
+  pub objects : tac.start.objects ≡ []

@@ -9,7 +9,7 @@ use Rattle.c_typed.specs.Typed as T
 use Rattle.c_typed.specs.Typed.{Value, Program}
 use Rattle.c_well_typed.specs.Expressions.{type_of, element}
 use Rattle.c_well_typed.specs.Programs.{IsWellTyped}
-use Rattle.c_well_typed.specs.Sizes.{has_small}
+use Rattle.c_well_typed.specs.Sizes.{makes, is_storable}
 use Rattle.ref_semantics.specs.Values as V
 use Rattle.ref_semantics.specs.Values.{Place, Scalar, PointerValue, place_of, at_index, integer_of}
 use Rattle.ref_semantics.specs.Store as S
@@ -20,7 +20,7 @@ use Rattle.ref_semantics.specs.First.{around_of}
 use Rattle.ref_typing.specs.Sound.{HasType, Sound}
 use Rattle.ref_typing.specs.Keeping.{CallsKeep}
 use Rattle.ref_typing.proofs.Lasting.{type_lasts}
-use Rattle.ref_typing.proofs.Splitting.{two_parts, element_parts}
+use Rattle.c_well_typed.proofs.Splitting.{two_parts, element_parts}
 use Rattle.tac_ir.specs.declared.register.Register.{Register}
 use Rattle.tac_ir.specs.Code.{Op, Tac, Tree}
 use Rattle.tac_ir.specs.Trees.{Registers, computes, tree_nodes}
@@ -29,8 +29,8 @@ use Rattle.tac_build.specs.Homes.{Scope, is_pure}
 use Rattle.tac_build.specs.Spots.{Spot, Lowered, AsInteger, AsPointer, AsObject, AsNothing, Kept, Row, pointed_mode}
 use Rattle.tac_build.specs.Code as C
 use Rattle.tac_build.specs.Code.{Indexes, MovesPointer}
-use Rattle.tac_simulation.specs.Forms.{HasForm, SpotGrows}
-use Rattle.tac_simulation.specs.Standing.{Placement, Frame, KeepsBefore, IsAlive, LoweredStands, PointedStands, context_of}
+use Rattle.tac_build.specs.Forms.{context_of, HasForm, SpotGrows}
+use Rattle.tac_simulation.specs.Standing.{Placement, Frame, KeepsBefore, IsAlive, LoweredStands, PointedStands}
 use Rattle.tac_simulation.proofs.Naming.{grows_then}
 use Rattle.tac_simulation.proofs.Paths.{Passage as Passing, Does, comes, eased, eases, allows}
 use Rattle.tac_simulation.proofs.Spotting.{Runs, kept_same}
@@ -38,7 +38,7 @@ use Rattle.tac_simulation.proofs.Evaluating
 use Rattle.tac_simulation.proofs.Evaluating.{ValueDoes, laid_by, value_units, stood}
 use Rattle.tac_simulation.proofs.Combining.{ticked, then_value}
 use Rattle.tac_simulation.proofs.Constants.{left_most}
-use Rattle.tac_simulation.proofs.Forms.{value_form}
+use Rattle.tac_build.proofs.Forms.{value_form}
 use Rattle.tac_simulation.proofs.Looking.{not_dead}
 use Rattle.tac_simulation.proofs.Named.{value_named}
 use Rattle.tac_simulation.proofs.Unchanged.{keeps_fewer, keeps_then}
@@ -176,7 +176,7 @@ module _ (tac : Tac) (program : Program) (calls : Calls) (worth : ℕ) (points :
       let parts = two_parts (type_of (context_of program scope) pointer) (type_of (context_of program scope) number) (element program.structs) t typed in
       let target = element_parts program.structs parts.a parts.b t parts.gave in
       let own = parts.left ∙ ap Some target.0 in
-      let sizes = and_parts (has_small program.structs pointer) (has_small program.structs number) small in
+      let sizes = and_parts (makes (is_storable program.structs) pointer) (makes (is_storable program.structs) number) small in
       let form = value_form program points scope pointer (Row (followed || not (is_pure scope number))) (Pointer t) from code.0 code.2 own code.5 in
       let left = left_most pointer in
       let left' = left_most number in
@@ -208,7 +208,7 @@ module _ (tac : Tac) (program : Program) (calls : Calls) (worth : ℕ) (points :
       let parts = two_parts (type_of (context_of program scope) pointer) (type_of (context_of program scope) number) (element program.structs) t typed in
       let target = element_parts program.structs parts.a parts.b t parts.gave in
       let own = parts.left ∙ ap Some target.0 in
-      let sizes = and_parts (has_small program.structs number) (has_small program.structs pointer) small in
+      let sizes = and_parts (makes (is_storable program.structs) number) (makes (is_storable program.structs) pointer) small in
       let form = value_form program points scope pointer (Row followed) (Pointer t) code.1 code.2 code.6 own code.9 in
       let left = left_most pointer in
       let left' = left_most number in

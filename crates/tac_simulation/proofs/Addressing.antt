@@ -7,7 +7,7 @@ use Rattle.c_typed.specs.Typed as T
 use Rattle.c_typed.specs.Typed.{Value, Object, Program}
 use Rattle.c_well_typed.specs.Expressions.{type_of, type_of_object, pointed, first_element}
 use Rattle.c_well_typed.specs.Programs.{IsWellTyped}
-use Rattle.c_well_typed.specs.Sizes.{object_has_small}
+use Rattle.c_well_typed.specs.Sizes.{object_makes, is_storable}
 use Rattle.ref_semantics.specs.Values as V
 use Rattle.ref_semantics.specs.Values.{GlobalObject, LiteralObject, Place, Scalar, IntegerValue, NullValue, FunctionValue, PointerValue, RawPointer, object_place}
 use Rattle.ref_semantics.specs.Store as S
@@ -18,7 +18,7 @@ use Rattle.ref_semantics.specs.First.{around_of}
 use Rattle.ref_typing.specs.Sound.{HasType, IsPlace, Sound}
 use Rattle.ref_typing.specs.Keeping.{CallsKeep}
 use Rattle.ref_typing.proofs.Operating.{decay_type}
-use Rattle.ref_typing.proofs.Splitting.{held_parts, given_parts}
+use Rattle.c_well_typed.proofs.Splitting.{held_parts, given_parts}
 use Rattle.ref_typing.proofs.ValuesKeep.{address_keeps}
 use Rattle.tac_ir.specs.Code.{Op, Tac, Path, AtLocal, AtGlobal, AtLiteral, Constant, Member, Element}
 use Rattle.tac_ir.specs.Code as O
@@ -34,15 +34,15 @@ use Rattle.tac_build.specs.Homes.{Scope}
 use Rattle.tac_build.specs.Spots.{Spot, expression, Lowered, AsInteger, AsPointer, AsObject, AsNothing, Mode, Kept, Dropped, Behind, Row, is_followed, is_address, pointed_mode}
 use Rattle.tac_build.specs.Code.{path_from, then_step, pointed_by, GivesPointer, Decays, TakesAddress, ValueCode, ObjectCode}
 use Rattle.tac_simulation.specs.Comparing.{ticks_per_unit}
-use Rattle.tac_simulation.specs.Forms.{SpotGrows}
-use Rattle.tac_simulation.specs.Standing.{Placement, Frame, KeepsBefore, At, IsAlive, WhereAlive, MemoryStands, PathStands, LoweredStands, types_of, context_of, surroundings}
+use Rattle.tac_build.specs.Forms.{scope_types, context_of, SpotGrows}
+use Rattle.tac_simulation.specs.Standing.{Placement, Frame, KeepsBefore, At, IsAlive, WhereAlive, MemoryStands, PathStands, LoweredStands, surroundings}
 use Rattle.tac_simulation.proofs.Paths.{Passage as Passing, Does, comes, stops, eased, eases, allows, bind}
 use Rattle.tac_simulation.proofs.Spotting.{Runs, written_there}
 use Rattle.tac_simulation.proofs.Evaluating
 use Rattle.tac_simulation.proofs.Evaluating.{ValueDoes, laid_by, left_for, object_units, value_units}
 use Rattle.tac_simulation.proofs.Combining.{ticked, puts, has_come}
 use Rattle.tac_simulation.proofs.Constants.{left_most}
-use Rattle.tac_simulation.proofs.Forms.{object_form}
+use Rattle.tac_build.proofs.Forms.{object_form}
 use Rattle.tac_simulation.proofs.Named.{object_named}
 use Rattle.tac_simulation.proofs.Placing as Placing
 use Rattle.tac_simulation.proofs.Placing.{placed, place_at}
@@ -93,13 +93,13 @@ module _ (tac : Tac) (program : Program) (calls : Calls) (worth : ℕ) (points :
       → Does tac worth start n lag (slack + (laid_by lowered + 6)) (Evaluating.ComesToValue tac program calls worth points placement hidden frame scope mode from to lowered before) (Then (PointerValue place) s)
   takes_address {start} {n} {lag} slack mode from mid to lowered before path own target place s state p h sound kept grows code leads_to is_in alive =
       let memory = h.stands.memory in
-      let at = placed program well placement (types_of scope) s sound state.objects memory place (Address leads_to.0 leads_to.1) is_in (lives_is (s.objects place.name) alive)
-      (Placing.stands_at program well placement (types_of scope) s sound state.objects memory place leads_to.0 leads_to.1 leads_to.3.0 leads_to.3.1) in
+      let at = placed program well placement (scope_types scope) s sound state.objects memory place (Address leads_to.0 leads_to.1) is_in (lives_is (s.objects place.name) alive)
+      (Placing.stands_at program well placement (scope_types scope) s sound state.objects memory place leads_to.0 leads_to.1 leads_to.3.0 leads_to.3.1) in
       let same : leads_to.0 ≡ at.object = same_Some _ _ (sym leads_to.3.0 ∙ at.is_image) in
       let found : leads (surroundings program frame) state.running.registers path ≡ Some (record { object = at.object; inner = record { offset = offset_of (around_of program) place; c_type = own } })
       = leads_to.2 ∙ (λ i. Some (record { object = same i; inner = record { offset = leads_to.3.1 i; c_type = own } })) in
       let there : is_place program.structs state.objects at.object (offset_of (around_of program) place) ≡ true
-      = place_at program well placement (types_of scope) s sound state.objects memory place at.object at.typed place.index at.typed.index in
+      = place_at program well placement (scope_types scope) s sound state.objects memory place at.object at.typed place.index at.typed.index in
       puts tac program calls worth points placement hidden frame scope runs well keep (O.AddressOf (expression mid) path) (expression mid) (Address at.object (offset_of (around_of program) place)) mode from mid to lowered
       (AsPointer (expression mid) target) before (PointerValue place) s state p h kept code.0
       (ap (λ reached. A.given reached state (X.address (surroundings program frame) (expression mid) state)) found
@@ -107,7 +107,7 @@ module _ (tac : Tac) (program : Program) (calls : Calls) (worth : ℕ) (points :
       (omega (arith, grows.expressions)) tt (ap (λ (spot : Spot). spot.at) code.1) code.2 (
         Address at.object (offset_of (around_of program) place),
         written_there (expression mid) (Some (Address at.object (offset_of (around_of program) place))) state.running.registers,
-        Placing.stands_at program well placement (types_of scope) s sound state.objects memory place at.object (offset_of (around_of program) place) at.is_image refl,
+        Placing.stands_at program well placement (scope_types scope) s sound state.objects memory place at.object (offset_of (around_of program) place) at.is_image refl,
       )
       (omega arith) (let laid = ap laid_by code.2 in omega (arith, laid))
 
@@ -161,7 +161,7 @@ module _ (tac : Tac) (program : Program) (calls : Calls) (worth : ℕ) (points :
 
   -- an address that is the object's, once that is found
   by_finding : (tree : Object) → Finds tac program calls worth points placement hidden frame scope runs well keep tree → (is_kept followed : Bool) (from to : Spot) (lowered : Lowered) (path : Path) (c_type t : CType)
-      → lowered ≡ AsObject path c_type → ObjectCode program points scope false followed tree from to (AsObject path c_type) → type_of_object (context_of program scope) tree ≡ Some t → object_has_small program.structs tree ≡ true
+      → lowered ≡ AsObject path c_type → ObjectCode program points scope false followed tree from to (AsObject path c_type) → type_of_object (context_of program scope) tree ≡ Some t → object_makes (is_storable program.structs) tree ≡ true
       → (start : State) (n lag slack : ℕ) (s : S.State) (state : State) → Passing tac worth start state n s.units lag slack → Evaluating.AtSpot tac program calls worth points placement hidden frame scope from.at s state
       → Does tac worth start n (lag + object_units tree) (slack + (laid_by lowered + 6)) (Evaluating.ComesToValue tac program calls worth points placement hidden frame scope (pointed_mode is_kept followed) from to lowered state.running.registers)
       (continue_with (λ place. give (PointerValue place)) (find (around_of program) calls tree s))
@@ -308,7 +308,7 @@ module _ (tac : Tac) (program : Program) (calls : Calls) (worth : ℕ) (points :
           (Evaluating.ComesToValue tac program calls worth points placement hidden frame scope (pointed_mode (is_address mode) (is_followed mode)) from code.0 code.1 state.running.registers) outcome
           → Does tac worth start n (lag + (1 + object_units object)) (slack + (laid_by lowered + 6)) (Evaluating.ComesToValue tac program calls worth points placement hidden frame scope mode from to lowered state.running.registers) outcome
       by s1 h1 u typed_as grows _ e (comes scalar s' state' q came) =
-          let keeps = address_keeps program well calls keep (types_of scope) object small u typed_as s1 h1.sound scalar s' e in
+          let keeps = address_keeps program well calls keep (scope_types scope) object small u typed_as s1 h1.sound scalar s' e in
           taken slack mode from code.0 to code.1 lowered state.running.registers u scalar s' state' (eased q (omega arith) (omega arith)) came keeps.0.sound keeps.1 grows code.3
       by s1 h1 u typed_as grows _ e (stops answer s' a) =
           let same : Does tac worth start n (suc lag + object_units object) (slack + (laid_by lowered + 6)) (Evaluating.ComesToValue tac program calls worth points placement hidden frame scope mode from to lowered state.running.registers) (S.Stopped answer s')

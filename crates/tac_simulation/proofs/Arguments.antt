@@ -7,7 +7,7 @@ use Rattle.c_typed.specs.Typed as T
 use Rattle.c_typed.specs.Typed.{Value, Values, Designator, Program}
 use Rattle.c_well_typed.specs.Expressions.{is_scalar, type_of, types_of, type_of_designator}
 use Rattle.c_well_typed.specs.Programs.{IsWellTyped}
-use Rattle.c_well_typed.specs.Sizes.{has_small, all_have_small, designator_has_small}
+use Rattle.c_well_typed.specs.Sizes.{makes, all_make, designator_makes, is_storable}
 use Rattle.ref_semantics.specs.Values as V
 use Rattle.ref_semantics.specs.Values.{Scalar}
 use Rattle.ref_semantics.specs.Store as S
@@ -17,7 +17,7 @@ use Rattle.ref_semantics.specs.First.{around_of}
 use Rattle.ref_typing.specs.Sound.{HasType, HaveTypes}
 use Rattle.ref_typing.specs.Keeping.{Keeps, CallsKeep}
 use Rattle.ref_typing.proofs.ValuesKeep.{values_keep, designated_keeps}
-use Rattle.ref_typing.proofs.Splitting.{two_parts}
+use Rattle.c_well_typed.proofs.Splitting.{two_parts}
 use Rattle.tac_ir.specs.declared.register.Register.{Register}
 use Rattle.tac_ir.specs.Code.{Op, Callee, Tac}
 use Rattle.tac_ir.specs.Code as O
@@ -28,16 +28,15 @@ use Rattle.tac_ir.specs.Meaning.{execute}
 use Rattle.tac_build.specs.Homes.{Scope}
 use Rattle.tac_build.specs.Spots.{Spot, behind, with_argument, argument, Lowered, AsInteger, AsPointer, AsObject, AsNothing, Kept}
 use Rattle.tac_build.specs.Code.{HasOp, Writes, ArgumentsCode, DesignatorCode}
-use Rattle.tac_simulation.specs.Forms.{HasForm, SpotGrows}
-use Rattle.tac_simulation.specs.Standing as Standing
-use Rattle.tac_simulation.specs.Standing.{Placement, Frame, At, context_of, ScalarStands, HoldsFor, LoweredStands, surroundings}
+use Rattle.tac_build.specs.Forms.{scope_types, context_of, HasForm, SpotGrows}
+use Rattle.tac_simulation.specs.Standing.{Placement, Frame, At, ScalarStands, LoweredStands, surroundings}
 use Rattle.tac_simulation.proofs.Paths.{Stand, Passage as Passing, Does, comes, stops, stepped, eased, eases}
 use Rattle.tac_simulation.proofs.Spotting.{Runs, kept_same, kept_write, written_there, before_at, around_is, with_written, at_written}
 use Rattle.tac_simulation.proofs.Evaluating
 use Rattle.tac_simulation.proofs.Evaluating.{laid_by, left_for, passed_ticks, all_passed_ticks, value_units, values_units, designator_units}
 use Rattle.tac_simulation.proofs.Naming.{grows_then, grows_to, behind_grows, argument_grows, before_more}
 use Rattle.tac_simulation.proofs.Named.{value_named}
-use Rattle.tac_simulation.proofs.Forms.{value_form}
+use Rattle.tac_build.proofs.Forms.{value_form}
 use Rattle.tac_simulation.proofs.Lasting.{holds_later}
 use Rattle.tac_simulation.proofs.Going.{some_node}
 use Rattle.tac_simulation.proofs.Combining.{then_value}
@@ -74,7 +73,7 @@ module _ (tac : Tac) (program : Program) (calls : Calls) (worth : ℕ) (points :
       }) (omega arith) less
 
   pub then_values : {B : Type 0} {Stands : Stand B} {start : State} {n lag lag' slack slack' : ℕ} (trees : Values) → Passed trees → (next : List Scalar → Eval B)
-      → (from to : Spot) (registers : List Register) (types : CTypes) → ArgumentsCode program points scope trees from to registers → types_of (context_of program scope) trees ≡ Some types → all_have_small program.structs trees ≡ true
+      → (from to : Spot) (registers : List Register) (types : CTypes) → ArgumentsCode program points scope trees from to registers → types_of (context_of program scope) trees ≡ Some types → all_make (is_storable program.structs) trees ≡ true
       → (s : S.State) (state : State) → Passing tac worth start state n s.units lag slack → Spotted from.at s state → lag + values_units trees ≤ lag'
       → ((scalars : List Scalar) (s' : S.State) (state' : State) → Passing tac worth start state' n s'.units (lag + values_units trees) (slack + all_passed_ticks types)
       → Evaluating.ComesToArguments tac program calls worth points placement hidden frame scope from to registers state.running.registers scalars s' state' → Keeps (context_of program scope) s s' → HaveTypes program s' types scalars
@@ -87,12 +86,12 @@ module _ (tac : Tac) (program : Program) (calls : Calls) (worth : ℕ) (points :
           → Does tac worth start n (lag + values_units trees) (slack + all_passed_ticks types) (Evaluating.ComesToArguments tac program calls worth points placement hidden frame scope from to registers state.running.registers) outcome
           → Does tac worth start n lag' slack' Stands (continue_with next outcome)
       by _ e (comes scalars s' state' p' comes_to) =
-          let keeps = values_keep program well calls keep (Standing.types_of scope) trees small types typed s at.sound scalars s' e in
+          let keeps = values_keep program well calls keep (scope_types scope) trees small types typed s at.sound scalars s' e in
           rest scalars s' state' p' comes_to keeps.0 keeps.1
       by _ e (stops answer s' a) = let same : Does tac worth start n (lag + values_units trees) slack' Stands (S.Stopped answer s') = stops answer s' a in eases same more (omega arith)
 
   pub then_designated : {B : Type 0} {Stands : Stand B} {start : State} {n lag lag' slack slack' : ℕ} (tree : Designator) → Leads tree → (next : Scalar → Eval B)
-      → (from to : Spot) (callee : Callee) (c_type t : CType) → DesignatorCode program points scope tree from to callee c_type → type_of_designator (context_of program scope) tree ≡ Some t → designator_has_small program.structs tree ≡ true
+      → (from to : Spot) (callee : Callee) (c_type t : CType) → DesignatorCode program points scope tree from to callee c_type → type_of_designator (context_of program scope) tree ≡ Some t → designator_makes (is_storable program.structs) tree ≡ true
       → (s : S.State) (state : State) → Passing tac worth start state n s.units lag slack → Spotted from.at s state → lag + designator_units tree ≤ lag'
       → ((scalar : Scalar) (s' : S.State) (state' : State) → Passing tac worth start state' n s'.units (lag + designator_units tree) (slack + 3)
       → Evaluating.ComesToCallee tac program calls worth points placement hidden frame scope from to callee state.running.registers scalar s' state' → Keeps (context_of program scope) s s' → HasType program s' (Pointer t) scalar
@@ -105,7 +104,7 @@ module _ (tac : Tac) (program : Program) (calls : Calls) (worth : ℕ) (points :
           → Does tac worth start n (lag + designator_units tree) (slack + 3) (Evaluating.ComesToCallee tac program calls worth points placement hidden frame scope from to callee state.running.registers) outcome
           → Does tac worth start n lag' slack' Stands (continue_with next outcome)
       by _ e (comes scalar s' state' p' comes_to) =
-          let keeps = designated_keeps program well calls keep (Standing.types_of scope) tree small t typed s at.sound scalar s' e in
+          let keeps = designated_keeps program well calls keep (scope_types scope) tree small t typed s at.sound scalar s' e in
           rest scalar s' state' p' comes_to keeps.0 keeps.1
       by _ e (stops answer s' a) = let same : Does tac worth start n (lag + designator_units tree) slack' Stands (S.Stopped answer s') = stops answer s' a in eases same more (omega arith)
 
@@ -157,7 +156,7 @@ module _ (tac : Tac) (program : Program) (calls : Calls) (worth : ℕ) (points :
 
   pub more_arguments : (first : Value) (others : Values) → Follows first → Passed others → Passed (T.MoreValues first others)
   more_arguments first others one rest from to registers types code typed small start n lag slack s state p at =
-      let sizes = and_parts (has_small program.structs first) (all_have_small program.structs others) small in
+      let sizes = and_parts (makes (is_storable program.structs) first) (all_make (is_storable program.structs) others) small in
       let parts = two_parts (type_of (context_of program scope) first) (types_of (context_of program scope) others) (λ t types. Some (MoreTypes t types)) types typed in
       let form = value_form program points scope first Kept parts.a (with_argument from) code.0 code.2 parts.left code.4 in
       let named = value_named program points scope first Kept (with_argument from) code.0 code.2 code.4 in

@@ -8,7 +8,7 @@ use Rattle.c_typed.specs.Typed.{Value, Object, Program}
 use Rattle.c_well_typed.specs.Context.{Context}
 use Rattle.c_well_typed.specs.Expressions.{is_scalar, type_of, type_of_object}
 use Rattle.c_well_typed.specs.Programs.{IsWellTyped}
-use Rattle.c_well_typed.specs.Sizes.{has_small, object_has_small}
+use Rattle.c_well_typed.specs.Sizes.{makes, object_makes, is_storable}
 use Rattle.ref_semantics.specs.Values as V
 use Rattle.ref_semantics.specs.Values.{Place, Scalar, IntegerValue, LocalObject, object_place}
 use Rattle.ref_semantics.specs.Store as S
@@ -18,7 +18,7 @@ use Rattle.ref_semantics.specs.Meaning.{Calls, value, find}
 use Rattle.ref_semantics.specs.First.{around_of}
 use Rattle.ref_typing.specs.Keeping.{CallsKeep, IsElement}
 use Rattle.ref_typing.proofs.ValuesKeep.{find_keeps}
-use Rattle.ref_typing.proofs.Splitting.{first_parts}
+use Rattle.c_well_typed.proofs.Splitting.{first_parts}
 use Rattle.tac_ir.specs.declared.register.Register.{Register}
 use Rattle.tac_ir.specs.declared.register.Register.TheVariants as R
 use Rattle.tac_ir.specs.Code.{Op, Tac, Tree, Path}
@@ -31,8 +31,8 @@ use Rattle.tac_ir.specs.Meaning.{execute}
 use Rattle.tac_build.specs.Homes.{Home, Scope, register_home, is_pure}
 use Rattle.tac_build.specs.Spots.{Spot, Lowered, AsInteger, AsPointer, AsObject, AsNothing, Mode, Kept, is_used}
 use Rattle.tac_build.specs.Code.{HasOp, WritesLocal, AssignCode, ValueCode, ObjectCode}
-use Rattle.tac_simulation.specs.Forms.{LoweredNamed}
-use Rattle.tac_simulation.specs.Standing.{Placement, Frame, KeepsBefore, At, ScalarStands, types_of, context_of, LoweredStands, surroundings}
+use Rattle.tac_build.specs.Forms.{scope_types, context_of, LoweredNamed}
+use Rattle.tac_simulation.specs.Standing.{Placement, Frame, KeepsBefore, At, ScalarStands, LoweredStands, surroundings}
 use Rattle.tac_simulation.proofs.Paths.{Stand, Passage as Passing, Passes, Does, comes, stops, stepped, eased, eases, slower}
 use Rattle.tac_simulation.proofs.Spotting.{Runs, kept_write, written_there, before_at, around_is, with_written}
 use Rattle.tac_simulation.proofs.Evaluating.{ValueDoes, AtSpot, ComesToValue, value_units, object_units, laid_by, left_for, stood}
@@ -71,7 +71,7 @@ module _ (tac : Tac) (program : Program) (calls : Calls) (worth : ℕ) (points :
 
   -- a local in a register is found, and the evaluation goes on: no point is passed
   pub then_local : {B : Type 0} {Stands : Stand B} {start : State} {n lag lag' slack slack' : ℕ} (object : Object) (home : Home) → register_home scope object ≡ Some home → (next : Place → Eval B)
-      → (at : ℕ) (t : CType) → type_of_object around object ≡ Some t → object_has_small program.structs object ≡ true
+      → (at : ℕ) (t : CType) → type_of_object around object ≡ Some t → object_makes (is_storable program.structs) object ≡ true
       → (s : S.State) (state : State) → Passing tac worth start state n s.units lag slack → AtSpot tac program calls worth points placement hidden frame scope at s state → lag + object_units object ≤ lag'
       → ((number : ℕ) (s' : S.State) → Passing tac worth start state n s'.units (lag + object_units object) (slack + 6) → AtSpot tac program calls worth points placement hidden frame scope at s' state
       → IsHome scope s'.locals home number → home.is_object ≡ false → IsElement program s' t (object_place (LocalObject number) home.c_type)
@@ -79,7 +79,7 @@ module _ (tac : Tac) (program : Program) (calls : Calls) (worth : ℕ) (points :
       → Does tac worth start n lag' slack' Stands (continue_with next (find (around_of program) calls object s))
   then_local {B} {Stands} {start} {n} {lag} {lag'} {slack} {slack'} object home is next at t typed small s state p h more rest =
       then_does (find (around_of program) calls object) next s (finds_local tac program calls worth points placement hidden frame scope runs well keep object home is at start n lag slack s state p h) more (λ place s' state' e p' found.
-      let keeps = find_keeps program well calls keep (types_of scope) object small t typed s h.sound place s' e in
+      let keeps = find_keeps program well calls keep (scope_types scope) object small t typed s h.sound place s' e in
       let p'' : Passing tac worth start state' n s'.units (lag + object_units object) (slack + 6) = slower (slack + 6) p' (omega arith) in
       let there : AtSpot tac program calls worth points placement hidden frame scope at s' state = subst (λ u. AtSpot tac program calls worth points placement hidden frame scope at s' u) found.same found.there in
       subst (λ q. Does tac worth start n lag' slack' Stands (next q s')) (sym found.place_is)
@@ -149,13 +149,13 @@ module _ (tac : Tac) (program : Program) (calls : Calls) (worth : ℕ) (points :
   -- `x = v`, where x is a local in a register
   pub assigns_local : (place : Pos) (object : Object) (operand : Value) → FollowsValue operand → (home : Home) → register_home scope object ≡ Some home
       → (mode : Mode) (from to : Spot) (lowered : Lowered) (t : CType) → AssignCode points (is_used mode) (Some home) (ObjectCode program points scope false (not (is_pure scope operand)) object) (ValueCode program points scope Kept operand) from to lowered
-      → type_of around (T.Assign place object operand) ≡ Some t → has_small program.structs (T.Assign place object operand) ≡ true
+      → type_of around (T.Assign place object operand) ≡ Some t → makes (is_storable program.structs) (T.Assign place object operand) ≡ true
       → (start : State) (n lag slack : ℕ) (s : S.State) (state : State) → Passing tac worth start state n s.units lag slack → AtSpot tac program calls worth points placement hidden frame scope from.at s state
       → Does tac worth start n (lag + value_units (T.Assign place object operand)) (slack + (laid_by lowered + 6)) (ComesToValue tac program calls worth points placement hidden frame scope mode from to lowered state.running.registers)
       (value (around_of program) calls (T.Assign place object operand) s)
   assigns_local place object operand follows home is mode from to lowered t code typed small start n lag slack s state p at =
       let parts = first_parts (type_of_object around object) (type_of around operand) (λ a b. is_scalar a && same_type a b) t typed in
-      let sizes = and_parts (object_has_small program.structs object) (has_small program.structs operand) small in
+      let sizes = and_parts (object_makes (is_storable program.structs) object) (makes (is_storable program.structs) operand) small in
       ticked tac program calls worth points placement hidden frame scope runs well keep (find (around_of program) calls object >>= λ q. value (around_of program) calls operand >>= λ a. write (around_of program) place q a) from.at s state p at (omega arith) (λ left p1 at1.
       then_local object home is (λ q. value (around_of program) calls operand >>= λ a. write (around_of program) place q a) from.at t parts.left sizes.0 (record s { units = left }) state p1 at1 (omega arith) (λ number s2 p2 at2 in_scope own element.
       then_value tac program calls worth points placement hidden frame scope runs well keep operand follows (λ a. write (around_of program) place (object_place (LocalObject number) home.c_type) a) Kept from code.0 code.1 parts.b code.2 parts.right sizes.1 s2 state p2 at2 (omega arith) (λ scalar s3 state3 p3 came keeps has.

@@ -25,7 +25,8 @@ use Rattle.tac_ir.specs.Calls.{leave, closed}
 use Rattle.tac_ir.specs.First.{named_global, placed_literal}
 use Rattle.tac_ir.proofs.Seen.{seen_emitted}
 use Rattle.tac_build.specs.Homes.{Home, Scope}
-use Rattle.tac_simulation.specs.Standing.{Placement, Frame, image, global_object, literal_object, context_of, IsAlive, IsAmong, HoldsFor, MemoryStands, HomeStands, HomesStand, At}
+use Rattle.tac_build.specs.Forms.{context_of}
+use Rattle.tac_simulation.specs.Standing.{Placement, Frame, image, global_object, literal_object, IsAlive, IsAmong, HoldsFor, MemoryStands, HomeStands, HomesStand, At}
 use Rattle.tac_simulation.specs.Entered.{entered, is_among, hidden_within}
 use Rattle.tac_simulation.proofs.Given.{typed_given, held_given}
 use Rattle.tac_simulation.proofs.Fewer.{fewer_stand, fewer_held}
@@ -93,7 +94,7 @@ module _ (program : Program) (placement placed : Placement) (hidden : ℕ → Op
     (extends : Extends (entered site number function state) s0.next_local placement placed)
     (newer : s0.next_local ≤ s.next_local) (may : (name : Name) → WasGiven s0 name → MayBecome (s0.objects name) (s.objects name))
     (there : (local : Local) (own : Inner) → own_type frame.objects local ≡ Some own → (held : ℕ → Option Value) × (t.objects (OfActivation frame.number local) ≡ Typed own.c_type 1 held))
-    (older : frame.number < state.next_activation) (further : state.next_activation < t.next_activation) where
+    (further : state.next_activation < t.next_activation) where
   was_alive : (name : Name) → IsAlive (all_killed s.locals s.objects name) → IsAlive (s.objects name)
   was_alive name lives = subst IsAlive (killed_same s.locals s.objects name lives) lives
 
@@ -198,7 +199,8 @@ module _ (program : Program) (placement placed : Placement) (hidden : ℕ → Op
     own = record {
       there = λ local own is.
           let own_there = there local own is in
-          (own_there.0, cond-false (frame.number == t.running.number) Absent (t.objects (OfActivation frame.number local)) (ne_eqb frame.number t.running.number (λ e. apart (e ∙ h.number))) ∙ own_there.1, omega (arith, older, further));
+          let older = (before.own.there local own is).2 in
+          (own_there.0, cond-false (frame.number == t.running.number) Absent (t.objects (OfActivation frame.number local)) (ne_eqb frame.number t.running.number (λ e. apart older (e ∙ h.number))) ∙ own_there.1, omega (arith, older, further));
       in_scope = λ number local is lives.
           let given = (before.stands.placed number (OfActivation frame.number local) is).0 in
           before.own.in_scope number local is (lived (LocalObject number) given lives);
@@ -210,8 +212,8 @@ module _ (program : Program) (placement placed : Placement) (hidden : ℕ → Op
     paid = refl;
   }
     where
-      apart : frame.number ≡ state.next_activation → ⊥
-      apart e = omega (arith, e, older)
+      apart : frame.number < state.next_activation → frame.number ≡ state.next_activation → ⊥
+      apart older e = omega (arith, e, older)
 
   -- the code is behind the call
   pub at_back : (held : Option Value) → At program placement hidden frame scope (suc at) (restored s0 s) (gone_back site state held t)

@@ -5,7 +5,7 @@ use Rattle.c_typed.specs.Typed as T
 use Rattle.c_typed.specs.Typed.{Value, LocalDef, ForStart, Program}
 use Rattle.c_well_typed.specs.Expressions.{type_of}
 use Rattle.c_well_typed.specs.Programs.{IsWellTyped}
-use Rattle.c_well_typed.specs.Sizes.{local_has_small}
+use Rattle.c_well_typed.specs.Sizes.{local_makes, is_storable}
 use Rattle.c_well_typed.specs.Statements.{is_local, are_locals}
 use Rattle.ref_semantics.specs.Values as V
 use Rattle.ref_semantics.specs.Store as S
@@ -20,7 +20,8 @@ use Rattle.tac_ir.specs.Values.{OfActivation}
 use Rattle.tac_ir.specs.States.{State}
 use Rattle.tac_build.specs.Homes.{Home, Scope}
 use Rattle.tac_build.specs.Spots.{Spot, Dropped}
-use Rattle.tac_simulation.specs.Standing.{Placement, Frame, types_of, context_of}
+use Rattle.tac_build.specs.Forms.{scope_types, context_of}
+use Rattle.tac_simulation.specs.Standing.{Placement, Frame}
 use Rattle.tac_simulation.proofs.Paths.{comes, start, along, allows, eases, eased}
 use Rattle.tac_simulation.proofs.Spotting.{Runs}
 use Rattle.tac_simulation.proofs.Evaluating.{ValueDoes, AtSpot}
@@ -34,7 +35,7 @@ use Rattle.tac_simulation.proofs.Widens.{numbers_later, objects_before, local_wi
 extends_same : (frame : Frame) (count : ℕ) (placement : Placement) → Extends frame count placement placement
 extends_same frame count placement number = inl refl
 
-extends_then : (frame : Frame) (count later : ℕ) (first second third : Placement) → count ≤ later → Extends frame count first second → Extends frame later second third → Extends frame count first third
+pub extends_then : (frame : Frame) (count later : ℕ) (first second third : Placement) → count ≤ later → Extends frame count first second → Extends frame later second third → Extends frame count first third
 extends_then frame count later first second third less one other number = by (other number) (one number)
   where
     by : ((third number ≡ second number) ⊎ ((later ≤ number) × ((local : Local) × (third number ≡ Some (OfActivation frame.number local))))) → ((second number ≡ first number) ⊎ ((count ≤ number) × ((local : Local) × (second number ≡ Some (OfActivation frame.number local)))))
@@ -67,14 +68,14 @@ module _ (tac : Tac) (program : Program) (calls : Calls) (worth : ℕ) (points :
       → DeclaresAll tac program calls worth points hidden frame (local ∷ others)
   declares_more local others one rest is_taken placement scope from to inner code typed small numbered have s t h =
       let parts = and_parts (is_local (context_of program scope) local) _ typed in
-      let sizes = and_parts (local_has_small program.structs local) _ small in
+      let sizes = and_parts (local_makes (is_storable program.structs) local) _ small in
       let type_is : code.1.c_type ≡ local.c_type = ap (λ (home : Home). home.c_type) code.2.0 in
       let mid = local_widens program points scope local _ from code.0 code.1 code.2 in
       then_does (Meaning.declare (around_of program) calls local) (λ begun. Meaning.declare_all (around_of program) calls others) s
       (one _ placement scope from code.0 code.1 code.2 parts.0 sizes.0 numbered (objects_before frame.objects (locals_widen program points (code.1 ∷ scope) is_taken others code.0 to inner code.3) have) s t h) (omega arith)
       (λ way s1 t1 e p begun.
       eases (along p (allows
-      (rest is_taken begun.placed (code.1 ∷ scope) code.0 to inner code.3 (subst (λ c. are_locals (record { program = program; locals = c ∷ types_of scope }) others ≡ true) (sym type_is) parts.1) sizes.1
+      (rest is_taken begun.placed (code.1 ∷ scope) code.0 to inner code.3 (subst (λ c. are_locals (record { program = program; locals = c ∷ scope_types scope }) others ≡ true) (sym type_is) parts.1) sizes.1
       (local_numbered program points scope local _ from code.0 code.1 code.2, numbers_later from.counts code.0.counts mid.variables scope numbered) have s1 t1 begun.there)
       (λ way' s2 t2 g. record {
         placed = g.placed;

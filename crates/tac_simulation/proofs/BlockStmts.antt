@@ -20,8 +20,9 @@ use Rattle.tac_ir.specs.Values as M
 use Rattle.tac_ir.specs.States.{State}
 use Rattle.tac_build.specs.Homes.{Scope}
 use Rattle.tac_build.specs.StatementCode.{Ways}
+use Rattle.tac_build.specs.Forms.{scope_types, context_of}
 use Rattle.tac_simulation.specs.Standing as Standing
-use Rattle.tac_simulation.specs.Standing.{Placement, Frame, At, IsAmong, context_of}
+use Rattle.tac_simulation.specs.Standing.{Placement, Frame, At, IsAmong}
 use Rattle.tac_simulation.proofs.Paths.{Stand, Does, comes, stops, start, eases, along}
 use Rattle.tac_simulation.proofs.Spotting.{Runs}
 use Rattle.tac_simulation.proofs.Combining.{ticked}
@@ -64,7 +65,7 @@ module _ (tac : Tac) (program : Program) (calls : Calls) (worth : ℕ) (points :
     stays_ended to t there = record {
       stands = subst (λ (last : S.State). At program placement hidden frame scope to last t) (sym given_up_is)
           (at_ended program placement placed hidden frame scope more s.next_local opens.names s.locals s1 t to extends opens.locals depth
-          (among_given s s.locals (Standing.types_of scope) at.sound.locals) (among_newer s.next_local opens.names opens.newer) (λ number object is. (at.stands.stands.placed number object is).0) there.stands);
+          (among_given s s.locals (scope_types scope) at.sound.locals) (among_newer s.next_local opens.names opens.newer) (λ number object is. (at.stands.stands.placed number object is).0) there.stands);
       sound = (left_keeps at.sound opens).sound;
     }
 
@@ -74,7 +75,7 @@ module _ (tac : Tac) (program : Program) (calls : Calls) (worth : ℕ) (points :
     gives_ended to t there (Some scalar) held gives =
         subst (λ (last : S.State). Standing.HoldsFor program last.objects placement scalar held) (sym given_up_is)
         (holds_ended program placement placed hidden frame scope more s.next_local opens.names s.locals s1 t to extends opens.locals depth
-        (among_given s s.locals (Standing.types_of scope) at.sound.locals) (among_newer s.next_local opens.names opens.newer) (λ number object is. (at.stands.stands.placed number object is).0) there.stands scalar held gives)
+        (among_given s s.locals (scope_types scope) at.sound.locals) (among_newer s.next_local opens.names opens.newer) (λ number object is. (at.stands.stands.placed number object is).0) there.stands scalar held gives)
 
     leaves_ended : (onward : ℕ) (ways : Ways program points) (way : Completion) (t : State) → Leaving placed (more ++ scope) onward ways way s1 t → Leaving placement scope onward ways way (given_up s s1) t
     leaves_ended onward ways Normal t there = stays_ended onward t there
@@ -108,5 +109,5 @@ module _ (tac : Tac) (program : Program) (calls : Calls) (worth : ℕ) (points :
   block_stmts items does within placement scope from to ways code typed small numbered objects enough s state at =
       ticked tac program calls worth points placement hidden frame scope runs well keep (scoped (Meaning.block (around_of program) calls items)) from.at s state (start state s.units) at (omega arith) (λ left p at'.
       eases (along p (ends_scope placement scope to.at ways (record s { units = left }) from.at state at' (Meaning.block (around_of program) calls items (record s { units = left }))
-      (λ way s1 e. ((block_leads program well calls keep (Standing.types_of scope) within items typed small (record s { units = left }) at'.sound).leads way s1 e).0)
+      (λ way s1 e. ((block_leads program well calls keep (scope_types scope) within items typed small (record s { units = left }) at'.sound).leads way s1 e).0)
       (does within placement scope from to ways code typed small numbered objects (omega arith) (record s { units = left }) state at'))) (omega arith) (omega arith))

@@ -9,7 +9,7 @@ use Rattle.c_typed.specs.Typed as T
 use Rattle.c_typed.specs.Typed.{Value, Values, Designator, Program}
 use Rattle.c_well_typed.specs.Expressions.{given, where_holds, result_of, types_of, type_of_designator}
 use Rattle.c_well_typed.specs.Programs.{IsWellTyped}
-use Rattle.c_well_typed.specs.Sizes.{all_have_small, designator_has_small}
+use Rattle.c_well_typed.specs.Sizes.{all_make, designator_makes, is_storable}
 use Rattle.ref_semantics.specs.Values as V
 use Rattle.ref_semantics.specs.Values.{Scalar, IntegerValue, NullValue, FunctionValue, PointerValue, RawPointer}
 use Rattle.ref_semantics.specs.Store as S
@@ -19,7 +19,7 @@ use Rattle.ref_semantics.specs.First.{around_of}
 use Rattle.ref_typing.specs.Sound.{HasType, HaveTypes, Sound, Later}
 use Rattle.ref_typing.specs.Keeping.{CallsKeep}
 use Rattle.ref_typing.proofs.Lasting.{type_lasts}
-use Rattle.ref_typing.proofs.Splitting.{two_parts, called_parts}
+use Rattle.c_well_typed.proofs.Splitting.{two_parts, called_parts}
 use Rattle.tac_ir.specs.declared.program.Counts.{Counts}
 use Rattle.tac_ir.specs.declared.register.Register.{Register}
 use Rattle.tac_ir.specs.declared.register.Register.TheVariants as R
@@ -30,9 +30,9 @@ use Rattle.tac_ir.specs.States.{State}
 use Rattle.tac_build.specs.Homes.{Scope}
 use Rattle.tac_build.specs.Spots.{Spot, with_call, Lowered, Mode}
 use Rattle.tac_build.specs.Code.{call_gives}
-use Rattle.tac_simulation.specs.Forms.{CalleeNamed}
-use Rattle.tac_simulation.specs.Standing as Standing
-use Rattle.tac_simulation.specs.Standing.{Placement, Frame, KeepsBefore, At, IsBefore, context_of, HoldsFor, LoweredStands}
+use Rattle.tac_build.specs.Forms.{scope_types, IsBefore, context_of, CalleeForm, CalleeNamed}
+use Rattle.tac_build.proofs.Forms.{designator_form}
+use Rattle.tac_simulation.specs.Standing.{Placement, Frame, KeepsBefore, At, HoldsFor, LoweredStands}
 use Rattle.tac_simulation.proofs.Paths.{Passage as Passing, Does, comes, stops, eased}
 use Rattle.tac_simulation.proofs.Spotting.{Runs}
 use Rattle.tac_simulation.proofs.Evaluating
@@ -111,7 +111,7 @@ module _ (tac : Tac) (program : Program) (calls : Calls) (worth : ℕ) (points :
 
   pub called : (is_used : Bool) (place : Pos) (function : Designator) (c_type : CType) (arguments : Values) → Leads function → Passed arguments → Follows (T.Call is_used place function c_type arguments)
   called is_used place function c_type arguments leads passed mode from to lowered t code typed small start n lag slack s state p at =
-      let sizes = and_parts (designator_has_small program.structs function) (all_have_small program.structs arguments) small in
+      let sizes = and_parts (designator_makes (is_storable program.structs) function) (all_make (is_storable program.structs) arguments) small in
       let parts = two_parts (type_of_designator (context_of program scope) function) (types_of (context_of program scope) arguments)
       (λ u types. given (result_of types u) (λ result. where_holds (same_type u c_type) (if is_used then result else Void))) t typed in
       let known = called_parts parts.b parts.a c_type is_used t parts.gave in
@@ -131,7 +131,8 @@ module _ (tac : Tac) (program : Program) (calls : Calls) (worth : ℕ) (points :
       eased p3 (omega arith) (let laid = ap laid_by code.8 in let most = gives_laid is_used c_type site in let same = ap all_passed_ticks known.passed in omega (arith, laid, most, same)) in
       let done = calls_do place is_used known.result known.parameters f scalars code.1.at site code.2 code.4 code.7.0 start n (lag + value_units (T.Call is_used place function c_type arguments)) (slack + (laid_by lowered + 6)) s2 state2 p4
       (record { stands = come2.0.there; sound = keeps2.sound })
-      (callee_later code.0.counts code.2 parts.a f s1 s2 state1.running.registers state2.running.registers keeps2.later kept found.1 holds1 come1.1) come2.1 function_typed arguments_typed in
+      (callee_later code.0.counts code.2 parts.a f s1 s2 state1.running.registers state2.running.registers keeps2.later kept found.1 holds1 come1.1) come2.1
+      (subst (λ u. CalleeForm code.2 u) known.is_function (designator_form program points scope function parts.a from code.0 code.2 code.3 parts.left code.5).1) function_typed arguments_typed in
       subst (λ u. Does tac worth start n (lag + value_units (T.Call is_used place function c_type arguments)) (slack + (laid_by lowered + 6))
       (Evaluating.ComesToValue tac program calls worth points placement hidden frame scope mode from to lowered state.running.registers) (calls place is_used u f scalars s2)) (sym known.called)
       (returned is_used place mode from to lowered known.result known.parameters f scalars code.1 site state.running.registers s2 state2
@@ -147,7 +148,7 @@ module _ (tac : Tac) (program : Program) (calls : Calls) (worth : ℕ) (points :
           → Does tac worth start n lag slack (Calling.Returned tac program calls worth points placement hidden frame scope next.at site (is_used && not (is_void result)) state2.running.registers) outcome
           → Does tac worth start n lag slack (Evaluating.ComesToValue tac program calls worth points placement hidden frame scope mode from to lowered before) outcome
       returned is_used place mode from to lowered result parameters f scalars next site before s2 state2 is there sound function_typed arguments_typed kept least _ e (comes scalar s3 state3 p back) =
-          let keeps = keep (Standing.types_of scope) place is_used result parameters f scalars s2 sound function_typed arguments_typed scalar s3 e in
+          let keeps = keep (scope_types scope) place is_used result parameters f scalars s2 sound function_typed arguments_typed scalar s3 e in
           comes scalar s3 state3 p (
             record {
               there = subst (λ where_it_is. At program placement hidden frame scope where_it_is s3 state3) (sym there) back.there;

@@ -25,7 +25,8 @@ use Rattle.tac_build.specs.Homes.{Scope}
 use Rattle.tac_build.specs.Code.{HasOp, function_number}
 use Rattle.tac_build.specs.ProgramCode.{FunctionCode, FunctionsCode, Code}
 use Rattle.ref_typing.specs.Sound.{Sound}
-use Rattle.tac_simulation.specs.Standing.{Placement, Frame, HoldsFor, At, context_of, surroundings}
+use Rattle.tac_build.specs.Forms.{context_of}
+use Rattle.tac_simulation.specs.Standing.{Placement, Frame, HoldsFor, At, surroundings}
 use Rattle.tac_simulation.specs.Entered.{entered, hidden_within}
 use Rattle.tac_simulation.proofs.Paths.{Stand, Passage as Passing, Passes, Does, stops, stepped, ends_seen}
 use Rattle.tac_simulation.specs.Comparing.{ticks_per_unit}

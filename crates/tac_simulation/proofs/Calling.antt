@@ -18,6 +18,7 @@ use Rattle.tac_ir.specs.Trees.{Registers}
 use Rattle.tac_ir.specs.States.{State}
 use Rattle.tac_build.specs.Homes.{Scope}
 use Rattle.tac_build.specs.Code.{HasOp}
+use Rattle.tac_build.specs.Forms.{CalleeForm}
 use Rattle.tac_simulation.specs.Standing.{Placement, Frame, At, HoldsFor}
 use Rattle.tac_simulation.proofs.Paths.{Passage as Passing, Does}
 use Rattle.tac_simulation.proofs.Evaluating.{AtSpot, CalleeStands, AllHold, all_passed_ticks}
@@ -47,5 +48,5 @@ module _ (tac : Tac) (program : Program) (calls : Calls) (worth : ℕ) (points :
       → (start : State) (n lag slack : ℕ) (s : S.State) (state : State) → Passing tac worth start state n s.units lag (slack + all_passed_ticks parameters + 3) → AtSpot tac program calls worth points placement hidden frame scope at s state
       → CalleeStands tac program calls worth points placement hidden frame scope callee s.objects state.running.registers function
       → AllHold tac program calls worth points placement hidden frame scope s.objects state.running.registers registers given
-      → HasType program s (Pointer (Function result parameters)) function → HaveTypes program s parameters given
+      → CalleeForm callee (Function result parameters) → HasType program s (Pointer (Function result parameters)) function → HaveTypes program s parameters given
       → Does tac worth start n lag slack (Returned at site (is_used && not (is_void result)) state.running.registers) (calls here is_used (Function result parameters) function given s)

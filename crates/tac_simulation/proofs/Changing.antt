@@ -15,7 +15,8 @@ use Rattle.tac_ir.specs.Events.{TacEvent, seen}
 use Rattle.tac_ir.specs.Trees.{Registers}
 use Rattle.tac_ir.specs.States.{State}
 use Rattle.tac_build.specs.Homes.{Home, Scope}
-use Rattle.tac_simulation.specs.Standing.{Placement, Frame, MemoryStands, HoldsFor, HomeStands, HomesStand, At, IsAlive, context_of, types_of}
+use Rattle.tac_build.specs.Forms.{context_of, scope_types}
+use Rattle.tac_simulation.specs.Standing.{Placement, Frame, MemoryStands, HoldsFor, HomeStands, HomesStand, At, IsAlive}
 use Rattle.tac_simulation.proofs.Given.{NamesGiven, typed_given, held_given}
 
 module _ (program : Program) (placement : Placement) (hidden : ℕ → Option V.Content) (frame : Frame) (scope : Scope) (s : S.State) (t : State) (sound : Sound (context_of program scope) s)
@@ -47,7 +48,7 @@ module _ (program : Program) (placement : Placement) (hidden : ℕ → Option V.
         ),
       )
 
-  homes_changed : (own : Scope) (locals : List ℕ) → AreLocals s locals (types_of own) → HomesStand program placement frame.number s.objects t.running.registers own locals → HomesStand program placement frame.number objects registers own locals
+  homes_changed : (own : Scope) (locals : List ℕ) → AreLocals s locals (scope_types own) → HomesStand program placement frame.number s.objects t.running.registers own locals → HomesStand program placement frame.number objects registers own locals
   homes_changed [] [] are stands = tt
   homes_changed (home ∷ own) (newest ∷ others) are stands = (home_changed home newest are.0 stands.0, homes_changed own others are.2 stands.1, stands.2)
   homes_changed [] (newest ∷ others) are stands = absurd stands

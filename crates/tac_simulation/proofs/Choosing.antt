@@ -9,7 +9,7 @@ use Rattle.c_typed.specs.Typed.{Value, Program}
 use Rattle.c_well_typed.specs.Context.{Context}
 use Rattle.c_well_typed.specs.Expressions.{where_holds, given_two, type_of}
 use Rattle.c_well_typed.specs.Programs.{IsWellTyped}
-use Rattle.c_well_typed.specs.Sizes.{has_small}
+use Rattle.c_well_typed.specs.Sizes.{makes, is_storable}
 use Rattle.ref_semantics.specs.Values as V
 use Rattle.ref_semantics.specs.Values.{Scalar}
 use Rattle.ref_semantics.specs.Store as S
@@ -18,7 +18,7 @@ use Rattle.ref_semantics.specs.Meaning.{Calls, value, is_true}
 use Rattle.ref_semantics.specs.First.{around_of}
 use Rattle.ref_typing.specs.Sound.{Sound}
 use Rattle.ref_typing.specs.Keeping.{CallsKeep}
-use Rattle.ref_typing.proofs.Splitting.{First, given_parts, first_parts}
+use Rattle.c_well_typed.proofs.Splitting.{First, given_parts, first_parts}
 use Rattle.tac_ir.specs.Code.{Op, Tac, Tree}
 use Rattle.tac_ir.specs.Code as O
 use Rattle.tac_ir.specs.Values as M
@@ -27,8 +27,8 @@ use Rattle.tac_ir.specs.Trees.{Registers, computes, tree_nodes, integer_in}
 use Rattle.tac_build.specs.Homes.{Scope}
 use Rattle.tac_build.specs.Spots.{Spot, behind, with_temporary, with_expression, temporary, expression, Lowered, AsInteger, AsPointer, AsObject, AsNothing, Kept, Mode}
 use Rattle.tac_build.specs.Code.{HasOp, Joins, JoinsWith}
-use Rattle.tac_simulation.specs.Forms.{SpotGrows}
-use Rattle.tac_simulation.specs.Standing.{Placement, Frame, KeepsBefore, At, context_of, LoweredStands}
+use Rattle.tac_build.specs.Forms.{context_of, SpotGrows}
+use Rattle.tac_simulation.specs.Standing.{Placement, Frame, KeepsBefore, At, LoweredStands}
 use Rattle.tac_simulation.proofs.Spotting.{Runs, kept_write, written_there, with_written}
 use Rattle.tac_simulation.proofs.Evaluating.{ValueDoes, ComesToValue, value_units, laid_by, left_for}
 use Rattle.tac_simulation.proofs.Paths.{Stand, Passage as Passing, Does, comes, stops, slower, eases}
@@ -130,11 +130,11 @@ module _ (tac : Tac) (program : Program) (calls : Calls) (worth : ℕ) (points :
       from code.0 code.5 code.4 tested.0 code.8 tested.1 sizes'.0 (record s { units = left' }) state p' at' (omega arith) (λ z s' state' p'' came sound is fits.
       by z s' state' (slower (slack + 12 + tree_nodes code.4) p'' (let least = left_most condition in let some = some_node code.4 in omega (arith, least, some))) came.there sound is fits came.kept (not_zero z) refl))
     where
-      sizes : ((has_small program.structs condition && has_small program.structs taken) ≡ true) × (has_small program.structs otherwise ≡ true)
-      sizes = and_parts (has_small program.structs condition && has_small program.structs taken) (has_small program.structs otherwise) small
+      sizes : ((makes (is_storable program.structs) condition && makes (is_storable program.structs) taken) ≡ true) × (makes (is_storable program.structs) otherwise ≡ true)
+      sizes = and_parts (makes (is_storable program.structs) condition && makes (is_storable program.structs) taken) (makes (is_storable program.structs) otherwise) small
 
-      sizes' : (has_small program.structs condition ≡ true) × (has_small program.structs taken ≡ true)
-      sizes' = and_parts (has_small program.structs condition) (has_small program.structs taken) sizes.0
+      sizes' : (makes (is_storable program.structs) condition ≡ true) × (makes (is_storable program.structs) taken ≡ true)
+      sizes' = and_parts (makes (is_storable program.structs) condition) (makes (is_storable program.structs) taken) sizes.0
 
       tested : (c : CType) × (type_of around condition ≡ Some c) × (given_two (type_of around taken) (type_of around otherwise) (λ a b. where_holds (is_integer c && same_type a b) a) ≡ Some t)
       tested = given_parts (type_of around condition) (λ c. given_two (type_of around taken) (type_of around otherwise) (λ a b. where_holds (is_integer c && same_type a b) a)) t typed

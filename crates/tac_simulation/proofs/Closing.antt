@@ -16,7 +16,8 @@ use Rattle.tac_ir.specs.Values.{OfActivation, Value}
 use Rattle.tac_ir.specs.Trees.{Registers}
 use Rattle.tac_ir.specs.States.{State}
 use Rattle.tac_build.specs.Homes.{Home, Scope}
-use Rattle.tac_simulation.specs.Standing.{Placement, Frame, image, types_of, context_of, IsAlive, IsAmong, IsApart, HoldsFor, MemoryStands, HomeStands, HomesStand, At}
+use Rattle.tac_build.specs.Forms.{scope_types, context_of}
+use Rattle.tac_simulation.specs.Standing.{Placement, Frame, image, IsAlive, IsAmong, IsApart, HoldsFor, MemoryStands, HomeStands, HomesStand, At}
 use Rattle.tac_simulation.proofs.Executing.{Extends}
 use Rattle.tac_simulation.proofs.Fewer.{fewer_stand, fewer_held}
 
@@ -134,7 +135,7 @@ module _ (program : Program) (placement placed : Placement) (hidden : ℕ → Op
   homes_here = subst (λ locals. HomesStand program placed frame.number s.objects t.running.registers (more ++ scope) locals) own h.homes
 
   outer_given : (number : ℕ) → IsAmong number s0.locals → number < s0.next_local
-  outer_given number among = among_given s0 s0.locals (types_of scope) number sound.locals among
+  outer_given number among = among_given s0 s0.locals (scope_types scope) number sound.locals among
 
   outer_none : (number : ℕ) → IsAmong number s0.locals → IsAmong number fresh → ⊥
   outer_none number among in_fresh = not_fresh program placed frame.number s.objects t.running.registers more scope fresh s0.locals number depth homes_here in_fresh among

@@ -4,7 +4,7 @@ use Rattle.c_typed.specs.Types.{CType}
 use Rattle.c_typed.specs.Typed.{Value, Program}
 use Rattle.c_well_typed.specs.Expressions.{type_of}
 use Rattle.c_well_typed.specs.Programs.{IsWellTyped}
-use Rattle.c_well_typed.specs.Sizes.{has_small}
+use Rattle.c_well_typed.specs.Sizes.{makes, is_storable}
 use Rattle.ref_semantics.specs.Values as V
 use Rattle.ref_semantics.specs.Values.{Place, Scalar}
 use Rattle.ref_semantics.specs.Store as S
@@ -25,8 +25,9 @@ use Rattle.tac_ir.specs.Meaning.{execute}
 use Rattle.tac_build.specs.Homes.{Scope}
 use Rattle.tac_build.specs.Spots.{Spot, Lowered, Mode}
 use Rattle.tac_build.specs.Code.{HasOp, ValueCode}
+use Rattle.tac_build.specs.Forms.{scope_types, context_of}
 use Rattle.tac_simulation.specs.Comparing.{ticks_per_unit}
-use Rattle.tac_simulation.specs.Standing.{Placement, Frame, KeepsBefore, At, types_of, context_of, LoweredStands, surroundings}
+use Rattle.tac_simulation.specs.Standing.{Placement, Frame, KeepsBefore, At, LoweredStands, surroundings}
 use Rattle.tac_simulation.proofs.Paths.{Stand, Passage as Passing, Passes, Does, comes, stops, stepped, eased, eases, enter}
 use Rattle.tac_simulation.proofs.Spotting.{Runs, IsFrom, IsNoLocal, kept_write, at_units, before_at, around_is, with_written, at_written}
 use Rattle.tac_simulation.proofs.Evaluating
@@ -65,7 +66,7 @@ module _ (tac : Tac) (program : Program) (calls : Calls) (worth : ℕ) (points :
 
   -- an operand comes to its value, and the evaluation goes on
   pub then_value : {B : Type 0} {Stands : Stand B} {start : State} {n lag lag' slack slack' : ℕ} (tree : Value) → Evaluating.ValueDoes tac program calls worth points placement hidden frame scope tree → (next : Scalar → Eval B)
-      → (mode : Mode) (from to : Spot) (lowered : Lowered) (t : CType) → ValueCode program points scope mode tree from to lowered → type_of (context_of program scope) tree ≡ Some t → has_small program.structs tree ≡ true
+      → (mode : Mode) (from to : Spot) (lowered : Lowered) (t : CType) → ValueCode program points scope mode tree from to lowered → type_of (context_of program scope) tree ≡ Some t → makes (is_storable program.structs) tree ≡ true
       → (s : S.State) (state : State) → Passing tac worth start state n s.units lag slack → Evaluating.AtSpot tac program calls worth points placement hidden frame scope from.at s state → lag + Evaluating.value_units tree ≤ lag'
       → ((scalar : Scalar) (s' : S.State) (state' : State) → Passing tac worth start state' n s'.units (lag + Evaluating.value_units tree) (slack + (Evaluating.laid_by lowered + Evaluating.left_for tree))
       → Evaluating.ComesToValue tac program calls worth points placement hidden frame scope mode from to lowered state.running.registers scalar s' state' → Keeps (context_of program scope) s s' → HasType program s' t scalar
@@ -78,7 +79,7 @@ module _ (tac : Tac) (program : Program) (calls : Calls) (worth : ℕ) (points :
           → Does tac worth start n (lag + Evaluating.value_units tree) (slack + (Evaluating.laid_by lowered + Evaluating.left_for tree)) (Evaluating.ComesToValue tac program calls worth points placement hidden frame scope mode from to lowered state.running.registers) outcome
           → Does tac worth start n lag' slack' Stands (continue_with next outcome)
       by _ e (comes scalar s' state' p' comes_to) =
-          let keeps = value_keeps program well calls keep (types_of scope) tree small t typed s at.sound scalar s' e in
+          let keeps = value_keeps program well calls keep (scope_types scope) tree small t typed s at.sound scalar s' e in
           rest scalar s' state' p' comes_to keeps.0 keeps.1
       by _ e (stops answer s' a) = let same : Does tac worth start n (lag + Evaluating.value_units tree) slack' Stands (S.Stopped answer s') = stops answer s' a in eases same more (omega arith)
 

@@ -17,7 +17,7 @@ use Rattle.c_typed.proofs.Same.{same_type-true}
 use Rattle.c_well_typed.specs.Context.{Context}
 use Rattle.c_well_typed.specs.Expressions.{is_scalar, is_right, type_of, type_of_object}
 use Rattle.c_well_typed.specs.Programs.{IsWellTyped}
-use Rattle.c_well_typed.specs.Sizes.{has_small, object_has_small}
+use Rattle.c_well_typed.specs.Sizes.{makes, object_makes, is_storable}
 use Rattle.ref_semantics.specs.Values as V
 use Rattle.ref_semantics.specs.Values.{Place, Scalar, IntegerValue, NullValue, FunctionValue, PointerValue, RawPointer, LocalObject, object_place, integer_of}
 use Rattle.ref_semantics.specs.Store as S
@@ -27,7 +27,7 @@ use Rattle.ref_semantics.specs.Meaning.{Calls, value, find, arithmetic, converte
 use Rattle.ref_semantics.specs.First.{around_of}
 use Rattle.ref_typing.specs.Sound.{HasType, Sound}
 use Rattle.ref_typing.specs.Keeping.{Keeps, CallsKeep, IsElement}
-use Rattle.ref_typing.proofs.Splitting.{first_parts}
+use Rattle.c_well_typed.proofs.Splitting.{first_parts}
 use Rattle.ref_typing.proofs.Storing.{read_keeps}
 use Rattle.ref_typing.proofs.Lasting.{element_lasts}
 use Rattle.ref_typing.proofs.Operating.{integer_scalar}
@@ -40,13 +40,14 @@ use Rattle.tac_ir.specs.States.{State}
 use Rattle.tac_build.specs.Homes.{Home, Scope, register_home, is_pure}
 use Rattle.tac_build.specs.Spots.{Spot, Lowered, AsInteger, Mode, Kept, is_used}
 use Rattle.tac_build.specs.Code.{CompoundCode, compound_tree, ValueCode, ObjectCode}
-use Rattle.tac_simulation.specs.Standing.{Placement, Frame, At, ScalarStands, types_of, context_of}
+use Rattle.tac_build.specs.Forms.{scope_types, context_of}
+use Rattle.tac_simulation.specs.Standing.{Placement, Frame, At, ScalarStands}
 use Rattle.tac_simulation.proofs.Paths.{Stand, Passage as Passing, Does, stray}
 use Rattle.tac_simulation.proofs.Spotting.{Runs, written_there}
 use Rattle.tac_simulation.proofs.Evaluating.{ValueDoes, AtSpot, Came, ComesToValue, value_units, laid_by, left_for}
 use Rattle.tac_simulation.proofs.Combining.{ticked, then_value}
 use Rattle.tac_simulation.proofs.Constants.{left_most}
-use Rattle.tac_simulation.proofs.Forms.{value_form}
+use Rattle.tac_build.proofs.Forms.{value_form}
 use Rattle.tac_simulation.proofs.Integers.{integer_is, integer_fits}
 use Rattle.tac_simulation.proofs.Computing.{converted_fits, arithmetic_is, computes_arithmetic, computes_convert}
 use Rattle.tac_simulation.proofs.Assigning.{IsHome, Own, own_at}
@@ -109,7 +110,7 @@ module _ (tac : Tac) (program : Program) (calls : Calls) (worth : ℕ) (points :
 
   -- an operand comes to an integer of its type, and the evaluation goes on
   pub then_number : {B : Type 0} {Stands : Stand B} {start : State} {n lag lag' slack slack' : ℕ} (tree : Value) → Follows tree → (next : Scalar → Eval B)
-      → (from to : Spot) (own : IntType) (a : Tree) (t : CType) → ValueCode program points scope Kept tree from to (AsInteger own a) → type_of around tree ≡ Some t → has_small program.structs tree ≡ true
+      → (from to : Spot) (own : IntType) (a : Tree) (t : CType) → ValueCode program points scope Kept tree from to (AsInteger own a) → type_of around tree ≡ Some t → makes (is_storable program.structs) tree ≡ true
       → (s : S.State) (state : State) → Passing tac worth start state n s.units lag slack → AtSpot tac program calls worth points placement hidden frame scope from.at s state → lag + value_units tree ≤ lag'
       → ((z : ℤ) (s' : S.State) (state' : State) → Passing tac worth start state' n s'.units (lag + value_units tree) (slack + (2 * tree_nodes a + left_for tree))
       → Came tac program calls worth points placement hidden frame scope from to state.running.registers s' state' → Keeps around s s' → computes state'.running.registers a ≡ Some z → t ≡ Integer own → is_value own z ≡ true
@@ -143,7 +144,7 @@ module _ (tac : Tac) (program : Program) (calls : Calls) (worth : ℕ) (points :
           subst (λ outcome. Does tac worth start n lag slack Stands (continue_with next outcome)) (sym (read_is ∙ ap (λ f. loaded here (LocalObject number) (scalar_or f false home.c_type) s) e)) (stray Ub.U04 here s)
       by (Some scalar) e =
           let gave : read (around_of program) here (object_place (LocalObject number) home.c_type) s ≡ Then scalar (own_read s) = read_is ∙ ap (λ f. loaded here (LocalObject number) (scalar_or f false home.c_type) s) e in
-          let typed = (read_keeps program well (types_of scope) s sound here t (object_place (LocalObject number) home.c_type) is_scalar_type element).gives scalar (own_read s) gave in
+          let typed = (read_keeps program well (scope_types scope) s sound here t (object_place (LocalObject number) home.c_type) is_scalar_type element).gives scalar (own_read s) gave in
           let holds = held.holds scalar e in
           subst (λ outcome. Does tac worth start n lag slack Stands (continue_with next outcome)) (sym gave) (rest scalar holds.0 holds.1 holds.2 (at_own_read at s state h) typed.0 typed.1)
 
@@ -151,7 +152,7 @@ module _ (tac : Tac) (program : Program) (calls : Calls) (worth : ℕ) (points :
   pub compounds_local : (op : BinOp) (place : Pos) (object_type int_type : IntType) (object : Object) (operand : Value) → Follows operand → (home : Home) → register_home scope object ≡ Some home
       → (mode : Mode) (from to : Spot) (lowered : Lowered) (t : CType)
       → CompoundCode points (is_used mode) (Some home) (ObjectCode program points scope false (not (is_pure scope operand)) object) (ValueCode program points scope Kept operand) object_type (compound_tree op object_type int_type) from to lowered
-      → type_of around (T.AssignArithmetic op place object_type int_type object operand) ≡ Some t → has_small program.structs (T.AssignArithmetic op place object_type int_type object operand) ≡ true
+      → type_of around (T.AssignArithmetic op place object_type int_type object operand) ≡ Some t → makes (is_storable program.structs) (T.AssignArithmetic op place object_type int_type object operand) ≡ true
       → (start : State) (n lag slack : ℕ) (s : S.State) (state : State) → Passing tac worth start state n s.units lag slack → AtSpot tac program calls worth points placement hidden frame scope from.at s state
       → Does tac worth start n (lag + value_units (T.AssignArithmetic op place object_type int_type object operand)) (slack + (laid_by lowered + 6))
       (ComesToValue tac program calls worth points placement hidden frame scope mode from to lowered state.running.registers) (value (around_of program) calls (T.AssignArithmetic op place object_type int_type object operand) s)
@@ -159,7 +160,7 @@ module _ (tac : Tac) (program : Program) (calls : Calls) (worth : ℕ) (points :
       let parts = first_parts (type_of_object around object) (type_of around operand) (λ a b. same_type a (Integer object_type) && is_right op (Integer int_type) b) t typed in
       let tests = and_parts (same_type t (Integer object_type)) (is_right op (Integer int_type) parts.b) parts.holds in
       let is : t ≡ Integer object_type = same_type-true t (Integer object_type) tests.0 in
-      let sizes = and_parts (object_has_small program.structs object) (has_small program.structs operand) small in
+      let sizes = and_parts (object_makes (is_storable program.structs) object) (makes (is_storable program.structs) operand) small in
       let some : 3 ≤ left_for operand = left_most operand in
       ticked tac program calls worth points placement hidden frame scope runs well keep
       (find (around_of program) calls object >>= λ q. value (around_of program) calls operand >>= λ b. read (around_of program) place q >>= λ a. arithmetic op int_type place (converted int_type a) b >>= λ c. write (around_of program) place q (converted object_type c))

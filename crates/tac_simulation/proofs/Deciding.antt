@@ -11,7 +11,7 @@ use Rattle.c_typed.specs.Typed.{Value, Program}
 use Rattle.c_well_typed.specs.Context.{Context}
 use Rattle.c_well_typed.specs.Expressions.{type_of}
 use Rattle.c_well_typed.specs.Programs.{IsWellTyped}
-use Rattle.c_well_typed.specs.Sizes.{has_small}
+use Rattle.c_well_typed.specs.Sizes.{makes, is_storable}
 use Rattle.ref_semantics.specs.Values as V
 use Rattle.ref_semantics.specs.Values.{Scalar, IntegerValue}
 use Rattle.ref_semantics.specs.Store as S
@@ -21,7 +21,7 @@ use Rattle.ref_semantics.specs.Meaning.{Calls, value, is_true}
 use Rattle.ref_semantics.specs.First.{around_of}
 use Rattle.ref_typing.specs.Sound.{Sound}
 use Rattle.ref_typing.specs.Keeping.{CallsKeep}
-use Rattle.ref_typing.proofs.Splitting.{Both, both_parts}
+use Rattle.c_well_typed.proofs.Splitting.{Both, both_parts}
 use Rattle.tac_ir.specs.Code.{Op, Tac, Tree}
 use Rattle.tac_ir.specs.Code as O
 use Rattle.tac_ir.specs.Values as M
@@ -30,8 +30,8 @@ use Rattle.tac_ir.specs.Trees.{Registers, computes, tree_nodes, truth, integer_i
 use Rattle.tac_build.specs.Homes.{Scope}
 use Rattle.tac_build.specs.Spots.{Spot, behind, with_temporary, temporary, Lowered, AsInteger, Kept, Mode}
 use Rattle.tac_build.specs.Code.{HasOp, ValueCode, truth_tree}
-use Rattle.tac_simulation.specs.Forms.{SpotGrows}
-use Rattle.tac_simulation.specs.Standing.{Placement, Frame, KeepsBefore, At, context_of}
+use Rattle.tac_build.specs.Forms.{context_of, SpotGrows}
+use Rattle.tac_simulation.specs.Standing.{Placement, Frame, KeepsBefore, At}
 use Rattle.tac_simulation.proofs.Spotting.{Runs, kept_write, written_there, with_written}
 use Rattle.tac_simulation.proofs.Evaluating.{ValueDoes, AtSpot, ComesToValue, value_units, laid_by, left_for}
 use Rattle.tac_simulation.proofs.Paths.{Passage as Passing, Does, slower}
@@ -63,7 +63,7 @@ module _ (tac : Tac) (program : Program) (calls : Calls) (worth : ℕ) (points :
 
   -- the right operand decides
   right_decides : {start : State} {n lag lag' slack slack' : ℕ} (right : Value) → Follows right → (mode : Mode) (from test last to : Spot) (lowered : Lowered) (other : IntType) (b : Tree) (u : CType) (before : Registers) (s : S.State) (state : State)
-      → ValueCode program points scope Kept right (behind test) last (AsInteger other b) → type_of around right ≡ Some u → has_small program.structs right ≡ true
+      → ValueCode program points scope Kept right (behind test) last (AsInteger other b) → type_of around right ≡ Some u → makes (is_storable program.structs) right ≡ true
       → HasOp points last.at (O.Assign (temporary from) (truth_tree other b)) → HasOp points (suc last.at) (O.Jump to.at) → lowered ≡ AsInteger I.Int (O.Held (temporary from)) → SpotGrows from test
       → Passing tac worth start state n s.units lag slack → AtSpot tac program calls worth points placement hidden frame scope (suc test.at) s state → KeepsBefore from.counts before state.running.registers → lag + value_units right ≤ lag' → slack' ≤ slack
       → Does tac worth start n lag' slack' (ComesToValue tac program calls worth points placement hidden frame scope mode from to lowered before) (continue_with (λ b. give (P.truth (is_true b))) (value (around_of program) calls right s))
@@ -88,8 +88,8 @@ module _ (tac : Tac) (program : Program) (calls : Calls) (worth : ℕ) (points :
       (with_temporary from) code.0 code.4 code.2 parts.a code.6 parts.left sizes.0 (record s { units = left' }) state p' at' (omega arith) (λ z s' state' p'' came sound is fits.
       by z s' state' (slower (slack + 12 + tree_nodes code.2) p'' (let least = left_most left in let some = some_node code.2 in omega (arith, least, some))) came.there sound is fits (keeps_fewer state.running.registers state'.running.registers (temporary_grows from) came.kept) (not_zero z) refl))
     where
-      sizes : (has_small program.structs left ≡ true) × (has_small program.structs right ≡ true)
-      sizes = and_parts (has_small program.structs left) (has_small program.structs right) small
+      sizes : (makes (is_storable program.structs) left ≡ true) × (makes (is_storable program.structs) right ≡ true)
+      sizes = and_parts (makes (is_storable program.structs) left) (makes (is_storable program.structs) right) small
 
       parts : Both (type_of around left) (type_of around right) (λ a b. is_integer a && is_integer b) int t
       parts = both_parts (type_of around left) (type_of around right) (λ a b. is_integer a && is_integer b) int t typed
@@ -115,8 +115,8 @@ module _ (tac : Tac) (program : Program) (calls : Calls) (worth : ℕ) (points :
       (with_temporary from) code.0 code.4 code.2 parts.a code.6 parts.left sizes.0 (record s { units = left' }) state p' at' (omega arith) (λ z s' state' p'' came sound is fits.
       by z s' state' (slower (slack + 12 + tree_nodes code.2) p'' (let least = left_most left in let some = some_node code.2 in omega (arith, least, some))) came.there sound is fits (keeps_fewer state.running.registers state'.running.registers (temporary_grows from) came.kept) (not_zero z) refl))
     where
-      sizes : (has_small program.structs left ≡ true) × (has_small program.structs right ≡ true)
-      sizes = and_parts (has_small program.structs left) (has_small program.structs right) small
+      sizes : (makes (is_storable program.structs) left ≡ true) × (makes (is_storable program.structs) right ≡ true)
+      sizes = and_parts (makes (is_storable program.structs) left) (makes (is_storable program.structs) right) small
 
       parts : Both (type_of around left) (type_of around right) (λ a b. is_integer a && is_integer b) int t
       parts = both_parts (type_of around left) (type_of around right) (λ a b. is_integer a && is_integer b) int t typed

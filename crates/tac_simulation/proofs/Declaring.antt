@@ -1,14 +1,14 @@
 -- A local begins to live and gets its first value: a register is written, or an object in memory.
 use Rattle.std.proofs.Common.{◌≡◌, ℕ, ◌+◌, ◌≤◌, ◌<◌, ◌&&◌, Bool, true, false, List, [], ◌∷◌, ◌++◌, Option, Some, None, inl, refl, sym, ap, ◌∙◌, subst, arith}
-use Rattle.std.proofs.lemmas.Bool.{and_parts, true≢false, ltb-true}
+use Rattle.std.proofs.lemmas.Bool.{and_parts, true≢false}
 use Rattle.text_place.specs.declared.place.Pos.{Pos}
 use Rattle.c_typed.specs.Types.{CType, same_type}
-use Rattle.c_typed.specs.Layouts.{is_complete, layout_of, greatest}
+use Rattle.c_typed.specs.Layouts.{is_complete}
 use Rattle.c_typed.specs.Typed.{Value, LocalDef, Program}
 use Rattle.c_typed.proofs.Same.{same_type-true}
 use Rattle.c_well_typed.specs.Expressions.{is_scalar, type_of}
 use Rattle.c_well_typed.specs.Programs.{IsWellTyped}
-use Rattle.c_well_typed.specs.Sizes.{any_has_small, is_small}
+use Rattle.c_well_typed.specs.Sizes.{any_makes, is_storable}
 use Rattle.c_well_typed.specs.Statements.{is_of_type, if_any}
 use Rattle.ref_semantics.specs.Values as V
 use Rattle.ref_semantics.specs.Values.{Place, Scalar, LocalObject, object_place}
@@ -16,7 +16,6 @@ use Rattle.ref_semantics.specs.Store as S
 use Rattle.ref_semantics.specs.Store.{Outcome, Then, Stopped, Eval, continue_with, give, offset_of, size_of}
 use Rattle.ref_semantics.specs.Meaning.{Calls, Completion, Normal, value, optional_value, stored_first}
 use Rattle.ref_semantics.specs.First.{around_of}
-use Rattle.ref_typing.specs.Rows.{IsSmall}
 use Rattle.ref_typing.specs.Sound.{HasType}
 use Rattle.ref_typing.specs.Keeping.{CallsKeep, IsElement}
 use Rattle.ref_typing.proofs.Lasting.{element_lasts}
@@ -36,7 +35,8 @@ use Rattle.tac_build.specs.Spots.{Spot, behind, with_variable, Lowered, AsIntege
 use Rattle.tac_build.specs.Code.{HasOp, path_from}
 use Rattle.tac_build.specs.StatementCode as Codes
 use Rattle.tac_build.specs.StatementCode.{with_home, new_home, FirstCode, LocalCode}
-use Rattle.tac_simulation.specs.Standing.{Placement, Frame, At, ScalarStands, HomeStands, HomesStand, PathStands, LoweredStands, types_of, context_of, surroundings}
+use Rattle.tac_build.specs.Forms.{scope_types, context_of}
+use Rattle.tac_simulation.specs.Standing.{Placement, Frame, At, ScalarStands, HomeStands, HomesStand, PathStands, LoweredStands, surroundings}
 use Rattle.tac_simulation.proofs.Paths.{Stand, Passage as Passing, Does, comes, start, allows, eased}
 use Rattle.tac_simulation.proofs.Spotting.{Runs, with_written}
 use Rattle.tac_simulation.proofs.Evaluating.{ValueDoes, AtSpot, value_units, laid_by, left_for}
@@ -125,7 +125,7 @@ module _ (tac : Tac) (program : Program) (calls : Calls) (worth : ℕ) (points :
         let held = own_at tac program points placed hidden frame (home ∷ scope) runs mid.at home number s t own is_home h.there.stands in
         let writes = local_write program first_pos home number held.held scalar s held.content in
         let w = writes_local tac program calls worth points placed hidden frame (home ∷ scope) runs well keep 0 op mid.at home number scalar written s t p h.there.stands has does own is_home stands (omega (arith, less)) in
-        let keeps = (write_keeps program well (types_of (home ∷ scope)) s h.there.sound first_pos home.c_type (object_place (LocalObject number) home.c_type) scalar h.is_scalar_type h.element h.typed).gives scalar (local_holds number scalar s) writes in
+        let keeps = (write_keeps program well (scope_types (home ∷ scope)) s h.there.sound first_pos home.c_type (object_place (LocalObject number) home.c_type) scalar h.is_scalar_type h.element h.typed).gives scalar (local_holds number scalar s) writes in
         subst (λ outcome. Does tac worth first n lag 0 (StaysWith placed (home ∷ scope) s to.at) (continue_with (λ b. give Normal) outcome)) (sym writes)
         (comes Normal (local_holds number scalar s) (with_written tac program points placed hidden frame (home ∷ scope) runs (R.Local home.local) written t) w.passing (
           subst (λ (spot : Spot). AtSpot tac program calls worth points placed hidden frame (home ∷ scope) spot.at (local_holds number scalar s) (with_written tac program points placed hidden frame (home ∷ scope) runs (R.Local home.local) written t)) (sym next)
@@ -186,7 +186,7 @@ module _ (tac : Tac) (program : Program) (calls : Calls) (worth : ℕ) (points :
   -- the first value of a local, if it has one
   gets_first : (placed : Placement) (scope : Scope) (home : Home) (number : ℕ) (outer : List ℕ) (first : Option Value) → ((v : Value) → first ≡ Some v → ValueDoes tac program calls worth points placed hidden frame (home ∷ scope) v)
       → (from to : Spot) → HasOwn frame home → FirstCode program points (home ∷ scope) home first from to
-      → if_any (λ v. is_scalar home.c_type && is_of_type (context_of program (home ∷ scope)) home.c_type v) first ≡ true → any_has_small program.structs first ≡ true
+      → if_any (λ v. is_scalar home.c_type && is_of_type (context_of program (home ∷ scope)) home.c_type v) first ≡ true → any_makes (is_storable program.structs) first ≡ true
       → (s : S.State) (t : State) → AtSpot tac program calls worth points placed hidden frame (home ∷ scope) from.at s t → s.locals ≡ number ∷ outer → IsElement program s home.c_type (object_place (LocalObject number) home.c_type)
       → Does tac worth t s.units (optional_units first) 0 (StaysWith placed (home ∷ scope) s to.at)
       (continue_with (λ a. stored_first (around_of program) (object_place (LocalObject number) home.c_type) a) (optional_value (value (around_of program) calls) first s))
@@ -221,11 +221,11 @@ module _ (tac : Tac) (program : Program) (calls : Calls) (worth : ℕ) (points :
       → Declares tac program calls worth points hidden frame local
   declares local follows is_taken placement scope from to home code typed small numbered have s t h =
       let parts = and_parts (is_complete program.structs local.c_type) _ typed in
-      let sizes = and_parts (is_small program.structs local.c_type) (any_has_small program.structs local.first) small in
+      let sizes = and_parts (is_storable program.structs local.c_type) (any_makes (is_storable program.structs) local.first) small in
       let type_is : home.c_type ≡ local.c_type = ap (λ (home : Home). home.c_type) code.0 in
       let own : HasOwn frame home = has_own frame home (with_variable from) to (first_objects program points (home ∷ scope) home local.first (with_home home (with_variable from)) to code.1) have in
-      let begins = (new_local_keeps program well (types_of scope) s h.sound home.c_type (subst (λ c. is_complete program.structs c ≡ true) (sym type_is) parts.0)
-      (subst (λ c. IsSmall program.structs c) (sym type_is) (ltb-true (layout_of program.structs local.c_type).size greatest sizes.0))).leads
+      let begins = (new_local_keeps program well (scope_types scope) s h.sound home.c_type (subst (λ c. is_complete program.structs c ≡ true) (sym type_is) parts.0)
+      (subst (λ c. is_storable program.structs c ≡ true) (sym type_is) sizes.0)).leads
       (object_place (LocalObject s.next_local) home.c_type) (opened home.c_type s) refl in
       let placed = placed_with s.next_local (home_object frame.number home) placement in
       let at1 : AtSpot tac program calls worth points (placed_with s.next_local (home_object frame.number home) placement) hidden frame (home ∷ scope) (with_home home (with_variable from)).at (opened home.c_type s) t = record {
@@ -237,7 +237,7 @@ module _ (tac : Tac) (program : Program) (calls : Calls) (worth : ℕ) (points :
       (continue_with (λ a. stored_first (around_of program) (object_place (LocalObject s.next_local) c) a) (optional_value (value (around_of program) calls) local.first (opened c s)))) type_is
       (allows (gets_first (placed_with s.next_local (home_object frame.number home) placement) scope home s.next_local s.locals local.first (λ v is. follows v is (placed_with s.next_local (home_object frame.number home) placement) (home ∷ scope))
       (with_home home (with_variable from)) to own code.1
-      (subst (λ c. if_any (λ v. is_scalar c && is_of_type (record { program = program; locals = c ∷ types_of scope }) c v) local.first ≡ true) (sym type_is) parts.1) sizes.1 (opened home.c_type s) t at1 refl begins.is_element)
+      (subst (λ c. if_any (λ v. is_scalar c && is_of_type (record { program = program; locals = c ∷ scope_types scope }) c v) local.first ≡ true) (sym type_is) parts.1) sizes.1 (opened home.c_type s) t at1 refl begins.is_element)
       (λ way s2 t2 last. record {
         placed = placed_with s.next_local (home_object frame.number home) placement;
         more = home ∷ [];

@@ -7,7 +7,7 @@ use Rattle.c_typed.specs.Typed.{Value, Designator, Program}
 use Rattle.c_well_typed.specs.Context.{Context}
 use Rattle.c_well_typed.specs.Expressions.{given, is_conversion, pointed_function, type_of, type_of_designator}
 use Rattle.c_well_typed.specs.Programs.{IsWellTyped}
-use Rattle.c_well_typed.specs.Sizes.{has_small, designator_has_small}
+use Rattle.c_well_typed.specs.Sizes.{makes, designator_makes, is_storable}
 use Rattle.ref_semantics.specs.Values as V
 use Rattle.ref_semantics.specs.Values.{Scalar, FunctionValue}
 use Rattle.ref_semantics.specs.Store as S
@@ -15,7 +15,7 @@ use Rattle.ref_semantics.specs.Store.{Outcome, Then, Stopped, give}
 use Rattle.ref_semantics.specs.Meaning.{Calls, value, designated}
 use Rattle.ref_semantics.specs.First.{around_of}
 use Rattle.ref_typing.specs.Keeping.{CallsKeep}
-use Rattle.ref_typing.proofs.Splitting.{given_parts, unless_parts}
+use Rattle.c_well_typed.proofs.Splitting.{given_parts, unless_parts}
 use Rattle.tac_ir.specs.declared.register.Register.{Register}
 use Rattle.tac_ir.specs.Code.{Op, Tac, Callee, Known, Through}
 use Rattle.tac_ir.specs.Code as O
@@ -26,8 +26,8 @@ use Rattle.tac_build.specs.Homes.{Scope}
 use Rattle.tac_build.specs.Spots.{Spot, Lowered, AsPointer, Mode, Kept}
 use Rattle.tac_build.specs.Code.{Addresses, ValueCode, DesignatorCode}
 use Rattle.tac_simulation.specs.Comparing.{ticks_per_unit}
-use Rattle.tac_simulation.specs.Standing.{Placement, Frame, ScalarStands, At, context_of}
-use Rattle.tac_simulation.specs.Forms.{SpotGrows}
+use Rattle.tac_simulation.specs.Standing.{Placement, Frame, ScalarStands, At}
+use Rattle.tac_build.specs.Forms.{context_of, SpotGrows}
 use Rattle.tac_simulation.proofs.Paths.{Passage as Passing, Does, comes, stops, eased, eases, allows}
 use Rattle.tac_simulation.proofs.Spotting.{Runs, kept_same}
 use Rattle.tac_simulation.proofs.Named.{designator_named}
@@ -85,7 +85,7 @@ module _ (tac : Tac) (program : Program) (calls : Calls) (worth : ℕ) (points :
   -- as DesignatorDoes, with all that is left
   abbrev pub Designates : Designator → Type 0
   Designates tree =
-      (from to : Spot) (callee : Callee) (c_type t : CType) → DesignatorCode program points scope tree from to callee c_type → type_of_designator (context_of program scope) tree ≡ Some t → designator_has_small program.structs tree ≡ true
+      (from to : Spot) (callee : Callee) (c_type t : CType) → DesignatorCode program points scope tree from to callee c_type → type_of_designator (context_of program scope) tree ≡ Some t → designator_makes (is_storable program.structs) tree ≡ true
       → (start : State) (n lag slack : ℕ) (s : S.State) (state : State) → Passing tac worth start state n s.units lag slack → AtSpot tac program calls worth points placement hidden frame scope from.at s state
       → Does tac worth start n (lag + designator_units tree) (slack + left_in tree) (ComesToCallee tac program calls worth points placement hidden frame scope from to callee state.running.registers) (designated (around_of program) calls tree s)
 
@@ -108,7 +108,7 @@ module _ (tac : Tac) (program : Program) (calls : Calls) (worth : ℕ) (points :
 
   -- a pointer that is called
   called : (pointer : Value) → Follows pointer → (from to : Spot) (register : Register) (callee : Callee) (c_type u : CType) → ValueCode program points scope Kept pointer from to (AsPointer register c_type) → callee ≡ Through register c_type
-      → type_of (context_of program scope) pointer ≡ Some u → has_small program.structs pointer ≡ true
+      → type_of (context_of program scope) pointer ≡ Some u → makes (is_storable program.structs) pointer ≡ true
       → (start : State) (n lag slack : ℕ) (s : S.State) (state : State) → Passing tac worth start state n s.units lag slack → AtSpot tac program calls worth points placement hidden frame scope from.at s state
       → Does tac worth start n (lag + value_units pointer) (slack + (0 + left_for pointer)) (ComesToCallee tac program calls worth points placement hidden frame scope from to callee state.running.registers) (value (around_of program) calls pointer s)
   called pointer follows from to register callee c_type u code is typed small start n lag slack s state p at =

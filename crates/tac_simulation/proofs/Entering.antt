@@ -23,7 +23,8 @@ use Rattle.tac_ir.specs.States.{State}
 use Rattle.tac_ir.specs.Calls.{opened, enter}
 use Rattle.tac_ir.proofs.Seen.{seen_append}
 use Rattle.tac_build.specs.Homes.{Scope}
-use Rattle.tac_simulation.specs.Standing.{Placement, Frame, image, context_of, types_of, IsAmong, ContentStands, At, surroundings}
+use Rattle.tac_build.specs.Forms.{context_of, scope_types}
+use Rattle.tac_simulation.specs.Standing.{Placement, Frame, image, IsAmong, ContentStands, At, surroundings}
 use Rattle.tac_simulation.specs.Entered.{entered, is_among, hidden_within}
 use Rattle.tac_simulation.proofs.Memory.{same_local-true, same_local-refl, same_object-refl}
 use Rattle.tac_simulation.proofs.Allocating.{other_content'}
@@ -122,7 +123,7 @@ module _ (tac : Tac) (program : Program) (calls : Calls) (worth : ℕ) (points :
 
       by : (b : Bool) → is_among other s.locals ≡ b → (found : Option Object) → placement other ≡ found → hides_by other b found ≡ Some content
           → (other < s.next_local) × (s.objects (LocalObject other) ≡ content) × (placement other ≡ None)
-      by true e None e' is = (among_given s s.locals (types_of scope) h.sound.locals other (among-is other s.locals e), same_Some _ content is, e')
+      by true e None e' is = (among_given s s.locals (scope_types scope) h.sound.locals other (among-is other s.locals e), same_Some _ content is, e')
       by true e (Some object) e' is = before is
       by false e found e' is = before is
 

@@ -23,10 +23,10 @@ use Rattle.tac_ir.specs.Pointers.{is_alive, compared}
 use Rattle.tac_simulation.specs.Standing.{Placement, ScalarStands, MemoryStands}
 use Rattle.tac_simulation.proofs.Looking.{looked_at_alive}
 use Rattle.tac_simulation.proofs.Numbers.{same_numbers}
-use Rattle.c_filled.specs.Filled.{are_filled}
+use Rattle.c_well_typed.specs.Sizes.{are_filled}
 use Rattle.tac_simulation.proofs.Answered.{past, gave, typed_pointer}
 use Rattle.tac_simulation.proofs.Tested.{truth_integer}
-use Rattle.tac_simulation.proofs.Into.{HaveBytes, Into, into, alike}
+use Rattle.tac_simulation.proofs.Into.{Into, into, alike}
 
 pub neither_of : (p q : Bool) → (p || q) ≡ false → (p ≡ false) × (q ≡ false)
 neither_of true q h = absurd (true≢false h)
@@ -72,20 +72,20 @@ pub record ComparedBoth (around : Surroundings) (s after : S.State) (objects' : 
   pub answer_is : answer ≡ IntegerValue (truth test)
 
 module _ (program : Program) (well : IsWellTyped program) (filled : are_filled program.structs ≡ true) (placement : Placement) (locals : List CType) (s : S.State)
-    (sound : Sound (record { program = program; locals = locals }) s) (bytes : HaveBytes program s.objects) (objects' : Objects) (memory : MemoryStands program placement s.objects objects')
+    (sound : Sound (record { program = program; locals = locals }) s) (objects' : Objects) (memory : MemoryStands program placement s.objects objects')
     (around : Surroundings) (same : around.structs ≡ program.structs) where
   two : {x x' y y' : Value} → x ≡ x' → y ≡ y' → C.are_equal around objects' x y ≡ C.are_equal around objects' x' y'
   two e e' = λ i. C.are_equal around objects' (e i) (e' i)
 
   both_into : (a b : Scalar) (x y : Value) → is_into_object a ≡ true → is_into_object b ≡ true → is_end_beside a b ≡ false
-      → Into program well filled placement locals s sound bytes objects' memory a x → Into program well filled placement locals s sound bytes objects' memory b y
+      → Into program well filled placement locals s sound objects' memory a x → Into program well filled placement locals s sound objects' memory b y
       → C.are_equal around objects' x y ≡ Some (P.are_equal (around_of program) a b)
   both_into a b x y is is' beside at at' =
       let i = offset_of (around_of program) (place_of a) in
       let j = offset_of (around_of program) (place_of b) in
       two at.value_is at'.value_is
       ∙ equal_by (same_object at.object at'.object) (P.same_object a b) (i == j) (C.is_end around objects' at.object i) (C.is_end around objects' at'.object j) (is_past a) (is_past b)
-      (alike program well filled placement locals s sound bytes objects' memory (place_of a).name (place_of b).name at.object at'.object at.is_image at'.is_image at.alive at'.alive)
+      (alike program well filled placement locals s sound objects' memory (place_of a).name (place_of b).name at.object at'.object at.is_image at'.is_image at.alive at'.alive)
       (λ e. at.end (subst (λ structs. extent_of structs (objects' at.object) ≡ i) same (eqb-true (extent_of around.structs (objects' at.object)) i e)))
       (λ e. at'.end (subst (λ structs. extent_of structs (objects' at'.object) ≡ j) same (eqb-true (extent_of around.structs (objects' at'.object)) j e)))
       (both_hold (is_into_object a) (is_into_object b) (not (P.same_object a b) && (is_past a || is_past b)) is is' beside)
@@ -96,8 +96,8 @@ module _ (program : Program) (well : IsWellTyped program) (filled : are_filled p
   equal_is target target' a b x y typed typed' lives lives' beside stands stands' = by a b typed typed' lives lives' beside stands stands'
     where
       at : (target : CType) (a : Scalar) (x : Value) → is_into_object a ≡ true → PointsTo program s target a → is_dead_pointer s.objects a ≡ false → ScalarStands program s.objects placement a x
-          → Into program well filled placement locals s sound bytes objects' memory a x
-      at target a x is typed lives stands = into program well filled placement locals s sound bytes objects' memory target a x is typed lives stands
+          → Into program well filled placement locals s sound objects' memory a x
+      at target a x is typed lives stands = into program well filled placement locals s sound objects' memory target a x is typed lives stands
 
       by : (a b : Scalar) → PointsTo program s target a → PointsTo program s target' b → is_dead_pointer s.objects a ≡ false → is_dead_pointer s.objects b ≡ false → is_end_beside a b ≡ false
           → ScalarStands program s.objects placement a x → ScalarStands program s.objects placement b y → C.are_equal around objects' x y ≡ Some (P.are_equal (around_of program) a b)

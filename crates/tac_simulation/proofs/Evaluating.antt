@@ -8,7 +8,7 @@ use Rattle.c_typed.specs.Types.{CType, CTypes, Void, Integer, Pointer, Array, St
 use Rattle.c_typed.specs.Typed as T
 use Rattle.c_typed.specs.Typed.{Value, Object, Designator, Values, Program}
 use Rattle.c_well_typed.specs.Expressions.{is_conversion, type_of, types_of, type_of_object, type_of_designator}
-use Rattle.c_well_typed.specs.Sizes.{has_small, all_have_small, object_has_small, designator_has_small}
+use Rattle.c_well_typed.specs.Sizes.{makes, all_make, object_makes, designator_makes, is_storable}
 use Rattle.ref_semantics.specs.Values as V
 use Rattle.ref_semantics.specs.Values.{Place, Scalar}
 use Rattle.ref_semantics.specs.Store as S
@@ -23,7 +23,8 @@ use Rattle.tac_ir.specs.States.{State}
 use Rattle.tac_build.specs.Homes.{Scope}
 use Rattle.tac_build.specs.Spots.{Spot, Lowered, AsInteger, AsPointer, AsObject, AsNothing, Mode, Kept, Dropped, Behind, Row, pointed_mode}
 use Rattle.tac_build.specs.Code.{function_number, ValueCode, ArgumentsCode, DesignatorCode, ObjectCode}
-use Rattle.tac_simulation.specs.Standing.{Placement, Frame, KeepsBefore, IsAlive, At, HoldsFor, context_of, PathStands, LoweredStands}
+use Rattle.tac_build.specs.Forms.{context_of}
+use Rattle.tac_simulation.specs.Standing.{Placement, Frame, KeepsBefore, IsAlive, At, HoldsFor, PathStands, LoweredStands}
 use Rattle.tac_simulation.proofs.Paths.{Stand, Passage as Passing, Does}
 
 -- ---- units and ticks
@@ -160,31 +161,31 @@ module _ (tac : Tac) (program : Program) (calls : Calls) (worth : ℕ) (points :
   -- the statements that hold of each expression
   abbrev pub ValueDoes : Value → Type 0
   ValueDoes tree =
-      (mode : Mode) (from to : Spot) (lowered : Lowered) (t : CType) → ValueCode program points scope mode tree from to lowered → type_of (context_of program scope) tree ≡ Some t → has_small program.structs tree ≡ true
+      (mode : Mode) (from to : Spot) (lowered : Lowered) (t : CType) → ValueCode program points scope mode tree from to lowered → type_of (context_of program scope) tree ≡ Some t → makes (is_storable program.structs) tree ≡ true
       → (start : State) (n lag slack : ℕ) (s : S.State) (state : State) → Passing tac worth start state n s.units lag slack → AtSpot from.at s state
       → Does tac worth start n (lag + value_units tree) (slack + (laid_by lowered + left_for tree)) (ComesToValue mode from to lowered state.running.registers) (value (around_of program) calls tree s)
 
   -- arguments leave ticks for the call and for the stores of parameters that lie in memory
   abbrev pub ArgumentsDo : Values → Type 0
   ArgumentsDo trees =
-      (from to : Spot) (registers : List Register) (types : CTypes) → ArgumentsCode program points scope trees from to registers → types_of (context_of program scope) trees ≡ Some types → all_have_small program.structs trees ≡ true
+      (from to : Spot) (registers : List Register) (types : CTypes) → ArgumentsCode program points scope trees from to registers → types_of (context_of program scope) trees ≡ Some types → all_make (is_storable program.structs) trees ≡ true
       → (start : State) (n lag slack : ℕ) (s : S.State) (state : State) → Passing tac worth start state n s.units lag slack → AtSpot from.at s state
       → Does tac worth start n (lag + values_units trees) (slack + all_passed_ticks types) (ComesToArguments from to registers state.running.registers) (values (around_of program) calls trees s)
 
   abbrev pub FindDoes : Object → Type 0
   FindDoes tree =
-      (followed : Bool) (from to : Spot) (path : Path) (c_type : CType) (t : CType) → ObjectCode program points scope false followed tree from to (AsObject path c_type) → type_of_object (context_of program scope) tree ≡ Some t → object_has_small program.structs tree ≡ true
+      (followed : Bool) (from to : Spot) (path : Path) (c_type : CType) (t : CType) → ObjectCode program points scope false followed tree from to (AsObject path c_type) → type_of_object (context_of program scope) tree ≡ Some t → object_makes (is_storable program.structs) tree ≡ true
       → (start : State) (n lag slack : ℕ) (s : S.State) (state : State) → Passing tac worth start state n s.units lag slack → AtSpot from.at s state
       → Does tac worth start n (lag + object_units tree) (slack + (laid_by (AsObject path c_type) + 10)) (ComesToPlace from to path c_type state.running.registers) (find (around_of program) calls tree s)
 
   abbrev pub AddressDoes : Object → Type 0
   AddressDoes tree =
-      (is_kept followed : Bool) (from to : Spot) (lowered : Lowered) (t : CType) → ObjectCode program points scope is_kept followed tree from to lowered → type_of_object (context_of program scope) tree ≡ Some t → object_has_small program.structs tree ≡ true
+      (is_kept followed : Bool) (from to : Spot) (lowered : Lowered) (t : CType) → ObjectCode program points scope is_kept followed tree from to lowered → type_of_object (context_of program scope) tree ≡ Some t → object_makes (is_storable program.structs) tree ≡ true
       → (start : State) (n lag slack : ℕ) (s : S.State) (state : State) → Passing tac worth start state n s.units lag slack → AtSpot from.at s state
       → Does tac worth start n (lag + object_units tree) (slack + (laid_by lowered + 6)) (ComesToValue (pointed_mode is_kept followed) from to lowered state.running.registers) (address (around_of program) calls tree s)
 
   abbrev pub DesignatorDoes : Designator → Type 0
   DesignatorDoes tree =
-      (from to : Spot) (callee : Callee) (c_type t : CType) → DesignatorCode program points scope tree from to callee c_type → type_of_designator (context_of program scope) tree ≡ Some t → designator_has_small program.structs tree ≡ true
+      (from to : Spot) (callee : Callee) (c_type t : CType) → DesignatorCode program points scope tree from to callee c_type → type_of_designator (context_of program scope) tree ≡ Some t → designator_makes (is_storable program.structs) tree ≡ true
       → (start : State) (n lag slack : ℕ) (s : S.State) (state : State) → Passing tac worth start state n s.units lag slack → AtSpot from.at s state
       → Does tac worth start n (lag + designator_units tree) (slack + 3) (ComesToCallee from to callee state.running.registers) (designated (around_of program) calls tree s)

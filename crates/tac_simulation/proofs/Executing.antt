@@ -12,7 +12,7 @@ use Rattle.c_num.specs.Types.{is_value}
 use Rattle.c_typed.specs.Typed as T
 use Rattle.c_typed.specs.Typed.{Value, Stmt, Block, SwitchItems, LocalDef, ForStart, Program}
 use Rattle.c_well_typed.specs.Statements.{Within, is_local, are_locals, is_start, is_stmt, is_block, are_items}
-use Rattle.c_well_typed.specs.Sizes.{local_has_small, locals_have_small, start_has_small, stmt_has_small, block_has_small, items_have_small}
+use Rattle.c_well_typed.specs.Sizes.{local_makes, locals_make, start_makes, stmt_makes, block_makes, items_make, is_storable}
 use Rattle.ref_semantics.specs.Values as V
 use Rattle.ref_semantics.specs.Values.{Scalar}
 use Rattle.ref_semantics.specs.Store as S
@@ -37,7 +37,8 @@ use Rattle.tac_build.specs.Homes.{Home, Scope}
 use Rattle.tac_build.specs.Spots.{Spot}
 use Rattle.tac_build.specs.Code.{HasOp}
 use Rattle.tac_build.specs.StatementCode.{Ways, LocalCode, LocalsCode, StartCode, StmtCode, BlockCode, SwitchCode}
-use Rattle.tac_simulation.specs.Standing.{Placement, Frame, HoldsFor, context_of, surroundings}
+use Rattle.tac_build.specs.Forms.{context_of}
+use Rattle.tac_simulation.specs.Standing.{Placement, Frame, HoldsFor, surroundings}
 use Rattle.tac_simulation.proofs.Paths.{Stand, Does}
 use Rattle.tac_simulation.proofs.Evaluating.{AtSpot, value_units}
 
@@ -195,33 +196,33 @@ module _ (tac : Tac) (program : Program) (calls : Calls) (worth : ℕ) (points :
   -- a local begins to live, and gets its first value
   abbrev pub Declares : LocalDef → Type 0
   Declares local =
-      (is_taken : _) (placement : Placement) (scope : Scope) (from to : Spot) (home : Home) → LocalCode program points scope local is_taken from to home → is_local (context_of program scope) local ≡ true → local_has_small program.structs local ≡ true
+      (is_taken : _) (placement : Placement) (scope : Scope) (from to : Spot) (home : Home) → LocalCode program points scope local is_taken from to home → is_local (context_of program scope) local ≡ true → local_makes (is_storable program.structs) local ≡ true
       → AreNumbered from.counts scope → HaveObjects frame.objects to.objects → (s : S.State) (state : State) → StaysAt placement scope from.at s state
       → Does tac worth state s.units (optional_units local.first) 0 (Begun s.next_local s.locals placement scope (home ∷ scope) to.at) (Meaning.declare (around_of program) calls local s)
 
   abbrev pub DeclaresAll : List LocalDef → Type 0
   DeclaresAll locals =
       (is_taken : _) (placement : Placement) (scope : Scope) (from to : Spot) (inner : Scope) → LocalsCode program points scope is_taken locals from to inner → are_locals (context_of program scope) locals ≡ true
-      → locals_have_small program.structs locals ≡ true → AreNumbered from.counts scope → HaveObjects frame.objects to.objects → (s : S.State) (state : State) → StaysAt placement scope from.at s state
+      → locals_make (is_storable program.structs) locals ≡ true → AreNumbered from.counts scope → HaveObjects frame.objects to.objects → (s : S.State) (state : State) → StaysAt placement scope from.at s state
       → Does tac worth state s.units (locals_units locals) 0 (Begun s.next_local s.locals placement scope inner to.at) (Meaning.declare_all (around_of program) calls locals s)
 
   -- what a `for` begins with
   abbrev pub Starts : ForStart → Type 0
   Starts begin =
       (is_taken : _) (placement : Placement) (scope : Scope) (from to : Spot) (inner : Scope) → StartCode program points scope is_taken begin from to inner → is_start (context_of program scope) begin ≡ true
-      → start_has_small program.structs begin ≡ true → AreNumbered from.counts scope → HaveObjects frame.objects to.objects → (s : S.State) (state : State) → StaysAt placement scope from.at s state
+      → start_makes (is_storable program.structs) begin ≡ true → AreNumbered from.counts scope → HaveObjects frame.objects to.objects → (s : S.State) (state : State) → StaysAt placement scope from.at s state
       → Does tac worth state s.units (start_units begin) 0 (Begun s.next_local s.locals placement scope inner to.at) (Meaning.start (around_of program) calls begin s)
 
   abbrev pub Executes : Stmt → Type 0
   Executes tree =
-      (within : Within) (placement : Placement) (scope : Scope) (from to : Spot) (ways : Ways program points) → StmtCode program points scope tree from to ways → is_stmt (context_of program scope) within tree ≡ true → stmt_has_small program.structs tree ≡ true
+      (within : Within) (placement : Placement) (scope : Scope) (from to : Spot) (ways : Ways program points) → StmtCode program points scope tree from to ways → is_stmt (context_of program scope) within tree ≡ true → stmt_makes (is_storable program.structs) tree ≡ true
       → AreNumbered from.counts scope → HaveObjects frame.objects to.objects → stmt_units tree ≤ worth → (s : S.State) (state : State) → StaysAt placement scope from.at s state
       → Does tac worth state s.units (stmt_units tree) left_behind (Leaves placement scope to.at ways) (Meaning.stmt (around_of program) calls tree s)
 
   -- the items of a block, from one on: what they declare is in scope behind them
   abbrev pub ExecutesBlock : Block → Type 0
   ExecutesBlock items =
-      (within : Within) (placement : Placement) (scope : Scope) (from to : Spot) (ways : Ways program points) → BlockCode program points scope items from to ways → is_block (context_of program scope) within items ≡ true → block_has_small program.structs items ≡ true
+      (within : Within) (placement : Placement) (scope : Scope) (from to : Spot) (ways : Ways program points) → BlockCode program points scope items from to ways → is_block (context_of program scope) within items ≡ true → block_makes (is_storable program.structs) items ≡ true
       → AreNumbered from.counts scope → HaveObjects frame.objects to.objects → block_units items ≤ worth → (s : S.State) (state : State) → StaysAt placement scope from.at s state
       → Does tac worth state s.units (block_units items) 0 (LeavesWithin s.next_local s.locals placement scope to.at ways) (Meaning.block (around_of program) calls items s)
 
@@ -229,7 +230,7 @@ module _ (tac : Tac) (program : Program) (calls : Calls) (worth : ℕ) (points :
   abbrev pub ExecutesItems : SwitchItems → Type 0
   ExecutesItems items =
       (within : Within) (labels : Option IntType) (placement : Placement) (scope : Scope) (own : IntType) (switched : Register) (tests : ℕ) (from to : Spot) (last : ℕ) (default : Option ℕ) (ways : Ways program points)
-      (code : SwitchCode program points scope items own switched tests from to last default ways) → are_items (context_of program scope) within labels items ≡ true → items_have_small program.structs items ≡ true
+      (code : SwitchCode program points scope items own switched tests from to last default ways) → are_items (context_of program scope) within labels items ≡ true → items_make (is_storable program.structs) items ≡ true
       → AreNumbered from.counts scope → HaveObjects frame.objects to.objects → switch_units items ≤ worth → (number : ℕ) (s : S.State) (state : State)
       → StaysAt placement scope (item_at program points scope items own switched tests from to last default ways code number) s state
       → Does tac worth state s.units (switch_units items) 0 (Leaves placement scope to.at ways) (Meaning.switch_from (around_of program) calls (Meaning.At number) items s)

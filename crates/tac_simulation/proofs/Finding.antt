@@ -13,7 +13,7 @@ use Rattle.c_well_typed.specs.Context.{literal_bytes}
 use Rattle.c_well_typed.specs.Expressions.{given, type_of_object}
 use Rattle.c_well_typed.specs.Expressions as W
 use Rattle.c_well_typed.specs.Programs.{IsWellTyped}
-use Rattle.c_well_typed.specs.Sizes.{object_has_small}
+use Rattle.c_well_typed.specs.Sizes.{object_makes, is_storable}
 use Rattle.ref_semantics.specs.Values as V
 use Rattle.ref_semantics.specs.Values.{LocalObject, GlobalObject, LiteralObject, Place, Scalar, PointerValue, object_place, place_of, is_end}
 use Rattle.ref_semantics.specs.Store as S
@@ -23,7 +23,7 @@ use Rattle.ref_semantics.specs.Pointers.{accessed}
 use Rattle.ref_semantics.specs.First.{around_of}
 use Rattle.ref_typing.specs.Keeping.{Keeps, CallsKeep, IsElement}
 use Rattle.ref_typing.proofs.Lasting.{NoneFails}
-use Rattle.ref_typing.proofs.Splitting.{given_parts, other_parts}
+use Rattle.c_well_typed.proofs.Splitting.{given_parts, other_parts}
 use Rattle.ref_typing.proofs.ValuesKeep.{find_keeps}
 use Rattle.tac_ir.specs.Code.{Op, Tac, Path, AtLocal, AtGlobal, AtLiteral, Member}
 use Rattle.tac_ir.specs.Code as O
@@ -37,14 +37,15 @@ use Rattle.tac_ir.specs.States.{State}
 use Rattle.tac_build.specs.Homes.{Home, Scope, home_of, in_register, register_home, home_behind}
 use Rattle.tac_build.specs.Spots.{Spot, Lowered, AsInteger, AsPointer, AsObject, AsNothing}
 use Rattle.tac_build.specs.Code.{path_from, then_step, ObjectCode}
+use Rattle.tac_build.specs.Forms.{scope_types, context_of}
 use Rattle.tac_simulation.specs.Comparing.{ticks_per_unit}
-use Rattle.tac_simulation.specs.Standing.{Placement, Frame, KeepsBefore, IsAlive, ContentStands, At, HomeStands, types_of, context_of, surroundings, global_object, literal_object, PathStands}
+use Rattle.tac_simulation.specs.Standing.{Placement, Frame, KeepsBefore, IsAlive, ContentStands, At, HomeStands, surroundings, global_object, literal_object, PathStands}
 use Rattle.tac_simulation.proofs.Paths.{Stand, Passage as Passing, Does, comes, stops, eased, eases, bind, stray, chosen}
 use Rattle.tac_simulation.proofs.Spotting.{Runs, kept_same}
 use Rattle.tac_simulation.proofs.Evaluating
 use Rattle.tac_simulation.proofs.Evaluating.{FindDoes, laid_by, object_units, value_units}
 use Rattle.tac_simulation.proofs.Combining.{ticked}
-use Rattle.tac_simulation.proofs.Forms.{object_form}
+use Rattle.tac_build.proofs.Forms.{object_form}
 use Rattle.tac_simulation.proofs.Parts.{member_place}
 use Rattle.tac_simulation.proofs.Leading.{cost_then, leads_then, found_home, local_is, named_is, global_there, literal_there}
 
@@ -204,7 +205,7 @@ module _ (tac : Tac) (program : Program) (calls : Calls) (worth : ℕ) (points :
   -- an object is found, and the evaluation goes on
   pub then_find : {B : Type 0} {Stands : Stand B} {start : State} {n lag lag' slack slack' : ℕ} (tree : Object) → Finds tree → (next : Place → Eval B)
       → (followed : Bool) (from to : Spot) (path : Path) (c_type t : CType) → ObjectCode program points scope false followed tree from to (AsObject path c_type) → type_of_object (context_of program scope) tree ≡ Some t
-      → object_has_small program.structs tree ≡ true
+      → object_makes (is_storable program.structs) tree ≡ true
       → (s : S.State) (state : State) → Passing tac worth start state n s.units lag slack → Evaluating.AtSpot tac program calls worth points placement hidden frame scope from.at s state → lag + object_units tree ≤ lag'
       → ((place : Place) (s' : S.State) (state' : State) → Passing tac worth start state' n s'.units (lag + object_units tree) (slack + (laid_by (AsObject path c_type) + 10))
       → Evaluating.ComesToPlace tac program calls worth points placement hidden frame scope from to path c_type state.running.registers place s' state' → Keeps (context_of program scope) s s' → IsElement program s' t place
@@ -217,7 +218,7 @@ module _ (tac : Tac) (program : Program) (calls : Calls) (worth : ℕ) (points :
           → Does tac worth start n (lag + object_units tree) (slack + (laid_by (AsObject path c_type) + 10)) (Evaluating.ComesToPlace tac program calls worth points placement hidden frame scope from to path c_type state.running.registers) outcome
           → Does tac worth start n lag' slack' Stands (continue_with next outcome)
       by _ e (comes place s' state' p' comes_to) =
-          let keeps = find_keeps program well calls keep (types_of scope) tree small t typed s at.sound place s' e in
+          let keeps = find_keeps program well calls keep (scope_types scope) tree small t typed s at.sound place s' e in
           rest place s' state' p' comes_to keeps.0 keeps.1
       by _ e (stops answer s' a) = let same : Does tac worth start n (lag + object_units tree) slack' Stands (S.Stopped answer s') = stops answer s' a in eases same more (omega arith)
 

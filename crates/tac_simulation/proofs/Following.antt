@@ -4,15 +4,12 @@ use Rattle.c_typed.specs.Typed as T
 use Rattle.c_typed.specs.Typed.{Value, Object, Designator, Values, Program}
 use Rattle.c_well_typed.specs.Programs.{IsWellTyped}
 use Rattle.ref_semantics.specs.Values as V
-use Rattle.ref_semantics.specs.Store as S
 use Rattle.ref_semantics.specs.Meaning.{Calls}
 use Rattle.ref_typing.specs.Keeping.{CallsKeep}
 use Rattle.tac_ir.specs.Code.{Op, Tac}
-use Rattle.tac_ir.specs.States.{State}
 use Rattle.tac_build.specs.Homes.{Scope}
-use Rattle.tac_simulation.specs.Standing.{Placement, Frame, At}
-use Rattle.c_filled.specs.Filled.{are_filled}
-use Rattle.tac_simulation.proofs.Into.{HaveBytes}
+use Rattle.tac_simulation.specs.Standing.{Placement, Frame}
+use Rattle.c_well_typed.specs.Sizes.{are_filled}
 use Rattle.tac_simulation.proofs.Spotting.{Runs}
 use Rattle.tac_simulation.proofs.Evaluating.{ValueDoes, FindDoes, AddressDoes, ArgumentsDo}
 use Rattle.tac_simulation.proofs.Calling
@@ -39,7 +36,7 @@ use Rattle.tac_simulation.proofs.CallForms
 
 module _ (tac : Tac) (program : Program) (calls : Calls) (worth : ℕ) (points : List Op) (placement : Placement) (hidden : ℕ → Option V.Content) (frame : Frame) (scope : Scope)
     (runs : Runs tac program points frame) (well : IsWellTyped program) (keep : CallsKeep program calls)
-    (filled : are_filled program.structs ≡ true) (bytes : (at : ℕ) (s : S.State) (state : State) → At program placement hidden frame scope at s state → HaveBytes program s.objects)
+    (filled : are_filled program.structs ≡ true)
     (calls_do : Calling.CallsDo tac program calls worth points placement hidden frame scope) where
   mutual
     pub value_follows : (tree : Value) → ValueDoes tac program calls worth points placement hidden frame scope tree
@@ -50,20 +47,20 @@ module _ (tac : Tac) (program : Program) (calls : Calls) (worth : ℕ) (points :
     value_follows (T.Decay place object) = Addressing.decays tac program calls worth points placement hidden frame scope runs well keep place object (object_found object)
     value_follows (T.FunctionValue function) = Designating.function_values tac program calls worth points placement hidden frame scope runs well keep function (function_designated function)
     value_follows (T.Converted int_type operand) = Integers.conversions tac program calls worth points placement hidden frame scope runs well keep int_type operand (value_follows operand)
-    value_follows (T.Repointed place target operand) = PointerForms.repoints tac program calls worth points placement hidden frame scope runs well keep filled bytes place target operand (value_follows operand)
-    value_follows (T.MadeNull target operand) = PointerForms.made_null tac program calls worth points placement hidden frame scope runs well keep filled bytes target operand (value_follows operand)
-    value_follows (T.Tested place operand) = PointerForms.tests tac program calls worth points placement hidden frame scope runs well keep filled bytes place operand (value_follows operand)
+    value_follows (T.Repointed place target operand) = PointerForms.repoints tac program calls worth points placement hidden frame scope runs well keep filled place target operand (value_follows operand)
+    value_follows (T.MadeNull target operand) = PointerForms.made_null tac program calls worth points placement hidden frame scope runs well keep filled target operand (value_follows operand)
+    value_follows (T.Tested place operand) = PointerForms.tests tac program calls worth points placement hidden frame scope runs well keep filled place operand (value_follows operand)
     value_follows (T.Plus operand) = Integers.pluses tac program calls worth points placement hidden frame scope runs well keep operand (value_follows operand)
     value_follows (T.Minus place int_type operand) = Integers.minuses tac program calls worth points placement hidden frame scope runs well keep place int_type operand (value_follows operand)
     value_follows (T.Complement int_type operand) = Integers.complements tac program calls worth points placement hidden frame scope runs well keep int_type operand (value_follows operand)
     value_follows (T.Not operand) = Integers.negations tac program calls worth points placement hidden frame scope runs well keep operand (value_follows operand)
     value_follows (T.Arithmetic op place int_type left right) = Operated.operators tac program calls worth points placement hidden frame scope runs well keep op place int_type left right (value_follows left) (value_follows right) (Quiet.pure_rests tac program calls worth points placement hidden frame scope runs well keep right)
     value_follows (T.Compare relation left right) = Operated.relations tac program calls worth points placement hidden frame scope runs well keep relation left right (value_follows left) (value_follows right) (Quiet.pure_rests tac program calls worth points placement hidden frame scope runs well keep right)
-    value_follows (T.ComparePointers relation place left right) = PointerForms.compares tac program calls worth points placement hidden frame scope runs well keep filled bytes relation place left right (value_follows left) (value_follows right)
-    value_follows (T.PointerPlus place pointer number) = PointerForms.adds tac program calls worth points placement hidden frame scope runs well keep filled bytes place pointer number (value_follows pointer) (value_follows number)
-    value_follows (T.NumberPlus place number pointer) = PointerForms.number_adds tac program calls worth points placement hidden frame scope runs well keep filled bytes place number pointer (value_follows number) (value_follows pointer)
-    value_follows (T.PointerMinus place pointer number) = PointerForms.subtracts tac program calls worth points placement hidden frame scope runs well keep filled bytes place pointer number (value_follows pointer) (value_follows number)
-    value_follows (T.PointerDifference place left right) = PointerForms.differences tac program calls worth points placement hidden frame scope runs well keep filled bytes place left right (value_follows left) (value_follows right)
+    value_follows (T.ComparePointers relation place left right) = PointerForms.compares tac program calls worth points placement hidden frame scope runs well keep filled relation place left right (value_follows left) (value_follows right)
+    value_follows (T.PointerPlus place pointer number) = PointerForms.adds tac program calls worth points placement hidden frame scope runs well keep filled place pointer number (value_follows pointer) (value_follows number)
+    value_follows (T.NumberPlus place number pointer) = PointerForms.number_adds tac program calls worth points placement hidden frame scope runs well keep filled place number pointer (value_follows number) (value_follows pointer)
+    value_follows (T.PointerMinus place pointer number) = PointerForms.subtracts tac program calls worth points placement hidden frame scope runs well keep filled place pointer number (value_follows pointer) (value_follows number)
+    value_follows (T.PointerDifference place left right) = PointerForms.differences tac program calls worth points placement hidden frame scope runs well keep filled place left right (value_follows left) (value_follows right)
     value_follows (T.And left right) = Deciding.ands tac program calls worth points placement hidden frame scope runs well keep left right (value_follows left) (value_follows right)
     value_follows (T.Or left right) = Deciding.ors tac program calls worth points placement hidden frame scope runs well keep left right (value_follows left) (value_follows right)
     value_follows (T.Conditional condition taken otherwise) = Choosing.conditionals tac program calls worth points placement hidden frame scope runs well keep condition taken otherwise (value_follows condition) (value_follows taken) (value_follows otherwise)

@@ -19,7 +19,8 @@ use Rattle.tac_ir.proofs.Seen.{seen_crossed}
 use Rattle.tac_build.specs.Homes.{Scope}
 use Rattle.tac_build.specs.Spots.{Spot, temporary}
 use Rattle.tac_build.specs.Code.{HasOp, KeepsTree}
-use Rattle.tac_simulation.specs.Standing.{Placement, Frame, At, KeepsBefore, IsBefore, surroundings}
+use Rattle.tac_build.specs.Forms.{IsBefore}
+use Rattle.tac_simulation.specs.Standing.{Placement, Frame, At, KeepsBefore, surroundings}
 use Rattle.tac_simulation.proofs.Paths.{Passage as Passing, Passes, stepped, eased}
 use Rattle.tac_simulation.proofs.Spotting.{Runs, IsNoLocal, kept_write, kept_same, written_there, before_at, around_is, with_written, at_written}
 

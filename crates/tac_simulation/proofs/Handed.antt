@@ -62,14 +62,14 @@ step_taken {tac} {worth} {start} {t} next p e = record {
   covered = omega (arith, p.covered);
 }
 
-module _ (tac : Tac) (program : Program) (calls : Calls) (worth : ℕ) (points called_points : List Op) (placement placed : Placement) (hidden : ℕ → Option V.Content) (frame : Frame) (scope inner : Scope)
+module _ (tac : Tac) (program : Program) (calls called : Calls) (worth : ℕ) (points called_points : List Op) (placement placed : Placement) (hidden : ℕ → Option V.Content) (frame : Frame) (scope inner : Scope)
     (at site number : ℕ) (function : Function) (s0 s : S.State) (state t : State) (given : Option Scalar) (before : AtSpot tac program calls worth points placement hidden frame scope at s0 state)
     (runs : Runs tac program called_points (entered site number function state))
-    (r : Returns tac program calls worth called_points (hidden_within placement s0.locals s0.objects hidden) (entered site number function state) placed inner given s t)
+    (r : Returns tac program called worth called_points (hidden_within placement s0.locals s0.objects hidden) (entered site number function state) placed inner given s t)
     (extends : Extends (entered site number function state) s0.next_local placement placed)
     (newer : s0.next_local ≤ s.next_local) (may : (name : Name) → WasGiven s0 name → MayBecome (s0.objects name) (s.objects name))
     (there : (local : Local) (own : Inner) → own_type frame.objects local ≡ Some own → (held : ℕ → Option Value) × (t.objects (OfActivation frame.number local) ≡ Typed own.c_type 1 held))
-    (older : frame.number < state.next_activation) (further : state.next_activation < t.next_activation) where
+    (further : state.next_activation < t.next_activation) where
   still_there : (local : Local) (own : Inner) → own_type frame.objects local ≡ Some own → (held : ℕ → Option Value) × (r.before.objects (OfActivation frame.number local) ≡ Typed own.c_type 1 held)
   still_there local own is =
       let was = there local own is in
@@ -82,13 +82,13 @@ module _ (tac : Tac) (program : Program) (calls : Calls) (worth : ℕ) (points c
   pub passes_back : {start : State} {n lag slack : ℕ} → Passing tac worth start t n s.units lag (suc slack) → Passing tac worth start (gone_back site state r.held r.before) n s.units lag slack
   passes_back {start} {n} {lag} {slack} p =
       step_taken (gone_back site state r.held r.before) p
-      (last_step tac program calls worth called_points (hidden_within placement s0.locals s0.objects hidden) (entered site number function state) runs placed inner given s t r (gone_back site state r.held r.before)
-      (leaves_to program placement placed hidden frame scope inner at r.at site number function s0 s state r.before before.sound before.stands r.there.stands extends newer may still_there older still_further r.held))
+      (last_step tac program called worth called_points (hidden_within placement s0.locals s0.objects hidden) (entered site number function state) runs placed inner given s t r (gone_back site state r.held r.before)
+      (leaves_to program placement placed hidden frame scope inner at r.at site number function s0 s state r.before before.sound before.stands r.there.stands extends newer may still_there still_further r.held))
 
   -- it is behind the call, with what stands for the value that is given back
   pub hands_back : (is_used : Bool) (scalar : Scalar) → (is_used ≡ true → given ≡ Some scalar)
       → Returned tac program calls worth points placement hidden frame scope at site is_used state.running.registers scalar (restored s0 s) (gone_back site state r.held r.before)
   hands_back is_used scalar is =
-      goes_back program placement placed hidden frame scope inner at r.at site number function s0 s state r.before before.sound before.stands r.there.stands extends newer may still_there older still_further
+      goes_back program placement placed hidden frame scope inner at r.at site number function s0 s state r.before before.sound before.stands r.there.stands extends newer may still_there still_further
       tac calls worth points is_used scalar r.held
-      (λ used. subst (λ known. GivesBack tac program calls worth called_points (hidden_within placement s0.locals s0.objects hidden) (entered site number function state) placed s.objects known r.held) (is used) r.gives)
+      (λ used. subst (λ known. GivesBack tac program called worth called_points (hidden_within placement s0.locals s0.objects hidden) (entered site number function state) placed s.objects known r.held) (is used) r.gives)

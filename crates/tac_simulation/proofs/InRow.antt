@@ -33,11 +33,11 @@ use Rattle.tac_simulation.specs.Standing.{Placement, image, ScalarStands, Memory
 use Rattle.tac_simulation.proofs.Memory.{same_object-refl}
 use Rattle.tac_simulation.proofs.Looking.{looked_at_alive, living_raw}
 use Rattle.tac_simulation.proofs.Placing.{placed}
-use Rattle.c_filled.specs.Filled.{are_filled}
+use Rattle.c_well_typed.specs.Sizes.{are_filled}
 use Rattle.tac_simulation.proofs.Filled.{size_positive}
 use Rattle.tac_simulation.proofs.Answered.{past, gave, typed_pointer}
 use Rattle.tac_simulation.proofs.Tested.{truth_integer}
-use Rattle.tac_simulation.proofs.Into.{HasBytes, HaveBytes, place_size, at_beginning}
+use Rattle.tac_simulation.proofs.Into.{sound_bytes, HasBytes, place_size, at_beginning}
 use Rattle.tac_simulation.proofs.Equality.{neither_of, ComparedBoth}
 use Rattle.tac_simulation.proofs.Scaled.{order_scaled, difference_scaled}
 
@@ -75,7 +75,7 @@ chosen_one true one other e = refl
 chosen_one false one other e = absurd (false≢true e)
 
 module _ (program : Program) (well : IsWellTyped program) (filled : are_filled program.structs ≡ true) (placement : Placement) (locals : List CType) (s : S.State)
-    (sound : Sound (record { program = program; locals = locals }) s) (bytes : HaveBytes program s.objects) (objects' : Objects) (memory : MemoryStands program placement s.objects objects')
+    (sound : Sound (record { program = program; locals = locals }) s) (objects' : Objects) (memory : MemoryStands program placement s.objects objects')
     (around : Surroundings) (same : around.structs ≡ program.structs) where
   -- a pointer to an element of a row
   record Spot (place : Place) (scalar : Scalar) (value : Value) : Type 0 where
@@ -109,13 +109,13 @@ module _ (program : Program) (well : IsWellTyped program) (filled : are_filled p
         is_image = at.is_image;
         value_is = at.value_is;
         there = ap is_there at.typed.content';
-        size = place_size program well filled placement locals s sound bytes objects' memory place at.object at.typed;
+        size = place_size program well filled placement locals s sound objects' memory place at.object at.typed;
       }
 
   raw_stood : (number : ℕ) (value : Value) → is_dead_pointer s.objects (RawPointer number) ≡ false → ScalarStands program s.objects placement (RawPointer number) value → Stood (RawPointer number) value
   raw_stood number value lives stands =
       let at = living_raw program placement s.objects objects' memory number value lives stands in
-      by at.0 at.1 (s.objects (Heap number)) refl (bytes (Heap number)) (sound.contents (Heap number))
+      by at.0 at.1 (s.objects (Heap number)) refl (sound_bytes (record { program = program; locals = locals }) s sound (Heap number)) (sound.contents (Heap number))
     where
       by : value ≡ Address (OfHeap number) 0 → is_there (objects' (OfHeap number)) ≡ true → (own : V.Content) → s.objects (Heap number) ≡ own → HasBytes program own → IsSoundContent program s own → Stood (RawPointer number) value
       by value_is there V.Dead e some is_sound = AsWhole (record { number = number; typed_is = ap (to_first number) e; index = refl; value_is = value_is })

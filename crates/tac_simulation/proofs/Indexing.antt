@@ -11,7 +11,7 @@ use Rattle.c_typed.specs.Typed as T
 use Rattle.c_typed.specs.Typed.{Value, Program}
 use Rattle.c_well_typed.specs.Expressions.{type_of, element}
 use Rattle.c_well_typed.specs.Programs.{IsWellTyped}
-use Rattle.c_well_typed.specs.Sizes.{has_small}
+use Rattle.c_well_typed.specs.Sizes.{makes, is_storable}
 use Rattle.ref_semantics.specs.Values as V
 use Rattle.ref_semantics.specs.Values.{Place, Scalar, PointerValue, IntegerValue, place_of, at_index, integer_of}
 use Rattle.ref_semantics.specs.Store as S
@@ -23,7 +23,7 @@ use Rattle.ref_semantics.specs.First.{around_of}
 use Rattle.ref_typing.specs.Sound.{HasType, Later}
 use Rattle.ref_typing.specs.Keeping.{CallsKeep}
 use Rattle.ref_typing.proofs.Lasting.{type_lasts}
-use Rattle.ref_typing.proofs.Splitting.{two_parts, element_parts}
+use Rattle.c_well_typed.proofs.Splitting.{two_parts, element_parts}
 use Rattle.tac_ir.specs.declared.register.Register.{Register}
 use Rattle.tac_ir.specs.Code.{Op, Tac, Tree, Path, Held, Indexed, Element}
 use Rattle.tac_ir.specs.Values.{Address}
@@ -35,16 +35,16 @@ use Rattle.tac_build.specs.Homes.{Scope, is_pure}
 use Rattle.tac_build.specs.Spots.{Spot, behind, with_temporary, temporary, Lowered, AsInteger, AsPointer, AsObject, AsNothing, Kept, Row}
 use Rattle.tac_build.specs.Code as C
 use Rattle.tac_build.specs.Code.{path_from, then_step, Indexes, ValueCode}
-use Rattle.tac_simulation.specs.Forms.{HasForm, SpotGrows}
+use Rattle.tac_build.specs.Forms.{context_of, HasForm, SpotGrows}
 use Rattle.tac_simulation.proofs.Naming.{grows_to, grows_then, temporary_grows, behind_grows}
-use Rattle.tac_simulation.specs.Standing.{Placement, Frame, KeepsBefore, At, IsAlive, WhereAlive, MemoryStands, HoldsFor, LoweredStands, PathStands, context_of, surroundings}
+use Rattle.tac_simulation.specs.Standing.{Placement, Frame, KeepsBefore, At, IsAlive, WhereAlive, MemoryStands, HoldsFor, LoweredStands, PathStands, surroundings}
 use Rattle.tac_simulation.proofs.Paths.{Passage as Passing, Does, comes, eased, eases, allows}
 use Rattle.tac_simulation.proofs.Spotting.{Runs}
 use Rattle.tac_simulation.proofs.Evaluating
 use Rattle.tac_simulation.proofs.Evaluating.{ValueDoes, laid_by, left_for, value_units}
 use Rattle.tac_simulation.proofs.Combining.{ticked, then_value}
 use Rattle.tac_simulation.proofs.Constants.{left_most}
-use Rattle.tac_simulation.proofs.Forms.{value_form}
+use Rattle.tac_build.proofs.Forms.{value_form}
 use Rattle.tac_simulation.proofs.Alive.{where_alive}
 use Rattle.tac_simulation.proofs.Lasting.{lives_later, holds_later}
 use Rattle.tac_simulation.proofs.Looking.{not_dead, when_alive, living_place}
@@ -265,7 +265,7 @@ module _ (tac : Tac) (program : Program) (calls : Calls) (worth : ℕ) (points :
       let parts = two_parts (type_of (context_of program scope) pointer) (type_of (context_of program scope) number) (element program.structs) t typed in
       let target = element_parts program.structs parts.a parts.b t parts.gave in
       let own = parts.left ∙ ap Some target.0 in
-      let sizes = and_parts (has_small program.structs pointer) (has_small program.structs number) small in
+      let sizes = and_parts (makes (is_storable program.structs) pointer) (makes (is_storable program.structs) number) small in
       let form = value_form program points scope pointer (Row (followed || not (is_pure scope number))) (Pointer t) from code.0 code.2 own code.5 in
       let by_index = indexes_object points followed code.2 code.4 code.1 to (AsObject path c_type) code.7 in
       let left = left_most pointer in
@@ -302,7 +302,7 @@ module _ (tac : Tac) (program : Program) (calls : Calls) (worth : ℕ) (points :
       let parts = two_parts (type_of (context_of program scope) pointer) (type_of (context_of program scope) number) (element program.structs) t typed in
       let target = element_parts program.structs parts.a parts.b t parts.gave in
       let own = parts.left ∙ ap Some target.0 in
-      let sizes = and_parts (has_small program.structs number) (has_small program.structs pointer) small in
+      let sizes = and_parts (makes (is_storable program.structs) number) (makes (is_storable program.structs) pointer) small in
       let form = value_form program points scope pointer (Row followed) (Pointer t) code.1 code.2 code.6 own code.9 in
       let by_index = indexes_object points false code.6 code.5 code.2 to (AsObject path c_type) code.10 in
       let left = left_most pointer in

@@ -17,7 +17,7 @@ use Rattle.c_typed.proofs.Same.{same_type-true}
 use Rattle.c_well_typed.specs.Context.{Context}
 use Rattle.c_well_typed.specs.Expressions.{is_conversion, is_scalar, type_of}
 use Rattle.c_well_typed.specs.Programs.{IsWellTyped}
-use Rattle.c_well_typed.specs.Sizes.{has_small}
+use Rattle.c_well_typed.specs.Sizes.{makes, is_storable}
 use Rattle.ref_semantics.specs.Values as V
 use Rattle.ref_semantics.specs.Values.{Scalar, IntegerValue, integer_of}
 use Rattle.ref_semantics.specs.Store as S
@@ -27,7 +27,7 @@ use Rattle.ref_semantics.specs.Meaning.{Calls, value, is_true, converted, arithm
 use Rattle.ref_semantics.specs.First.{around_of}
 use Rattle.ref_typing.specs.Sound.{HasType, Sound}
 use Rattle.ref_typing.specs.Keeping.{CallsKeep}
-use Rattle.ref_typing.proofs.Splitting.{given_parts, same_parts, other_parts}
+use Rattle.c_well_typed.proofs.Splitting.{given_parts, same_parts, other_parts}
 use Rattle.tac_ir.specs.Code.{Op, Tac, Tree}
 use Rattle.tac_ir.specs.Code as O
 use Rattle.tac_ir.specs.States.{State}
@@ -36,14 +36,14 @@ use Rattle.tac_build.specs.Homes.{Scope}
 use Rattle.tac_build.specs.Spots.{Spot, Lowered, AsInteger, AsPointer, AsObject, AsNothing, Mode, Kept, Dropped, Behind, Row, cast_mode}
 use Rattle.tac_build.specs.Code.{ValueCode}
 use Rattle.tac_simulation.specs.Comparing.{ticks_per_unit}
-use Rattle.tac_simulation.specs.Forms.{HasForm}
-use Rattle.tac_simulation.specs.Standing.{Placement, Frame, KeepsBefore, At, context_of, LoweredStands}
+use Rattle.tac_build.specs.Forms.{context_of, HasForm}
+use Rattle.tac_simulation.specs.Standing.{Placement, Frame, KeepsBefore, At, LoweredStands}
 use Rattle.tac_simulation.proofs.Spotting.{Runs}
 use Rattle.tac_simulation.proofs.Evaluating.{ValueDoes, AtSpot, Came, ComesToValue, value_units, laid_by, left_for, Stood, stood}
 use Rattle.tac_simulation.proofs.Paths.{Stand, Passage as Passing, Does, eases, allows, stray}
 use Rattle.tac_simulation.proofs.Combining.{ticked, then_value, has_come}
 use Rattle.tac_simulation.proofs.Constants.{left_most}
-use Rattle.tac_simulation.proofs.Forms.{value_form}
+use Rattle.tac_build.proofs.Forms.{value_form}
 use Rattle.tac_simulation.proofs.Computing.{zero_fits, negated_zero, arithmetic_is, computes_arithmetic, computes_complement, computes_not, computes_convert}
 
 pub integer_is : {a b : IntType} → Integer a ≡ Integer b → a ≡ b
@@ -72,7 +72,7 @@ module _ (tac : Tac) (program : Program) (calls : Calls) (worth : ℕ) (points :
 
   -- an operand comes to an integer of its type, and the evaluation goes on
   pub then_integer : {B : Type 0} {Stands : Stand B} {start : State} {n lag lag' slack slack' : ℕ} (tree : Value) → Follows tree → (next : Scalar → Eval B)
-      → (from to : Spot) (own : IntType) (a : Tree) (t : CType) → ValueCode program points scope Kept tree from to (AsInteger own a) → type_of around tree ≡ Some t → has_small program.structs tree ≡ true
+      → (from to : Spot) (own : IntType) (a : Tree) (t : CType) → ValueCode program points scope Kept tree from to (AsInteger own a) → type_of around tree ≡ Some t → makes (is_storable program.structs) tree ≡ true
       → (s : S.State) (state : State) → Passing tac worth start state n s.units lag slack → AtSpot tac program calls worth points placement hidden frame scope from.at s state → lag + value_units tree ≤ lag'
       → ((z : ℤ) (s' : S.State) (state' : State) → Passing tac worth start state' n s'.units (lag + value_units tree) (slack + (2 * tree_nodes a + left_for tree))
       → Came tac program calls worth points placement hidden frame scope from to state.running.registers s' state' → Sound around s' → computes state'.running.registers a ≡ Some z → is_value own z ≡ true

@@ -5,6 +5,7 @@ use Rattle.std.proofs.lemmas.Option.{same_Some}
 use Rattle.c_typed.specs.Types.{CType}
 use Rattle.c_typed.specs.Layouts.{StructDef}
 use Rattle.c_typed.specs.Typed.{Program}
+use Rattle.c_well_typed.specs.Context.{Context}
 use Rattle.c_well_typed.specs.Programs.{IsWellTyped, are_structs}
 use Rattle.ref_semantics.specs.Values as V
 use Rattle.ref_semantics.specs.Values.{Name, Heap, Row, Place, Scalar, IntegerValue, NullValue, FunctionValue, PointerValue, RawPointer, place_of, same_name, is_end}
@@ -23,7 +24,7 @@ use Rattle.tac_simulation.proofs.Memory.{same_object-true, same_object-refl, sam
 use Rattle.tac_simulation.proofs.Looking.{not_dead, living_raw}
 use Rattle.tac_simulation.proofs.Placing.{TypedBoth, placed}
 use Rattle.tac_simulation.proofs.Extents.{row_small}
-use Rattle.c_filled.specs.Filled.{is_filled, are_filled}
+use Rattle.c_well_typed.specs.Sizes.{is_filled, are_filled}
 use Rattle.tac_simulation.proofs.Filled.{size_positive, row_filled, filled_end}
 
 -- ---- objects with a byte at least
@@ -36,6 +37,15 @@ HasBytes program (V.Elements is_static c_type count held) = (is_filled program.s
 
 abbrev pub HaveBytes : Program → S.Objects → Type 0
 HaveBytes program objects = (name : Name) → HasBytes program (objects name)
+
+-- what a sound state holds
+pub sound_bytes : (around : Context) (s : S.State) → Sound around s → HaveBytes around.program s.objects
+sound_bytes around s sound name = by (s.objects name) (sound.contents name)
+  where
+    by : (content : V.Content) → IsSoundContent around.program s content → HasBytes around.program content
+    by V.Dead is = tt
+    by (V.Raw size) is = is
+    by (V.Elements is_static c_type count held) is = (is.filled, is.some)
 
 -- no row is without an element
 pub row_some : (structs : List StructDef) → are_structs structs ≡ true → are_filled structs ≡ true → (c_type : CType) → IsSmall structs c_type → is_filled structs c_type ≡ true → (count : ℕ) → 1 ≤ count
@@ -67,7 +77,7 @@ pub at_beginning : (size : ℕ) → 0 ≡ 0 + 0 * size
 at_beginning size = omega arith
 
 module _ (program : Program) (well : IsWellTyped program) (filled : are_filled program.structs ≡ true) (placement : Placement) (locals : List CType) (s : S.State)
-    (sound : Sound (record { program = program; locals = locals }) s) (bytes : HaveBytes program s.objects) (objects' : Objects) (memory : MemoryStands program placement s.objects objects') where
+    (sound : Sound (record { program = program; locals = locals }) s) (objects' : Objects) (memory : MemoryStands program placement s.objects objects') where
   -- a pointer into a living object, and the value that stands for it; where that is the object's end, it is the row's
   pub record Into (scalar : Scalar) (value : Value) : Type 0 where
     pub object : Object
@@ -79,7 +89,7 @@ module _ (program : Program) (well : IsWellTyped program) (filled : are_filled p
 
   -- the bytes of an object in which a place stands
   place_bytes : (place : Place) (object : Object) (typed : TypedBoth program placement s objects' place object) → HasBytes program (V.Elements typed.is_static typed.c_type typed.count typed.held)
-  place_bytes place object typed = subst (HasBytes program) typed.content (bytes place.name)
+  place_bytes place object typed = subst (HasBytes program) typed.content (sound_bytes (record { program = program; locals = locals }) s sound place.name)
 
   pub place_size : (place : Place) (object : Object) (typed : TypedBoth program placement s objects' place object) → 1 ≤ size_in program.structs place.row.c_type
   place_size place object typed =
@@ -120,7 +130,7 @@ module _ (program : Program) (well : IsWellTyped program) (filled : are_filled p
       let at = living_raw program placement s.objects objects' memory number value lives stands in
       let size = size_in program.structs (place_of (RawPointer number)).row.c_type in
       let begins = at_beginning size in
-      let own = raw_extent (s.objects (Heap number)) (objects' (OfHeap number)) (not_dead (s.objects (Heap number)) lives) (bytes (Heap number)) (sound.contents (Heap number)) (memory.contents (Heap number) (OfHeap number) refl) in
+      let own = raw_extent (s.objects (Heap number)) (objects' (OfHeap number)) (not_dead (s.objects (Heap number)) lives) (sound_bytes (record { program = program; locals = locals }) s sound (Heap number)) (sound.contents (Heap number)) (memory.contents (Heap number) (OfHeap number) refl) in
       record {
         object = OfHeap number;
         is_image = refl;

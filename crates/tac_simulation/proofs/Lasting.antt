@@ -12,7 +12,8 @@ use Rattle.tac_ir.specs.declared.program.Counts.{Counts}
 use Rattle.tac_ir.specs.declared.register.Register.{Register}
 use Rattle.tac_ir.specs.Values.{Value}
 use Rattle.tac_ir.specs.Trees.{Registers}
-use Rattle.tac_simulation.specs.Standing.{Placement, ScalarStands, HoldsFor, IsAlive, IsBefore, KeepsBefore}
+use Rattle.tac_build.specs.Forms.{IsBefore}
+use Rattle.tac_simulation.specs.Standing.{Placement, ScalarStands, HoldsFor, IsAlive, KeepsBefore}
 use Rattle.tac_simulation.proofs.Given.{typed_given, given_lasts, held_given}
 
 alive_before : (old new : V.Content) → MayBecome old new → IsAlive new → IsAlive old

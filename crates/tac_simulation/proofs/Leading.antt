@@ -21,7 +21,8 @@ use Rattle.tac_ir.specs.Code.{Step, Path}
 use Rattle.tac_ir.specs.First.{named_global, placed_literal}
 use Rattle.tac_build.specs.Homes.{Home, Scope, home_of}
 use Rattle.tac_build.specs.Code.{then_step}
-use Rattle.tac_simulation.specs.Standing.{Placement, HomeStands, HomesStand, types_of}
+use Rattle.tac_build.specs.Forms.{scope_types}
+use Rattle.tac_simulation.specs.Standing.{Placement, HomeStands, HomesStand}
 use Rattle.tac_simulation.proofs.Moving.{offset_moves}
 
 -- ---- steps
@@ -90,7 +91,7 @@ module _ (program : Program) (placement : Placement) (activation : ℕ) (registe
   length_homes [] (newest ∷ others) stands = absurd stands
   length_homes (home ∷ scope) [] stands = absurd stands
 
-  pub found_home : (scope : Scope) (locals : List ℕ) → HomesStand program placement activation s.objects registers scope locals → AreLocals s locals (types_of scope) → (index : ℕ) (home : Home)
+  pub found_home : (scope : Scope) (locals : List ℕ) → HomesStand program placement activation s.objects registers scope locals → AreLocals s locals (scope_types scope) → (index : ℕ) (home : Home)
       → home_of scope index ≡ Some home → FoundHome program placement activation registers s locals home index
   found_home [] locals stands are index home is = absurd (none-some home is)
   found_home (first ∷ scope) [] stands are index home is = absurd stands

@@ -14,7 +14,8 @@ use Rattle.tac_ir.specs.Values as M
 use Rattle.tac_ir.specs.States.{State}
 use Rattle.tac_build.specs.Homes.{Scope}
 use Rattle.tac_build.specs.StatementCode.{Ways}
-use Rattle.tac_simulation.specs.Standing.{Placement, Frame, At, context_of}
+use Rattle.tac_build.specs.Forms.{context_of}
+use Rattle.tac_simulation.specs.Standing.{Placement, Frame, At}
 use Rattle.tac_simulation.proofs.Spotting.{Runs}
 use Rattle.tac_simulation.proofs.Evaluating.{ValueDoes, AtSpot}
 use Rattle.tac_simulation.proofs.Executing.{Extends, GivesBack, Leaves}

@@ -16,7 +16,6 @@ pub mod Filled
 pub mod Accessing
 pub mod Paths
 pub mod Fixed
-pub mod Forms
 pub mod Named
 pub mod Naming
 pub mod PureCode
@@ -50,7 +49,6 @@ pub mod Adding
 pub mod Pointing
 pub mod PointerForms
 pub mod Calling
-pub mod Bytes
 pub mod Doing
 pub mod Leading
 pub mod Finding
@@ -105,3 +103,16 @@ pub mod Called
 pub mod Paid
 pub mod Running
 pub mod InBody
+pub mod Worth
+pub mod Together
+pub mod Completing
+pub mod Watching
+pub mod Owning
+pub mod Through
+pub mod Returning
+pub mod Delivering
+pub mod FoundCalls
+pub mod Depths
+pub mod Started
+pub mod MainCall
+pub mod Simulated

@@ -13,7 +13,7 @@ use Rattle.c_typed.specs.Typed as T
 use Rattle.c_typed.specs.Typed.{Value, Values, Program}
 use Rattle.c_well_typed.specs.Expressions.{given, given_two, library_result, type_of}
 use Rattle.c_well_typed.specs.Programs.{IsWellTyped}
-use Rattle.c_well_typed.specs.Sizes.{has_small}
+use Rattle.c_well_typed.specs.Sizes.{makes, is_storable}
 use Rattle.ref_semantics.specs.Values as V
 use Rattle.ref_semantics.specs.Values.{Name, Heap, GlobalObject, LiteralObject, LocalObject, Place, Scalar, IntegerValue, NullValue, FunctionValue, PointerValue, RawPointer, integer_of}
 use Rattle.ref_semantics.specs.Store as S
@@ -25,7 +25,7 @@ use Rattle.ref_semantics.specs.Meaning.{Calls, value, values}
 use Rattle.ref_semantics.specs.First.{around_of}
 use Rattle.ref_typing.specs.Sound.{HasType}
 use Rattle.ref_typing.specs.Keeping.{CallsKeep}
-use Rattle.ref_typing.proofs.Splitting.{given_parts, two_parts}
+use Rattle.c_well_typed.proofs.Splitting.{given_parts, two_parts}
 use Rattle.tac_ir.specs.declared.register.Local.{Local}
 use Rattle.tac_ir.specs.declared.register.Register.TheVariants as R
 use Rattle.tac_ir.specs.Code.{Op, Tac, Held}
@@ -44,15 +44,15 @@ use Rattle.tac_ir.proofs.Seen.{seen_crossed, seen_emitted}
 use Rattle.tac_build.specs.Homes.{Scope}
 use Rattle.tac_build.specs.Spots.{Spot, with_call, Lowered, AsInteger, AsPointer, AsNothing, Mode, Kept}
 use Rattle.tac_build.specs.Code.{HasOp}
+use Rattle.tac_build.specs.Forms.{scope_types, context_of}
 use Rattle.tac_simulation.specs.Comparing.{ticks_per_unit}
-use Rattle.tac_simulation.specs.Standing as Standing
-use Rattle.tac_simulation.specs.Standing.{Placement, Frame, KeepsBefore, At, IsAlive, context_of, LoweredStands, surroundings}
+use Rattle.tac_simulation.specs.Standing.{Placement, Frame, KeepsBefore, At, IsAlive, LoweredStands, surroundings}
 use Rattle.tac_simulation.proofs.Paths.{Stand, Passage as Passing, Does, Passes, comes, stops, stepped, eased, ends_seen}
 use Rattle.tac_simulation.proofs.Spotting.{Runs, kept_write, written_there, before_at, around_is}
 use Rattle.tac_simulation.proofs.Evaluating
 use Rattle.tac_simulation.proofs.Evaluating.{ValueDoes, laid_by, left_for, value_units, values_units}
 use Rattle.tac_simulation.proofs.Naming.{call_grows, before_more}
-use Rattle.tac_simulation.proofs.Forms.{value_form}
+use Rattle.tac_build.proofs.Forms.{value_form}
 use Rattle.tac_simulation.proofs.Answered.{past, gave}
 use Rattle.tac_simulation.proofs.Equality.{neither_of}
 use Rattle.tac_simulation.proofs.Guarding.{Guards, goes, strays, guarded_does, unless_guards}
@@ -213,10 +213,10 @@ module _ (tac : Tac) (program : Program) (calls : Calls) (worth : ℕ) (points :
       (Evaluating.ComesToValue tac program calls worth points placement hidden frame scope mode from to lowered state.running.registers) outcome)
       (sym (once (library (around_of program) L.Malloc place) (value (around_of program) calls size (record s { units = left })))) (
       then_value tac program calls worth points placement hidden frame scope runs well keep size follows (λ a. library (around_of program) L.Malloc place (a ∷ [])) Kept (with_call from) code.0 (AsInteger code.1 code.2) first.0
-      code.3 first.1 (and_parts (has_small program.structs size) true small).0 (record s { units = left }) state p1 (record { stands = at1.stands; sound = at1.sound }) (omega arith) (λ a s1 state1 p2 come keeps holds.
+      code.3 first.1 (and_parts (makes (is_storable program.structs) size) true small).0 (record s { units = left }) state p1 (record { stands = at1.stands; sound = at1.sound }) (omega arith) (λ a s1 state1 p2 come keeps holds.
       guarded_does (allocated (Library.natural_of (integer_of a)) s1) (allocated_guards (Library.natural_of (integer_of a)) s1) (λ answer after e.
       let stands = come.0.there.stands in
-      let both = allocated_is program placement (Standing.types_of scope) s1 keeps.sound state1 stands.memory (apart_placement program placement hidden s1 state1 stands) stands.heap from.counts.calls (Library.natural_of (integer_of a)) answer after e in
+      let both = allocated_is program placement (scope_types scope) s1 keeps.sound state1 stands.memory (apart_placement program placement hidden s1 state1 stands) stands.heap from.counts.calls (Library.natural_of (integer_of a)) answer after e in
       let registers = with_register (R.Call from.counts.calls) (Some both.held) state1.running.registers in
       let last = record state1 {
         running = record state1.running { registers = registers; at = suc state1.running.at };
@@ -253,7 +253,7 @@ module _ (tac : Tac) (program : Program) (calls : Calls) (worth : ℕ) (points :
       (Evaluating.ComesToValue tac program calls worth points placement hidden frame scope mode from to lowered state.running.registers) outcome)
       (sym (once (library (around_of program) L.Free place) (value (around_of program) calls pointer (record s { units = left })))) (
       then_value tac program calls worth points placement hidden frame scope runs well keep pointer follows (λ a. library (around_of program) L.Free place (a ∷ [])) Kept (with_call from) code.0 (AsPointer code.2 code.1) first.0
-      code.3 first.1 (and_parts (has_small program.structs pointer) true small).0 (record s { units = left }) state p1 (record { stands = at1.stands; sound = at1.sound }) (omega arith) (λ a s1 state1 p2 come keeps holds.
+      code.3 first.1 (and_parts (makes (is_storable program.structs) pointer) true small).0 (record s { units = left }) state p1 (record { stands = at1.stands; sound = at1.sound }) (omega arith) (λ a s1 state1 p2 come keeps holds.
       guarded_does (freed (around_of program) place a s1) (freed_guards (around_of program) place a s1) (λ answer after e.
       let stands = come.0.there.stands in
       let both = freed_is program placement s1 state1 stands.memory from.counts.calls place code.1 a come.1.0 answer after (subst (λ u. HasType program s1 u a) form holds) come.1.2 e in
@@ -315,7 +315,7 @@ module _ (tac : Tac) (program : Program) (calls : Calls) (worth : ℕ) (points :
       (Evaluating.ComesToValue tac program calls worth points placement hidden frame scope mode from to lowered state.running.registers) outcome)
       (sym (once (library (around_of program) L.PutChar place) (value (around_of program) calls byte (record s { units = left })))) (
       then_value tac program calls worth points placement hidden frame scope runs well keep byte follows (λ a. library (around_of program) L.PutChar place (a ∷ [])) Kept (with_call from) code.0 (AsInteger code.1 code.2) first.0
-      code.3 first.1 (and_parts (has_small program.structs byte) true small).0 (record s { units = left }) state p1 (record { stands = at1.stands; sound = at1.sound }) (omega arith) (λ a s1 state1 p2 come keeps holds.
+      code.3 first.1 (and_parts (makes (is_storable program.structs) byte) true small).0 (record s { units = left }) state p1 (record { stands = at1.stands; sound = at1.sound }) (omega arith) (λ a s1 state1 p2 come keeps holds.
       subst (λ b. Does tac worth start n (lag + (2 + groups + values_units (T.MoreValues byte T.NoValues))) (slack + (laid_by lowered + 6))
       (Evaluating.ComesToValue tac program calls worth points placement hidden frame scope mode from to lowered state.running.registers) (library (around_of program) L.PutChar place (b ∷ []) s1))
       (sym come.1.1) (
@@ -350,7 +350,7 @@ module _ (tac : Tac) (program : Program) (calls : Calls) (worth : ℕ) (points :
       (Evaluating.ComesToValue tac program calls worth points placement hidden frame scope mode from to lowered state.running.registers) outcome)
       (sym (once (library (around_of program) L.Exit place) (value (around_of program) calls status (record s { units = left })))) (
       then_value tac program calls worth points placement hidden frame scope runs well keep status follows (λ a. library (around_of program) L.Exit place (a ∷ [])) Kept (with_call from) code.0 (AsInteger code.1 code.2) first.0
-      code.3 first.1 (and_parts (has_small program.structs status) true small).0 (record s { units = left }) state p1 (record { stands = at1.stands; sound = at1.sound }) (omega arith) (λ a s1 state1 p2 come keeps holds.
+      code.3 first.1 (and_parts (makes (is_storable program.structs) status) true small).0 (record s { units = left }) state p1 (record { stands = at1.stands; sound = at1.sound }) (omega arith) (λ a s1 state1 p2 come keeps holds.
       subst (λ b. Does tac worth start n (lag + (2 + groups + values_units (T.MoreValues status T.NoValues))) (slack + (laid_by lowered + 6))
       (Evaluating.ComesToValue tac program calls worth points placement hidden frame scope mode from to lowered state.running.registers) (library (around_of program) L.Exit place (b ∷ []) s1))
       (sym come.1.1) (

@@ -6,8 +6,7 @@ use Rattle.tac_ir.specs.declared.register.Register.TheVariants as R
 use Rattle.tac_ir.specs.Code.{Tree, Constant, Held, Convert, Complement, Not, Arithmetic, Compare, Base, AtLocal, AtGlobal, AtLiteral, Pointed, Indexed, Step, Member, Element, Path, Callee, Known, Through}
 use Rattle.tac_build.specs.Spots.{Spot, behind, with_call, with_argument, with_expression, with_temporary, Lowered, AsInteger, AsPointer, AsObject, AsNothing}
 use Rattle.tac_build.specs.Code.{then_step}
-use Rattle.tac_simulation.specs.Standing.{IsBefore}
-use Rattle.tac_simulation.specs.Forms.{IsNamed, IsStable, TreeHolds, BaseHolds, StepHolds, StepsHold, PathHolds, LoweredNamed, CalleeNamed, RegistersNamed, SpotGrows, Names}
+use Rattle.tac_build.specs.Forms.{IsBefore, IsNamed, IsStable, TreeHolds, BaseHolds, StepHolds, StepsHold, PathHolds, LoweredNamed, CalleeNamed, RegistersNamed, SpotGrows, Names}
 
 -- ---- spots
 

@@ -20,7 +20,8 @@ use Rattle.tac_ir.specs.Objects.{own_type, whole}
 use Rattle.tac_ir.specs.States.{State}
 use Rattle.tac_ir.specs.First.{named_global, placed_literal}
 use Rattle.tac_build.specs.Homes.{Home, Scope}
-use Rattle.tac_simulation.specs.Standing.{Placement, Frame, image, global_object, literal_object, types_of, context_of, IsAlive, IsAmong, IsApart, ContentStands, MemoryStands, HomeStands, HomesStand, At}
+use Rattle.tac_build.specs.Forms.{scope_types, context_of}
+use Rattle.tac_simulation.specs.Standing.{Placement, Frame, image, global_object, literal_object, IsAlive, IsAmong, IsApart, ContentStands, MemoryStands, HomeStands, HomesStand, At}
 use Rattle.tac_simulation.proofs.Executing.{IsNumbered, AreNumbered, Extends}
 use Rattle.tac_simulation.proofs.Given.{NamesGiven, typed_given, content_given, held_given}
 use Rattle.tac_simulation.proofs.Memory.{same_name-refl}
@@ -142,7 +143,7 @@ module _ (program : Program) (placement : Placement) (types : List CType) (s : S
           ),
         )
 
-    old_homes : (scope : Scope) (locals : List ℕ) → AreLocals s locals (types_of scope) → HomesStand program placement activation s.objects registers scope locals
+    old_homes : (scope : Scope) (locals : List ℕ) → AreLocals s locals (scope_types scope) → HomesStand program placement activation s.objects registers scope locals
         → HomesStand program (placed_with s.next_local own placement) activation (opened c_type s).objects registers scope locals
     old_homes [] [] are stands = tt
     old_homes (home ∷ scope) (newest ∷ others) are stands = (old_home home newest are.0 stands.0, old_homes scope others are.2 stands.1, stands.2)
@@ -156,7 +157,7 @@ new_local_apart : (counts : Counts) (other : Local) → IsNumbered counts other 
 new_local_apart counts (L.Parameter number) numbered e = cc
 new_local_apart counts (L.Variable number) numbered e = let same : counts.variables ≡ number = cc in omega (arith, same, numbered)
 
-newest_apart : (counts : Counts) (s : S.State) (scope : Scope) (locals : List ℕ) → AreNumbered counts scope → AreLocals s locals (types_of scope) → IsApart (L.Variable counts.variables) s.next_local scope locals
+newest_apart : (counts : Counts) (s : S.State) (scope : Scope) (locals : List ℕ) → AreNumbered counts scope → AreLocals s locals (scope_types scope) → IsApart (L.Variable counts.variables) s.next_local scope locals
 newest_apart counts s [] locals numbered are = tt
 newest_apart counts s (home ∷ scope) [] numbered are = tt
 newest_apart counts s (home ∷ scope) (newest ∷ others) numbered are = (new_local_apart counts home.local numbered.0, are.0, newest_apart counts s scope others numbered.1 are.2)
@@ -262,19 +263,19 @@ module _ (program : Program) (placement : Placement) (hidden : ℕ → Option V.
       input = h.stands.input;
       heap = h.stands.heap;
       trace = h.stands.trace;
-      memory = opened_stands program placement (types_of scope) s sound home.c_type (home_object frame.number home) t.objects (λ found e. let own = there found e in (own.0, own.1)) unique h.stands.memory;
+      memory = opened_stands program placement (scope_types scope) s sound home.c_type (home_object frame.number home) t.objects (λ found e. let own = there found e in (own.0, own.1)) unique h.stands.memory;
       placed = λ number found is. placed_by number found (s.next_local == number) refl is;
       unchanged = λ number content hides.
           let was = h.stands.unchanged number content hides in (
             later number was.0,
-            old_content program placement (types_of scope) s sound home.c_type (home_object frame.number home) (LocalObject number) (not_given program placement (types_of scope) s sound home.c_type (home_object frame.number home) (LocalObject number) was.0) ∙ was.1,
+            old_content program placement (scope_types scope) s sound home.c_type (home_object frame.number home) (LocalObject number) (not_given program placement (scope_types scope) s sound home.c_type (home_object frame.number home) (LocalObject number) was.0) ∙ was.1,
             old_place s.next_local (home_object frame.number home) placement number (older number was.0) ∙ was.2,
             not_among number was.0 was.3,
           );
     };
     homes = (
       new_home_stands,
-      old_homes program placement (types_of scope) s sound home.c_type (home_object frame.number home) frame.number t.running.registers scope s.locals sound.locals h.homes,
+      old_homes program placement (scope_types scope) s sound home.c_type (home_object frame.number home) frame.number t.running.registers scope s.locals sound.locals h.homes,
       subst (λ l. IsApart l s.next_local scope s.locals) (sym local_is) (newest_apart counts s scope s.locals numbered sound.locals),
     );
     own = record { there = h.own.there; in_scope = λ number local is lives. in_scope number local (s.next_local == number) refl is lives };
@@ -313,5 +314,5 @@ module _ (program : Program) (placement : Placement) (hidden : ℕ → Option V.
           (inl (eqb-true s.next_local number e), (record { offset = 0; c_type = home.c_type }, ap (own_type frame.objects) same ∙ own its.0))
       in_scope number local false e is lives =
           let given = (h.stands.placed number (OfActivation frame.number local) is).0 in
-          let was = h.own.in_scope number local is (lives_given program placement (types_of scope) s sound home.c_type (home_object frame.number home) (LocalObject number) given lives) in
+          let was = h.own.in_scope number local is (lives_given program placement (scope_types scope) s sound home.c_type (home_object frame.number home) (LocalObject number) given lives) in
           (inr was.0, was.1)

@@ -7,7 +7,7 @@ use Rattle.c_typed.specs.Typed.{Value, Program}
 use Rattle.c_well_typed.specs.Context.{Context}
 use Rattle.c_well_typed.specs.Expressions.{type_of}
 use Rattle.c_well_typed.specs.Programs.{IsWellTyped}
-use Rattle.c_well_typed.specs.Sizes.{has_small}
+use Rattle.c_well_typed.specs.Sizes.{makes, is_storable}
 use Rattle.ref_semantics.specs.Values as V
 use Rattle.ref_semantics.specs.Values.{Scalar, IntegerValue}
 use Rattle.ref_semantics.specs.Store as S
@@ -25,15 +25,15 @@ use Rattle.tac_ir.specs.Trees.{computes, tree_nodes, integer_in}
 use Rattle.tac_build.specs.Homes.{Scope, is_pure}
 use Rattle.tac_build.specs.Spots.{Spot, with_temporary, AsInteger, Kept}
 use Rattle.tac_build.specs.Code.{ValueCode, KeepsTree}
-use Rattle.tac_simulation.specs.Forms.{SpotGrows}
-use Rattle.tac_simulation.specs.Standing.{Placement, Frame, KeepsBefore, IsBefore, At, types_of, context_of}
+use Rattle.tac_build.specs.Forms.{IsBefore, scope_types, context_of, SpotGrows}
+use Rattle.tac_simulation.specs.Standing.{Placement, Frame, KeepsBefore, At}
 use Rattle.tac_simulation.proofs.Spotting.{Runs}
 use Rattle.tac_simulation.proofs.Evaluating.{ValueDoes, AtSpot, Came, ComesToValue, value_units, left_for}
 use Rattle.tac_simulation.proofs.PureRests.{Rests}
 use Rattle.tac_simulation.proofs.Going.{keeps_tree}
 use Rattle.tac_simulation.proofs.Paths.{Stand, Passage as Passing, Does, comes, stops, slower, eases, allows}
 use Rattle.tac_simulation.proofs.Constants.{left_most}
-use Rattle.tac_simulation.proofs.Forms.{value_form}
+use Rattle.tac_build.proofs.Forms.{value_form}
 use Rattle.tac_simulation.proofs.Named.{value_named}
 use Rattle.tac_simulation.proofs.Naming.{stays, grows_to, grows_then, temporary_grows, behind_grows}
 use Rattle.tac_simulation.proofs.Unchanged.{keeps_fewer, keeps_then}
@@ -53,7 +53,7 @@ module _ (tac : Tac) (program : Program) (calls : Calls) (worth : ℕ) (points :
 
   -- an operand comes to an integer of its type, and more is known of the state behind its code
   pub then_also : {B : Type 0} {Stands : Stand B} {start : State} {n lag' slack' : ℕ} (lag slack : ℕ) (Also : State → Type 0) (tree : Value) (next : Scalar → Eval B)
-      → (from to : Spot) (own : IntType) (a : Tree) (t : CType) → ValueCode program points scope Kept tree from to (AsInteger own a) → type_of around tree ≡ Some t → has_small program.structs tree ≡ true
+      → (from to : Spot) (own : IntType) (a : Tree) (t : CType) → ValueCode program points scope Kept tree from to (AsInteger own a) → type_of around tree ≡ Some t → makes (is_storable program.structs) tree ≡ true
       → (s : S.State) (state : State) → Sound around s
       → Does tac worth start n (lag + value_units tree) (slack + (2 * tree_nodes a + left_for tree)) (λ scalar s' state'. ComesToValue tac program calls worth points placement hidden frame scope Kept from to (AsInteger own a) state.running.registers scalar s' state' × Also state') (value (around_of program) calls tree s)
       → lag + value_units tree ≤ lag'
@@ -68,7 +68,7 @@ module _ (tac : Tac) (program : Program) (calls : Calls) (worth : ℕ) (points :
           → Does tac worth start n (lag + value_units tree) (slack + (2 * tree_nodes a + left_for tree)) (λ scalar s' state'. ComesToValue tac program calls worth points placement hidden frame scope Kept from to (AsInteger own a) state.running.registers scalar s' state' × Also state') outcome
           → Does tac worth start n lag' slack' Stands (continue_with next outcome)
       by _ e (comes scalar s' state' p' came) =
-          let keeps = value_keeps program well calls keep (types_of scope) tree small t typed s sound scalar s' e in
+          let keeps = value_keeps program well calls keep (scope_types scope) tree small t typed s sound scalar s' e in
           let is = value_form program points scope tree Kept t from to (AsInteger own a) typed code in
           subst (λ x. Does tac worth start n lag' slack' Stands (next x s')) (sym came.0.1.1)
           (rest came.0.1.0 s' state' p' came.0.0 keeps.0.sound came.0.1.2 (integer_fits program s' t own scalar came.0.1.0 is came.0.1.1 keeps.1) came.1)
@@ -76,7 +76,7 @@ module _ (tac : Tac) (program : Program) (calls : Calls) (worth : ℕ) (points :
 
   -- the next operand comes to its value, and the tree before it still computes the same
   pub then_right : {B : Type 0} {Stands : Stand B} {start : State} {n lag lag' slack slack' : ℕ} (right : Value) → Follows right → Rests tac program calls worth points placement hidden frame scope right → (next : Scalar → Eval B)
-      → (from to : Spot) (own : IntType) (kept b : Tree) (x : ℤ) (t : CType) → ValueCode program points scope Kept right from to (AsInteger own b) → type_of around right ≡ Some t → has_small program.structs right ≡ true
+      → (from to : Spot) (own : IntType) (kept b : Tree) (x : ℤ) (t : CType) → ValueCode program points scope Kept right from to (AsInteger own b) → type_of around right ≡ Some t → makes (is_storable program.structs) right ≡ true
       → (s : S.State) (state : State) → Passing tac worth start state n s.units lag slack → AtSpot tac program calls worth points placement hidden frame scope from.at s state
       → computes state.running.registers kept ≡ Some x → (not (is_pure scope right) ≡ true → (register : Register) × (kept ≡ O.Held register) × IsBefore from.counts register) → lag + value_units right ≤ lag'
       → ((z : ℤ) (s' : S.State) (state' : State) → Passing tac worth start state' n s'.units (lag + value_units right) (slack + (2 * tree_nodes b + left_for right))
@@ -101,7 +101,7 @@ module _ (tac : Tac) (program : Program) (calls : Calls) (worth : ℕ) (points :
   -- two operands, the left one first
   pub two_operands : {B : Type 0} {Stands : Stand B} {start : State} {n lag lag' slack slack' : ℕ} (left right : Value) → Follows left → Follows right → Rests tac program calls worth points placement hidden frame scope right → (next : Scalar → Scalar → Eval B)
       → (from mid between to : Spot) (own other : IntType) (a kept b : Tree) (t u : CType) → ValueCode program points scope Kept left from mid (AsInteger own a) → KeepsTree points (not (is_pure scope right)) a mid between kept
-      → ValueCode program points scope Kept right between to (AsInteger other b) → type_of around left ≡ Some t → type_of around right ≡ Some u → has_small program.structs left ≡ true → has_small program.structs right ≡ true
+      → ValueCode program points scope Kept right between to (AsInteger other b) → type_of around left ≡ Some t → type_of around right ≡ Some u → makes (is_storable program.structs) left ≡ true → makes (is_storable program.structs) right ≡ true
       → (s : S.State) (state : State) → Passing tac worth start state n s.units lag slack → AtSpot tac program calls worth points placement hidden frame scope from.at s state → lag + value_units left + value_units right ≤ lag'
       → ((x y : ℤ) (s' : S.State) (state' : State) → Passing tac worth start state' n s'.units (lag + value_units left + value_units right) (slack + 1 + 2 * tree_nodes kept + (2 * tree_nodes b + left_for right))
       → At program placement hidden frame scope to.at s' state' → KeepsBefore from.counts state.running.registers state'.running.registers

@@ -15,7 +15,7 @@ use Rattle.c_typed.proofs.Same.{same_type-true}
 use Rattle.c_well_typed.specs.Context.{Context}
 use Rattle.c_well_typed.specs.Expressions.{type_of, is_right}
 use Rattle.c_well_typed.specs.Programs.{IsWellTyped}
-use Rattle.c_well_typed.specs.Sizes.{has_small}
+use Rattle.c_well_typed.specs.Sizes.{makes, is_storable}
 use Rattle.ref_semantics.specs.Values as V
 use Rattle.ref_semantics.specs.Values.{Scalar, IntegerValue, integer_of}
 use Rattle.ref_semantics.specs.Store.{◌>>=◌, give}
@@ -23,19 +23,20 @@ use Rattle.ref_semantics.specs.Pointers as P
 use Rattle.ref_semantics.specs.Meaning.{Calls, value, arithmetic}
 use Rattle.ref_semantics.specs.First.{around_of}
 use Rattle.ref_typing.specs.Keeping.{CallsKeep}
-use Rattle.ref_typing.proofs.Splitting.{first_parts, both_parts}
+use Rattle.c_well_typed.proofs.Splitting.{first_parts, both_parts}
 use Rattle.tac_ir.specs.Code.{Op, Tac}
 use Rattle.tac_ir.specs.Code as O
 use Rattle.tac_ir.specs.Trees.{truth}
 use Rattle.tac_build.specs.Homes.{Scope}
 use Rattle.tac_build.specs.Spots.{AsInteger, Kept}
-use Rattle.tac_simulation.specs.Standing.{Placement, Frame, context_of}
+use Rattle.tac_build.specs.Forms.{context_of}
+use Rattle.tac_simulation.specs.Standing.{Placement, Frame}
 use Rattle.tac_simulation.proofs.Spotting.{Runs}
 use Rattle.tac_simulation.proofs.Evaluating.{ValueDoes, laid_by}
 use Rattle.tac_simulation.proofs.PureRests.{Rests}
 use Rattle.tac_simulation.proofs.Combining.{ticked, has_come}
 use Rattle.tac_simulation.proofs.Constants.{left_most}
-use Rattle.tac_simulation.proofs.Forms.{value_form}
+use Rattle.tac_build.proofs.Forms.{value_form}
 use Rattle.tac_simulation.proofs.Computing.{truth_is, computes_compare}
 use Rattle.tac_simulation.proofs.Integers.{own_is, integer_is, operates}
 use Rattle.tac_simulation.proofs.Operands.{two_operands}
@@ -58,7 +59,7 @@ module _ (tac : Tac) (program : Program) (calls : Calls) (worth : ℕ) (points :
 
   pub operators : (op : BinOp) (place : Pos) (int_type : IntType) (left right : Value) → Follows left → Follows right → Rests tac program calls worth points placement hidden frame scope right → Follows (T.Arithmetic op place int_type left right)
   operators op place int_type left right follows follows' rests mode from to lowered t code typed small start n lag slack s state p at =
-      let sizes = and_parts (has_small program.structs left) (has_small program.structs right) small in
+      let sizes = and_parts (makes (is_storable program.structs) left) (makes (is_storable program.structs) right) small in
       let parts = first_parts (type_of around left) (type_of around right) (λ a b. same_type a (Integer int_type) && is_right op a b) t typed in
       let fit = and_parts (same_type t (Integer int_type)) (is_right op t parts.b) parts.holds in
       let first = value_form program points scope left Kept t from code.0 (AsInteger code.5 code.2) parts.left code.7 in
@@ -73,7 +74,7 @@ module _ (tac : Tac) (program : Program) (calls : Calls) (worth : ℕ) (points :
 
   pub relations : (relation : Relation) (left right : Value) → Follows left → Follows right → Rests tac program calls worth points placement hidden frame scope right → Follows (T.Compare relation left right)
   relations relation left right follows follows' rests mode from to lowered t code typed small start n lag slack s state p at =
-      let sizes = and_parts (has_small program.structs left) (has_small program.structs right) small in
+      let sizes = and_parts (makes (is_storable program.structs) left) (makes (is_storable program.structs) right) small in
       let parts = both_parts (type_of around left) (type_of around right) (λ a b. is_integer a && same_type a b) int t typed in
       let fit = and_parts (is_integer parts.a) (same_type parts.a parts.b) parts.holds in
       let first = value_form program points scope left Kept parts.a from code.0 (AsInteger code.5 code.2) parts.left code.7 in

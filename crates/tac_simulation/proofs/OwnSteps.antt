@@ -16,7 +16,7 @@ use Rattle.c_typed.proofs.Same.{same_type-true}
 use Rattle.c_well_typed.specs.Context.{Context}
 use Rattle.c_well_typed.specs.Expressions.{type_of, type_of_object}
 use Rattle.c_well_typed.specs.Programs.{IsWellTyped}
-use Rattle.c_well_typed.specs.Sizes.{has_small}
+use Rattle.c_well_typed.specs.Sizes.{makes, is_storable}
 use Rattle.ref_semantics.specs.Values as V
 use Rattle.ref_semantics.specs.Values.{Place, Scalar, IntegerValue, LocalObject, object_place}
 use Rattle.ref_semantics.specs.Store as S
@@ -26,7 +26,7 @@ use Rattle.ref_semantics.specs.Meaning as Meaning
 use Rattle.ref_semantics.specs.Meaning.{Calls, value, find, arithmetic, converted, step_result}
 use Rattle.ref_semantics.specs.First.{around_of}
 use Rattle.ref_typing.specs.Keeping.{CallsKeep}
-use Rattle.ref_typing.proofs.Splitting.{same_parts}
+use Rattle.c_well_typed.proofs.Splitting.{same_parts}
 use Rattle.ref_typing.proofs.Operating.{integer_scalar}
 use Rattle.tac_ir.specs.Code.{Op, Tac, Tree, Path}
 use Rattle.tac_ir.specs.Code as O
@@ -37,8 +37,9 @@ use Rattle.tac_build.specs.Homes.{Home, Scope, register_home, is_pure}
 use Rattle.tac_build.specs.Spots.{Spot, behind, with_temporary, temporary, Lowered, AsInteger, Mode, Kept, Dropped, Behind, Row, is_used}
 use Rattle.tac_build.specs.Code as Code
 use Rattle.tac_build.specs.Code.{HasOp, Stores, AssignCode, CompoundCode, SteppingCode, compound_tree, gives_old, ValueCode, ObjectCode}
+use Rattle.tac_build.specs.Forms.{context_of}
 use Rattle.tac_simulation.specs.Comparing.{ticks_per_unit}
-use Rattle.tac_simulation.specs.Standing.{Placement, Frame, At, ScalarStands, context_of, LoweredStands}
+use Rattle.tac_simulation.specs.Standing.{Placement, Frame, At, ScalarStands, LoweredStands}
 use Rattle.tac_simulation.proofs.Paths.{Stand, Passage as Passing, Does, comes, eased}
 use Rattle.tac_simulation.proofs.Spotting.{Runs, kept_write, written_there, with_written}
 use Rattle.tac_simulation.proofs.Evaluating.{ValueDoes, FindDoes, AtSpot, ComesToValue, value_units, object_units, laid_by, Stood, stood}
@@ -132,7 +133,7 @@ module _ (tac : Tac) (program : Program) (calls : Calls) (worth : ℕ) (points :
 
   pub steps_own : (taken : Bool) (stepping : Stepping) (place : Pos) (int_type : IntType) (object : Object) → (home : Home) → register_home scope object ≡ Some home
       → (mode : Mode) (from to : Spot) (lowered : Lowered) (t : CType) → OwnStepCode taken mode stepping int_type home from to lowered
-      → type_of around (T.StepInteger stepping place int_type object) ≡ Some t → has_small program.structs (T.StepInteger stepping place int_type object) ≡ true
+      → type_of around (T.StepInteger stepping place int_type object) ≡ Some t → makes (is_storable program.structs) (T.StepInteger stepping place int_type object) ≡ true
       → (start : State) (n lag slack : ℕ) (s : S.State) (state : State) → Passing tac worth start state n s.units lag slack → AtSpot tac program calls worth points placement hidden frame scope from.at s state
       → Does tac worth start n (lag + value_units (T.StepInteger stepping place int_type object)) (slack + (laid_by lowered + 6))
       (ComesToValue tac program calls worth points placement hidden frame scope mode from to lowered state.running.registers) (value (around_of program) calls (T.StepInteger stepping place int_type object) s)

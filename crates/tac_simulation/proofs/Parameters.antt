@@ -1,5 +1,5 @@
 -- All parameters of a function begin to live with its arguments.
-use Rattle.std.proofs.Common.{◌≡◌, ℕ, suc, ◌+◌, ◌≤◌, ◌⊎◌, true, List, [], ◌∷◌, ◌++◌, append_assoc, length-append, Option, Some, inl, inr, refl, sym, ap, ◌∙◌, subst, arith}
+use Rattle.std.proofs.Common.{◌≡◌, ℕ, suc, ◌+◌, ◌≤◌, true, List, [], ◌∷◌, ◌++◌, append_assoc, length-append, Option, Some, inl, refl, sym, ap, ◌∙◌, subst, arith}
 use Rattle.std.proofs.lemmas.Bool.{and_parts}
 use Rattle.c_typed.specs.Types.{CType}
 use Rattle.c_typed.specs.Typed.{Block, Program}
@@ -13,17 +13,16 @@ use Rattle.ref_semantics.specs.Meaning.{Calls, Completion, Normal, bind, stored_
 use Rattle.ref_semantics.specs.First.{around_of}
 use Rattle.ref_typing.specs.Sound.{WasGiven, HaveTypes, Later}
 use Rattle.ref_typing.proofs.Lasting.{types_last}
-use Rattle.tac_ir.specs.declared.register.Local.{Local}
 use Rattle.tac_ir.specs.declared.register.Local.TheVariants as L
 use Rattle.tac_ir.specs.declared.register.Register.TheVariants as R
 use Rattle.tac_ir.specs.Code.{Op, Tac}
-use Rattle.tac_ir.specs.Values.{OfActivation}
 use Rattle.tac_ir.specs.Trees.{Registers}
 use Rattle.tac_ir.specs.States.{State}
 use Rattle.tac_build.specs.Homes.{Home, Scope, takes_block}
 use Rattle.tac_build.specs.Spots.{Spot}
 use Rattle.tac_build.specs.ProgramCode.{parameter_home, ParametersCode}
-use Rattle.tac_simulation.specs.Standing.{Placement, Frame, image, HoldsFor, types_of}
+use Rattle.tac_build.specs.Forms.{scope_types}
+use Rattle.tac_simulation.specs.Standing.{Placement, Frame, image, HoldsFor}
 use Rattle.tac_simulation.proofs.Given.{typed_given, held_given}
 use Rattle.tac_simulation.proofs.Lasting.{lives_later}
 use Rattle.tac_simulation.proofs.Paths.{Passage as Passing, Does, comes, allows, slower}
@@ -31,6 +30,7 @@ use Rattle.tac_simulation.proofs.Spotting.{Runs}
 use Rattle.tac_simulation.proofs.Evaluating.{AtSpot}
 use Rattle.tac_simulation.proofs.Assigned.{then_does}
 use Rattle.tac_simulation.proofs.Executing.{HaveObjects, Extends, Begun}
+use Rattle.tac_simulation.proofs.Beginnings.{extends_then}
 use Rattle.tac_simulation.proofs.Opening.{opened, placed_with, home_object}
 use Rattle.tac_simulation.proofs.Newly.{images_given, begun_extends}
 use Rattle.tac_simulation.proofs.Parametric.{parameters_of, home_own, all_before, AreBefore, before_next, parameter_apart, ArgumentsStand, argument_ticks, parameter_bound}
@@ -41,15 +41,6 @@ arguments_ticks [] = 0
 arguments_ticks (first ∷ others) = argument_ticks first + arguments_ticks others
 
 module _ (tac : Tac) (program : Program) (calls : Calls) (worth : ℕ) (points : List Op) (hidden : ℕ → Option V.Content) (frame : Frame) (runs : Runs tac program points frame) (well : IsWellTyped program) where
-  extends_then : (count later : ℕ) (first second third : Placement) → count ≤ later → Extends frame count first second → Extends frame later second third → Extends frame count first third
-  extends_then count later first second third less one other number = by (other number) (one number)
-    where
-      by : ((third number ≡ second number) ⊎ ((later ≤ number) × ((local : Local) × (third number ≡ Some (OfActivation frame.number local))))) → ((second number ≡ first number) ⊎ ((count ≤ number) × ((local : Local) × (second number ≡ Some (OfActivation frame.number local)))))
-          → (third number ≡ first number) ⊎ ((count ≤ number) × ((local : Local) × (third number ≡ Some (OfActivation frame.number local))))
-      by (inl same) (inl same') = inl (same ∙ same')
-      by (inl same) (inr new) = inr (new.0, (new.1.0, same ∙ new.1.1))
-      by (inr new) old = let least = new.0 in inr (omega (arith, least, less), new.1)
-
   begun_then : (count : ℕ) (outer : List ℕ) (placement placed : Placement) (home : Home) (scope inner : Scope) (at : ℕ) (newest : ℕ) (s1 s2 : S.State) (t2 : State) (way : Completion) → Extends frame count placement placed → s1.locals ≡ newest ∷ outer → count ≤ s1.next_local
       → Begun tac program calls worth points hidden frame s1.next_local s1.locals placed (home ∷ scope) inner at way s2 t2
       → Begun tac program calls worth points hidden frame count outer placement scope inner at way s2 t2
@@ -57,7 +48,7 @@ module _ (tac : Tac) (program : Program) (calls : Calls) (worth : ℕ) (points :
     placed = g.placed;
     more = g.more ++ home ∷ [];
     fresh = g.fresh ++ newest ∷ [];
-    extends = extends_then count s1.next_local placement placed g.placed newer extends g.extends;
+    extends = extends_then frame count s1.next_local placement placed g.placed newer extends g.extends;
     own = g.own ∙ ap (λ locals. g.fresh ++ locals) own ∙ sym (append_assoc g.fresh (newest ∷ []) outer);
     depth = let first = length-append g.fresh (newest ∷ []) in let second = length-append g.more (home ∷ []) in let third = g.depth in omega (arith, first, second, third);
     inner_is = g.inner_is ∙ sym (append_assoc g.more (home ∷ []) scope);
@@ -109,6 +100,6 @@ module _ (tac : Tac) (program : Program) (calls : Calls) (worth : ℕ) (points :
       allows (parameters_bound body result types given (suc number) placed (home ∷ scope) code.0 to inner code.2 parts.1 have ((number, refl, omega arith), before_next number scope before) s1 t1 start n lag slack one.there
       (types_last program one.later (parameters_of (function_of result types)) given typed.1)
       (arguments_last s s1 placement placed t.running.registers t1.running.registers result types given (suc number) parts.1 typed.1 one.registers_are one.later
-      (images_given program placement (types_of scope) s h.sound c_type (home_object frame.number home)) stand.1) p1)
+      (images_given program placement (scope_types scope) s h.sound c_type (home_object frame.number home)) stand.1) p1)
       (λ way' s2 t2 g. begun_then s.next_local s.locals placement placed home scope inner to.at s.next_local s1 s2 t2 way'
       (begun_extends program placement hidden frame scope home from.at s t own apart h.sound h.stands) one.locals one.later.next_local g))

@@ -1,10 +1,7 @@
 -- Parameters begin to live with the arguments: one in a register holds it already, and one in memory is stored there by a point.
 use Rattle.std.proofs.Common.{◌≡◌, if◌then◌else◌, ℕ, suc, ◌+◌, ◌<◌, Bool, true, false, List, [], ◌∷◌, ◌++◌, append-nil, Option, Some, None, inl, refl, sym, ap, ◌∙◌, subst, arith}
-use Rattle.std.proofs.lemmas.Bool.{false≢true, ltb-true}
-use Rattle.c_num.specs.declared.IntType.TheVariants as I
+use Rattle.std.proofs.lemmas.Bool.{false≢true}
 use Rattle.c_typed.specs.Types.{CType, CTypes, NoTypes, Void, Integer, Pointer, Array, Struct, Function}
-use Rattle.c_typed.specs.Layouts.{is_complete, greatest}
-use Rattle.ref_typing.specs.Rows.{IsSmall}
 use Rattle.c_typed.specs.Typed.{Block, Program}
 use Rattle.c_well_typed.specs.Expressions.{is_scalar}
 use Rattle.c_well_typed.specs.Programs.{IsWellTyped}
@@ -16,6 +13,8 @@ use Rattle.ref_semantics.specs.Meaning.{Calls, Completion, Normal, stored_first}
 use Rattle.ref_semantics.specs.First.{around_of}
 use Rattle.ref_typing.specs.Sound.{HasType, AreLocals, Later}
 use Rattle.ref_typing.proofs.Lasting.{type_lasts, later_trans}
+use Rattle.ref_typing.proofs.Storable.{scalar_storable}
+use Rattle.ref_typing.proofs.ProgramsKeep.{scalar_complete}
 use Rattle.ref_typing.proofs.Storing.{Begins, new_local_keeps, write_keeps}
 use Rattle.tac_ir.specs.declared.register.Local.{Local}
 use Rattle.tac_ir.specs.declared.register.Local.TheVariants as L
@@ -33,7 +32,8 @@ use Rattle.tac_build.specs.Homes.{Home, Scope, takes_block}
 use Rattle.tac_build.specs.Spots.{Spot}
 use Rattle.tac_build.specs.Code.{path_from}
 use Rattle.tac_build.specs.ProgramCode.{parameter_home, stored_argument, ParameterCode, ParametersCode}
-use Rattle.tac_simulation.specs.Standing.{Placement, Frame, At, ScalarStands, HoldsFor, IsApart, HomesStand, PathStands, types_of, surroundings}
+use Rattle.tac_build.specs.Forms.{scope_types}
+use Rattle.tac_simulation.specs.Standing.{Placement, Frame, At, ScalarStands, HoldsFor, IsApart, HomesStand, PathStands, surroundings}
 use Rattle.tac_simulation.proofs.Given.{typed_given, given_lasts}
 use Rattle.tac_simulation.proofs.Memory.{same_local-true}
 use Rattle.tac_simulation.proofs.Paths.{Passage as Passing, Does, comes, slower}
@@ -52,29 +52,6 @@ use Rattle.tac_simulation.proofs.Newly.{new_place, got_content, lives_given, ima
 abbrev pub parameters_of : CType → CTypes
 parameters_of (Function result parameters) = parameters
 parameters_of _ = NoTypes
-
-scalar_complete : (program : Program) (t : CType) → is_scalar t ≡ true → is_complete program.structs t ≡ true
-scalar_complete program Void h = absurd (false≢true h)
-scalar_complete program (Integer t) h = refl
-scalar_complete program (Pointer t) h = refl
-scalar_complete program (Array t n) h = absurd (false≢true h)
-scalar_complete program (Struct tag) h = absurd (false≢true h)
-scalar_complete program (Function t ts) h = absurd (false≢true h)
-
-scalar_small : (program : Program) (t : CType) → is_scalar t ≡ true → IsSmall program.structs t
-scalar_small program Void h = absurd (false≢true h)
-scalar_small program (Integer I.Char) h = ltb-true 1 greatest refl
-scalar_small program (Integer I.UChar) h = ltb-true 1 greatest refl
-scalar_small program (Integer I.Short) h = ltb-true 2 greatest refl
-scalar_small program (Integer I.UShort) h = ltb-true 2 greatest refl
-scalar_small program (Integer I.Int) h = ltb-true 4 greatest refl
-scalar_small program (Integer I.UInt) h = ltb-true 4 greatest refl
-scalar_small program (Integer I.Long) h = ltb-true 8 greatest refl
-scalar_small program (Integer I.ULong) h = ltb-true 8 greatest refl
-scalar_small program (Pointer t) h = ltb-true 8 greatest refl
-scalar_small program (Array t n) h = absurd (false≢true h)
-scalar_small program (Struct tag) h = absurd (false≢true h)
-scalar_small program (Function t ts) h = absurd (false≢true h)
 
 -- ---- what the code has
 
@@ -121,7 +98,7 @@ before_next number (home ∷ scope) before = let less = before.0.2 in ((before.0
 same_parameter : {a b : ℕ} → L.Parameter a ≡ L.Parameter b → a ≡ b
 same_parameter e = cc
 
-pub parameter_apart : (number : ℕ) (s : S.State) (scope : Scope) (locals : List ℕ) → AreBefore number scope → AreLocals s locals (types_of scope) → IsApart (L.Parameter number) s.next_local scope locals
+pub parameter_apart : (number : ℕ) (s : S.State) (scope : Scope) (locals : List ℕ) → AreBefore number scope → AreLocals s locals (scope_types scope) → IsApart (L.Parameter number) s.next_local scope locals
 parameter_apart number s [] locals before are = tt
 parameter_apart number s (home ∷ scope) [] before are = tt
 parameter_apart number s (home ∷ scope) (older ∷ others) before are =
@@ -194,8 +171,8 @@ module _ (tac : Tac) (program : Program) (calls : Calls) (worth : ℕ) (points :
     apart : IsApart (L.Parameter number) s.next_local scope s.locals
     apart = parameter_apart number s scope s.locals before h.sound.locals
 
-    begins : Begins program (types_of scope) s c_type (opened c_type s) (object_place (LocalObject s.next_local) c_type)
-    begins = (new_local_keeps program well (types_of scope) s h.sound c_type (scalar_complete program c_type is) (scalar_small program c_type is)).leads (object_place (LocalObject s.next_local) c_type) (opened c_type s) refl
+    begins : Begins program (scope_types scope) s c_type (opened c_type s) (object_place (LocalObject s.next_local) c_type)
+    begins = (new_local_keeps program well (scope_types scope) s h.sound c_type (scalar_complete program c_type is) (scalar_storable program.structs c_type is)).leads (object_place (LocalObject s.next_local) c_type) (opened c_type s) refl
 
     at_new : At program placed hidden frame (home ∷ scope) from.at (opened c_type s) t
     at_new = at_begun program placement hidden frame scope home from.at s t own apart h.sound h.stands
@@ -203,7 +180,7 @@ module _ (tac : Tac) (program : Program) (calls : Calls) (worth : ℕ) (points :
     stands_new : ScalarStands program (opened c_type s).objects placed scalar holds.0
     stands_new =
         given_lasts program s placement placed (opened c_type s).objects
-        (lives_given program placement (types_of scope) s h.sound c_type (home_object frame.number home)) (images_given program placement (types_of scope) s h.sound c_type (home_object frame.number home))
+        (lives_given program placement (scope_types scope) s h.sound c_type (home_object frame.number home)) (images_given program placement (scope_types scope) s h.sound c_type (home_object frame.number home))
         scalar holds.0 (typed_given program s c_type scalar is typed) holds.2
 
     typed_new : HasType program (opened c_type s) c_type scalar
@@ -215,7 +192,7 @@ module _ (tac : Tac) (program : Program) (calls : Calls) (worth : ℕ) (points :
         let is_home : IsHome (home ∷ scope) (s.next_local ∷ s.locals) home s.next_local = inl (refl, refl) in
         let written = at_local_written tac program points placed hidden frame (home ∷ scope) runs from.at home s.next_local scalar holds.0 (opened c_type s) t register is_home stands_new at_new in
         let writes = local_write program (record { line = 1; column = 1 }) home s.next_local (λ offset. None) scalar (opened c_type s) (got_content (LocalObject s.next_local) (V.Elements false c_type 1 (λ offset. None)) s.objects) in
-        let keeps = (write_keeps program well (types_of (home ∷ scope)) (opened c_type s) begins.sound (record { line = 1; column = 1 }) c_type (object_place (LocalObject s.next_local) c_type) scalar is begins.is_element typed_new).gives
+        let keeps = (write_keeps program well (scope_types (home ∷ scope)) (opened c_type s) begins.sound (record { line = 1; column = 1 }) c_type (object_place (LocalObject s.next_local) c_type) scalar is begins.is_element typed_new).gives
         scalar (local_holds s.next_local scalar (opened c_type s)) writes in
         subst (λ outcome. Does tac worth first n lag slack (Entered placed (home ∷ scope) mid.at s t.running.registers) (continue_with (λ b. give Normal) outcome)) (sym writes)
         (comes Normal (local_holds s.next_local scalar (opened c_type s)) t (slower slack p (omega arith)) (record {

@@ -11,7 +11,7 @@ use Rattle.c_well_typed.specs.Context.{with_local}
 use Rattle.c_well_typed.specs.Expressions.{type_of}
 use Rattle.c_well_typed.specs.Statements.{Within, is_condition, is_local, is_stmt, is_block}
 use Rattle.c_well_typed.specs.Programs.{IsWellTyped}
-use Rattle.c_well_typed.specs.Sizes.{has_small, local_has_small, stmt_has_small, block_has_small}
+use Rattle.c_well_typed.specs.Sizes.{makes, local_makes, stmt_makes, block_makes, is_storable}
 use Rattle.ref_semantics.specs.Values as V
 use Rattle.ref_semantics.specs.Values.{Scalar, IntegerValue}
 use Rattle.ref_semantics.specs.Store as S
@@ -33,12 +33,12 @@ use Rattle.tac_build.specs.Homes.{Home, Scope}
 use Rattle.tac_build.specs.Spots.{Spot, behind, AsInteger, Kept, Dropped}
 use Rattle.tac_build.specs.Code.{HasOp}
 use Rattle.tac_build.specs.StatementCode.{Ways, BranchCode}
-use Rattle.tac_simulation.specs.Standing as Standing
-use Rattle.tac_simulation.specs.Standing.{Placement, Frame, At, context_of, surroundings}
+use Rattle.tac_build.specs.Forms.{scope_types, context_of}
+use Rattle.tac_simulation.specs.Standing.{Placement, Frame, At, surroundings}
 use Rattle.tac_simulation.proofs.Paths.{Stand, Passage as Passing, Passes, Does, comes, stops, start, stepped, eased, eases, along, allows, bind, chosen}
 use Rattle.tac_simulation.proofs.Spotting.{Runs, before_at, around_is}
 use Rattle.tac_simulation.proofs.Evaluating.{ValueDoes, value_units}
-use Rattle.tac_simulation.proofs.Forms.{value_form}
+use Rattle.tac_build.proofs.Forms.{value_form}
 use Rattle.tac_simulation.proofs.Combining.{ticked, then_value}
 use Rattle.tac_simulation.proofs.Constants.{left_most}
 use Rattle.tac_simulation.proofs.Going.{gone, at_gone, jumps}
@@ -77,7 +77,7 @@ module _ (tac : Tac) (program : Program) (calls : Calls) (worth : ℕ) (points :
 
   -- A condition is evaluated, and the code branches. The branch isn't yet passed, since in a loop it pays for the turn.
   pub conditions : {B : Type 0} {Stands : Stand B} {begin : State} {n lag lag' slack slack' : ℕ} (first second : Eval B) (condition : Value) (placement : Placement) (scope : Scope) (from to : Spot) (holds fails : ℕ)
-      → BranchCode program points scope condition from to holds fails → is_condition (context_of program scope) condition ≡ true → has_small program.structs condition ≡ true
+      → BranchCode program points scope condition from to holds fails → is_condition (context_of program scope) condition ≡ true → makes (is_storable program.structs) condition ≡ true
       → (s : S.State) (state : State) → Passing tac worth begin state n s.units lag slack → Stays placement scope from.at s state → lag + value_units condition ≤ lag'
       → ((s' : S.State) (op : Op) (mid state' : State) → Passing tac worth begin mid n s'.units (lag + value_units condition) (slack + 3 + more_cost op) → Passes tac op mid state' → Stays placement scope holds s' state'
       → Keeps (context_of program scope) s s' → Does tac worth begin n lag' slack' Stands (first s'))
@@ -132,7 +132,7 @@ module _ (tac : Tac) (program : Program) (calls : Calls) (worth : ℕ) (points :
   pub ifs : (condition : Value) (taken : Stmt) → Executed taken → Executed (T.If condition taken)
   ifs condition taken does within placement scope from to ways code typed small numbered objects enough s state at =
       let parts = and_parts (is_condition (context_of program scope) condition) (is_stmt (context_of program scope) within taken) typed in
-      let sizes = and_parts (has_small program.structs condition) (stmt_has_small program.structs taken) small in
+      let sizes = and_parts (makes (is_storable program.structs) condition) (stmt_makes (is_storable program.structs) taken) small in
       let front = branch_widens program points scope condition from code.0 code.0.at to.at code.1 in
       ticked tac program calls worth points placement hidden frame scope runs well keep
       (value (around_of program) calls condition >>= λ c. if is_true c then Meaning.stmt (around_of program) calls taken else give Normal) from.at s state (start state s.units) at (omega arith) (λ left p at'.
@@ -146,8 +146,8 @@ module _ (tac : Tac) (program : Program) (calls : Calls) (worth : ℕ) (points :
   if_elses condition taken otherwise does does' within placement scope from to ways code typed small numbered objects enough s state at =
       let parts = and_parts (is_condition (context_of program scope) condition && is_stmt (context_of program scope) within taken) (is_stmt (context_of program scope) within otherwise) typed in
       let parts' = and_parts (is_condition (context_of program scope) condition) (is_stmt (context_of program scope) within taken) parts.0 in
-      let sizes = and_parts (has_small program.structs condition && stmt_has_small program.structs taken) (stmt_has_small program.structs otherwise) small in
-      let sizes' = and_parts (has_small program.structs condition) (stmt_has_small program.structs taken) sizes.0 in
+      let sizes = and_parts (makes (is_storable program.structs) condition && stmt_makes (is_storable program.structs) taken) (stmt_makes (is_storable program.structs) otherwise) small in
+      let sizes' = and_parts (makes (is_storable program.structs) condition) (stmt_makes (is_storable program.structs) taken) sizes.0 in
       let front = branch_widens program points scope condition from code.0 code.0.at (suc code.1.at) code.2 in
       let middle = stmt_widens program points taken scope code.0 code.1 ways code.3 in
       let last = stmt_widens program points otherwise scope (behind code.1) to ways code.5 in
@@ -233,11 +233,11 @@ module _ (tac : Tac) (program : Program) (calls : Calls) (worth : ℕ) (points :
   pub performs : (one : Stmt) (others : Block) → Executed one → ExecutedBlock others → ExecutedBlock (T.Perform one others)
   performs one others does does' within placement scope from to ways code typed small numbered objects enough s state at =
       let parts = and_parts (is_stmt (context_of program scope) within one) (is_block (context_of program scope) within others) typed in
-      let sizes = and_parts (stmt_has_small program.structs one) (block_has_small program.structs others) small in
+      let sizes = and_parts (stmt_makes (is_storable program.structs) one) (block_makes (is_storable program.structs) others) small in
       let front = stmt_widens program points one scope from code.0 ways code.1 in
       let last = block_widens program points others scope code.0 to ways code.2 in
       then_items placement scope code.0.at to.at ways (Meaning.block (around_of program) calls others) s (Meaning.stmt (around_of program) calls one s)
-      (λ way s1 e. (stmt_keeps program well calls keep (Standing.types_of scope) within one parts.0 sizes.0 s at.sound way s1 e).0)
+      (λ way s1 e. (stmt_keeps program well calls keep (scope_types scope) within one parts.0 sizes.0 s at.sound way s1 e).0)
       (does within placement scope from code.0 ways code.1 parts.0 sizes.0 numbered (objects_before frame.objects last objects) (omega arith) s state at) (omega arith) (λ s1 state1 p leaves.
       eases (along p (does' within placement scope code.0 to ways code.2 parts.1 sizes.1 (numbers_later from.counts code.0.counts front.variables scope numbered) objects (omega arith) s1 state1 leaves)) (omega arith) (omega arith))
 
@@ -265,7 +265,7 @@ module _ (tac : Tac) (program : Program) (calls : Calls) (worth : ℕ) (points :
   pub declarations : (local : LocalDef) (others : Block) → Executing.Declares tac program calls worth points hidden frame local → ExecutedBlock others → ExecutedBlock (T.Declare local others)
   declarations local others declares does within placement scope from to ways code typed small numbered objects enough s state at =
       let parts = and_parts (is_local (context_of program scope) local) (is_block (with_local local.c_type (context_of program scope)) within others) typed in
-      let sizes = and_parts (local_has_small program.structs local) (block_has_small program.structs others) small in
+      let sizes = and_parts (local_makes (is_storable program.structs) local) (block_makes (is_storable program.structs) others) small in
       let front = local_widens program points scope local _ from code.0 code.1 code.2 in
       let last = block_widens program points others (code.1 ∷ scope) code.0 to ways code.3 in
       let inside = subst (λ (c : CType). is_block (with_local c (context_of program scope)) within others ≡ true) (sym (ap (λ (h : Home). h.c_type) code.2.0)) parts.1 in

@@ -10,7 +10,7 @@ use Rattle.c_typed.specs.Typed.{Value, Object, Program}
 use Rattle.c_well_typed.specs.Context.{Context}
 use Rattle.c_well_typed.specs.Expressions.{is_pointer_to_complete, type_of, type_of_object}
 use Rattle.c_well_typed.specs.Programs.{IsWellTyped}
-use Rattle.c_well_typed.specs.Sizes.{has_small, object_has_small}
+use Rattle.c_well_typed.specs.Sizes.{makes, object_makes, is_storable}
 use Rattle.ref_semantics.specs.Values as V
 use Rattle.ref_semantics.specs.Values.{Place, Scalar, IntegerValue, LocalObject, object_place, integer_of}
 use Rattle.ref_semantics.specs.Store as S
@@ -19,7 +19,7 @@ use Rattle.ref_semantics.specs.Pointers.{read, write, added}
 use Rattle.ref_semantics.specs.Meaning.{Calls, value, find, step_amount, step_result}
 use Rattle.ref_semantics.specs.First.{around_of}
 use Rattle.ref_typing.specs.Keeping.{CallsKeep, IsElement}
-use Rattle.ref_typing.proofs.Splitting.{first_parts, same_parts, to_complete}
+use Rattle.c_well_typed.proofs.Splitting.{first_parts, same_parts, to_complete}
 use Rattle.ref_typing.proofs.Lasting.{element_lasts}
 use Rattle.tac_ir.specs.Code.{Op, Tac, Tree, Path}
 use Rattle.tac_ir.specs.Code as O
@@ -28,8 +28,8 @@ use Rattle.tac_ir.specs.States.{State}
 use Rattle.tac_build.specs.Homes.{Home, Scope, register_home, is_pure}
 use Rattle.tac_build.specs.Spots.{Spot, Lowered, AsInteger, AsObject, Mode, Kept}
 use Rattle.tac_build.specs.Code.{PointerCode, OneCode, is_up, gives_old, ValueCode, ObjectCode}
-use Rattle.tac_simulation.specs.Forms.{TreeNamed, PathNamed}
-use Rattle.tac_simulation.specs.Standing.{Placement, Frame, KeepsBefore, At, context_of, LoweredStands}
+use Rattle.tac_build.specs.Forms.{context_of, TreeNamed, PathNamed}
+use Rattle.tac_simulation.specs.Standing.{Placement, Frame, KeepsBefore, At, LoweredStands}
 use Rattle.tac_simulation.proofs.Paths.{Passage as Passing, Does, comes, eased}
 use Rattle.tac_simulation.proofs.Spotting.{Runs}
 use Rattle.tac_simulation.proofs.Evaluating.{ValueDoes, FindDoes, AtSpot, ComesToValue, value_units, laid_by, left_for, stood}
@@ -38,7 +38,7 @@ use Rattle.tac_simulation.proofs.Constants.{left_most}
 use Rattle.tac_simulation.proofs.Named.{value_named, object_named}
 use Rattle.tac_simulation.proofs.Naming.{lowered_later}
 use Rattle.tac_simulation.proofs.Unchanged.{keeps_fewer, keeps_then}
-use Rattle.tac_simulation.proofs.Forms.{object_form}
+use Rattle.tac_build.proofs.Forms.{object_form}
 use Rattle.tac_simulation.proofs.Resting.{ValueRests}
 use Rattle.tac_simulation.proofs.Finding.{then_find}
 use Rattle.tac_simulation.proofs.Assigning.{IsHome}
@@ -59,7 +59,7 @@ module _ (tac : Tac) (program : Program) (calls : Calls) (worth : ℕ) (points :
   pub moves_local : (is_minus : Bool) (place : Pos) (object : Object) (operand : Value) → Follows operand → (home : Home) → register_home scope object ≡ Some home
       → (mode : Mode) (from to : Spot) (old lowered : Lowered) (t : CType) → PointerCode points (Some home) (ObjectCode program points scope false (not (is_pure scope operand)) object) is_minus (ValueCode program points scope Kept operand) from to old lowered
       → laid_by lowered ≤ 2
-      → type_of around (T.AssignMoved is_minus place object operand) ≡ Some t → has_small program.structs (T.AssignMoved is_minus place object operand) ≡ true
+      → type_of around (T.AssignMoved is_minus place object operand) ≡ Some t → makes (is_storable program.structs) (T.AssignMoved is_minus place object operand) ≡ true
       → (start : State) (n lag slack : ℕ) (s : S.State) (state : State) → Passing tac worth start state n s.units lag slack → AtSpot tac program calls worth points placement hidden frame scope from.at s state
       → Does tac worth start n (lag + value_units (T.AssignMoved is_minus place object operand)) (slack + (laid_by lowered + 6))
       (ComesToValue tac program calls worth points placement hidden frame scope mode from to lowered state.running.registers) (value (around_of program) calls (T.AssignMoved is_minus place object operand) s)
@@ -67,7 +67,7 @@ module _ (tac : Tac) (program : Program) (calls : Calls) (worth : ℕ) (points :
       let parts = first_parts (type_of_object around object) (type_of around operand) (λ a b. is_pointer_to_complete program.structs a && is_integer b) t typed in
       let tests = and_parts (is_pointer_to_complete program.structs t) (is_integer parts.b) parts.holds in
       let target = to_complete program.structs t tests.0 in
-      let sizes = and_parts (object_has_small program.structs object) (has_small program.structs operand) small in
+      let sizes = and_parts (object_makes (is_storable program.structs) object) (makes (is_storable program.structs) operand) small in
       let some : 3 ≤ left_for operand = left_most operand in
       ticked tac program calls worth points placement hidden frame scope runs well keep
       (find (around_of program) calls object >>= λ q. value (around_of program) calls operand >>= λ b. read (around_of program) place q >>= λ a. added place a (if is_minus then neg_ℤ (integer_of b) else integer_of b) >>= λ c. write (around_of program) place q c)
@@ -92,7 +92,7 @@ module _ (tac : Tac) (program : Program) (calls : Calls) (worth : ℕ) (points :
   pub moves_object : (is_minus : Bool) (place : Pos) (object : Object) (operand : Value) → FindDoes tac program calls worth points placement hidden frame scope object → Follows operand → ValueRests tac program calls worth points placement hidden frame scope runs well keep operand
       → (mode : Mode) (from to : Spot) (old lowered : Lowered) (t : CType) → PointerCode points None (ObjectCode program points scope false (not (is_pure scope operand)) object) is_minus (ValueCode program points scope Kept operand) from to old lowered
       → laid_by lowered ≤ 2
-      → type_of around (T.AssignMoved is_minus place object operand) ≡ Some t → has_small program.structs (T.AssignMoved is_minus place object operand) ≡ true
+      → type_of around (T.AssignMoved is_minus place object operand) ≡ Some t → makes (is_storable program.structs) (T.AssignMoved is_minus place object operand) ≡ true
       → (start : State) (n lag slack : ℕ) (s : S.State) (state : State) → Passing tac worth start state n s.units lag slack → AtSpot tac program calls worth points placement hidden frame scope from.at s state
       → Does tac worth start n (lag + value_units (T.AssignMoved is_minus place object operand)) (slack + (laid_by lowered + 6))
       (ComesToValue tac program calls worth points placement hidden frame scope mode from to lowered state.running.registers) (value (around_of program) calls (T.AssignMoved is_minus place object operand) s)
@@ -100,7 +100,7 @@ module _ (tac : Tac) (program : Program) (calls : Calls) (worth : ℕ) (points :
       let parts = first_parts (type_of_object around object) (type_of around operand) (λ a b. is_pointer_to_complete program.structs a && is_integer b) t typed in
       let tests = and_parts (is_pointer_to_complete program.structs t) (is_integer parts.b) parts.holds in
       let target = to_complete program.structs t tests.0 in
-      let sizes = and_parts (object_has_small program.structs object) (has_small program.structs operand) small in
+      let sizes = and_parts (object_makes (is_storable program.structs) object) (makes (is_storable program.structs) operand) small in
       let followed = not (is_pure scope operand) in
       let some : 3 ≤ left_for operand = left_most operand in
       ticked tac program calls worth points placement hidden frame scope runs well keep
@@ -154,7 +154,7 @@ module _ (tac : Tac) (program : Program) (calls : Calls) (worth : ℕ) (points :
   pub steps_local : (stepping : Stepping) (place : Pos) (object : Object) → (home : Home) → register_home scope object ≡ Some home
       → (mode : Mode) (from to : Spot) (old new lowered : Lowered) (t : CType) → PointerCode points (Some home) (ObjectCode program points scope false false object) (not (is_up stepping)) (OneCode points) from to old new
       → lowered ≡ (if gives_old stepping then old else new)
-      → type_of around (T.StepPointer stepping place object) ≡ Some t → has_small program.structs (T.StepPointer stepping place object) ≡ true
+      → type_of around (T.StepPointer stepping place object) ≡ Some t → makes (is_storable program.structs) (T.StepPointer stepping place object) ≡ true
       → (start : State) (n lag slack : ℕ) (s : S.State) (state : State) → Passing tac worth start state n s.units lag slack → AtSpot tac program calls worth points placement hidden frame scope from.at s state
       → Does tac worth start n (lag + value_units (T.StepPointer stepping place object)) (slack + (laid_by lowered + 6))
       (ComesToValue tac program calls worth points placement hidden frame scope mode from to lowered state.running.registers) (value (around_of program) calls (T.StepPointer stepping place object) s)
@@ -184,7 +184,7 @@ module _ (tac : Tac) (program : Program) (calls : Calls) (worth : ℕ) (points :
   pub steps_object : (stepping : Stepping) (place : Pos) (object : Object) → FindDoes tac program calls worth points placement hidden frame scope object
       → (mode : Mode) (from to : Spot) (old new lowered : Lowered) (t : CType) → PointerCode points None (ObjectCode program points scope false false object) (not (is_up stepping)) (OneCode points) from to old new
       → lowered ≡ (if gives_old stepping then old else new)
-      → type_of around (T.StepPointer stepping place object) ≡ Some t → has_small program.structs (T.StepPointer stepping place object) ≡ true
+      → type_of around (T.StepPointer stepping place object) ≡ Some t → makes (is_storable program.structs) (T.StepPointer stepping place object) ≡ true
       → (start : State) (n lag slack : ℕ) (s : S.State) (state : State) → Passing tac worth start state n s.units lag slack → AtSpot tac program calls worth points placement hidden frame scope from.at s state
       → Does tac worth start n (lag + value_units (T.StepPointer stepping place object)) (slack + (laid_by lowered + 6))
       (ComesToValue tac program calls worth points placement hidden frame scope mode from to lowered state.running.registers) (value (around_of program) calls (T.StepPointer stepping place object) s)

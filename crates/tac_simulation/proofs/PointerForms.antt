@@ -10,7 +10,7 @@ use Rattle.c_typed.proofs.Same.{same_type-true}
 use Rattle.c_typed.specs.Typed as T
 use Rattle.c_typed.specs.Typed.{Value, Program}
 use Rattle.c_well_typed.specs.Expressions.{is_conversion, is_pointer_to_complete, are_comparable, repoints as is_repointed, given_two, moved, type_of}
-use Rattle.c_well_typed.specs.Sizes.{is_small, has_small}
+use Rattle.c_well_typed.specs.Sizes.{makes, is_storable}
 use Rattle.c_well_typed.specs.Programs.{IsWellTyped}
 use Rattle.ref_semantics.specs.Values as V
 use Rattle.ref_semantics.specs.Values.{Name, LocalObject, Scalar, IntegerValue, NullValue, integer_of}
@@ -21,7 +21,7 @@ use Rattle.ref_semantics.specs.Meaning.{Calls, value}
 use Rattle.ref_semantics.specs.First.{around_of}
 use Rattle.ref_typing.specs.Sound.{PointsTo, Sound}
 use Rattle.ref_typing.specs.Keeping.{CallsKeep}
-use Rattle.ref_typing.proofs.Splitting.{other_parts, first_parts, both_parts}
+use Rattle.c_well_typed.proofs.Splitting.{other_parts, first_parts, both_parts}
 use Rattle.tac_ir.specs.Code.{Op, Tac, Tree, Held}
 use Rattle.tac_ir.specs.Code as O
 use Rattle.tac_ir.specs.Values as M
@@ -37,8 +37,8 @@ use Rattle.tac_ir.proofs.Seen.{seen_crossed}
 use Rattle.tac_build.specs.Homes.{Scope}
 use Rattle.tac_build.specs.Spots.{Spot, behind, with_expression, expression, temporary, Lowered, AsInteger, AsPointer, Mode, Kept, Dropped}
 use Rattle.tac_build.specs.Code.{HasOp, ValueCode, MovedCode}
-use Rattle.tac_simulation.specs.Forms.{SpotGrows, Names}
-use Rattle.tac_simulation.specs.Standing.{Placement, Frame, ScalarStands, MemoryStands, LoweredStands, At, types_of, context_of, surroundings}
+use Rattle.tac_build.specs.Forms.{scope_types, context_of, SpotGrows, Names}
+use Rattle.tac_simulation.specs.Standing.{Placement, Frame, ScalarStands, MemoryStands, LoweredStands, At, surroundings}
 use Rattle.tac_simulation.proofs.Paths.{Passage as Passing, Passes, Does, comes, stepped}
 use Rattle.tac_simulation.proofs.Spotting.{Runs, kept_write, written_there, before_at, around_is}
 use Rattle.tac_simulation.proofs.Alive.{LivesBefore}
@@ -46,13 +46,12 @@ use Rattle.tac_simulation.proofs.Changing.{at_changed}
 use Rattle.tac_simulation.proofs.Repointing.{repointed_is}
 use Rattle.tac_simulation.proofs.Named.{gives_integer, value_named}
 use Rattle.tac_simulation.proofs.Naming.{grows_then}
-use Rattle.tac_simulation.proofs.Forms.{value_form}
+use Rattle.tac_build.proofs.Forms.{value_form}
 use Rattle.tac_simulation.proofs.Evaluating.{AtSpot, Came, ComesToValue, ValueDoes, value_units, laid_by, left_for, stood}
 use Rattle.tac_simulation.proofs.Combining.{ticked, then_value}
 use Rattle.tac_simulation.proofs.Unchanged.{keeps_fewer, keeps_then}
 use Rattle.tac_simulation.proofs.Tested.{tested_is}
-use Rattle.c_filled.specs.Filled.{are_filled}
-use Rattle.tac_simulation.proofs.Into.{HaveBytes}
+use Rattle.c_well_typed.specs.Sizes.{are_filled}
 use Rattle.tac_simulation.proofs.Equality.{ComparedBoth, equality_is}
 use Rattle.tac_simulation.proofs.InRow.{order_is, difference_is}
 use Rattle.tac_simulation.proofs.Guarding.{guarded_does, from_same, tested_guards, compared_guards, difference_guards, repointed_guards}
@@ -72,7 +71,7 @@ left_six tree is = ap (λ (b : Bool). if b then 3 else 6) is
 
 module _ (tac : Tac) (program : Program) (calls : Calls) (worth : ℕ) (points : List Op) (placement : Placement) (hidden : ℕ → Option V.Content) (frame : Frame) (scope : Scope)
     (runs : Runs tac program points frame) (well : IsWellTyped program) (keep : CallsKeep program calls)
-    (filled : are_filled program.structs ≡ true) (bytes : (at : ℕ) (s : S.State) (state : State) → At program placement hidden frame scope at s state → HaveBytes program s.objects) where
+    (filled : are_filled program.structs ≡ true) where
   abbrev moved_type : Value → Value → Option CType
   moved_type pointer number = given_two (type_of (context_of program scope) pointer) (type_of (context_of program scope) number) (moved program.structs)
 
@@ -133,7 +132,7 @@ module _ (tac : Tac) (program : Program) (calls : Calls) (worth : ℕ) (points :
   pub compares : (relation : Relation) (place : Pos) (left right : Value) → Follows left → Follows right → Follows (T.ComparePointers relation place left right)
   compares relation place left right follows follows' mode from to lowered t code typed small start n lag slack s state p at =
       let parts = both_parts (type_of (context_of program scope) left) (type_of (context_of program scope) right) (are_comparable relation) int t typed in
-      let sizes = and_parts (has_small program.structs left) (has_small program.structs right) small in
+      let sizes = and_parts (makes (is_storable program.structs) left) (makes (is_storable program.structs) right) small in
       let laid = ap laid_by code.8.2 in
       let grows = grows_then (value_named program points scope left Kept from code.0 (AsPointer code.2 code.4) code.6).grows (value_named program points scope right Kept code.0 code.1 (AsPointer code.3 code.5) code.7).grows in
       ticked tac program calls worth points placement hidden frame scope runs well keep
@@ -141,24 +140,24 @@ module _ (tac : Tac) (program : Program) (calls : Calls) (worth : ℕ) (points :
       then_pointers tac program calls worth points placement hidden frame scope runs well keep left right follows follows' (compared_pointers (around_of program) relation place)
       from code.0 code.1 code.2 code.3 code.4 code.5 parts.a parts.b code.6 code.7 parts.left parts.right sizes.0 sizes.1 (record s { units = units }) state p' at' (omega arith) (λ x y s' state' p'' came keeps has has'.
       guarded_does (compared_pointers (around_of program) relation place x y s') (compared_guards (around_of program) relation place x y s') (λ answer after e.
-      let is = compared_is s' state' keeps.sound (bytes code.1.at s' state' came.there) came.there.stands.memory code.4 code.5 x y has.held has'.held answer after (is_equality relation) refl has.typed has'.typed has.stands has'.stands e in
+      let is = compared_is s' state' keeps.sound came.there.stands.memory code.4 code.5 x y has.held has'.held answer after (is_equality relation) refl has.typed has'.typed has.stands has'.stands e in
       from_same answer s' after is.same
       (puts_integer tac program calls worth points placement hidden frame scope runs well keep (λ register. O.ComparePointers register relation code.2 code.3) I.Int (truth is.test) mode from code.1 to lowered state.running.registers
       answer s' state' p'' came.there came.kept grows code.8 (rw (has.holds, is.alive, has'.holds, is.alive', is.test_is) refl) is.answer_is (omega arith) (omega (arith, laid))))))
     where
-      compared_is : (s : S.State) (state : State) → Sound (context_of program scope) s → HaveBytes program s.objects → MemoryStands program placement s.objects state.objects → (target target' : CType) (x y : Scalar) (held held' : M.Value)
+      compared_is : (s : S.State) (state : State) → Sound (context_of program scope) s → MemoryStands program placement s.objects state.objects → (target target' : CType) (x y : Scalar) (held held' : M.Value)
           (answer : Scalar) (after : S.State) (b : Bool) → is_equality relation ≡ b → PointsTo program s target x → PointsTo program s target' y → ScalarStands program s.objects placement x held → ScalarStands program s.objects placement y held'
           → compared_pointers (around_of program) relation place x y s ≡ Then answer after → ComparedBoth (surroundings program frame) s after state.objects relation answer held held'
-      compared_is s state sound bytes memory target target' x y held held' answer after true is typed typed' stands stands' e =
-          equality_is program well filled placement (types_of scope) s sound bytes state.objects memory (surroundings program frame) refl relation place target target' x y held held' answer after is typed typed' stands stands' e
-      compared_is s state sound bytes memory target target' x y held held' answer after false is typed typed' stands stands' e =
-          order_is program well filled placement (types_of scope) s sound bytes state.objects memory (surroundings program frame) refl relation place target target' x y held held' answer after is typed typed' stands stands' e
+      compared_is s state sound memory target target' x y held held' answer after true is typed typed' stands stands' e =
+          equality_is program well filled placement (scope_types scope) s sound state.objects memory (surroundings program frame) refl relation place target target' x y held held' answer after is typed typed' stands stands' e
+      compared_is s state sound memory target target' x y held held' answer after false is typed typed' stands stands' e =
+          order_is program well filled placement (scope_types scope) s sound state.objects memory (surroundings program frame) refl relation place target target' x y held held' answer after is typed typed' stands stands' e
 
   pub differences : (place : Pos) (left right : Value) → Follows left → Follows right → Follows (T.PointerDifference place left right)
   differences place left right follows follows' mode from to lowered t code typed small start n lag slack s state p at =
       let parts = both_parts (type_of (context_of program scope) left) (type_of (context_of program scope) right) (λ a b. is_pointer_to_complete program.structs a && same_type a b) (Integer I.Long) t typed in
       let holds = and_parts (is_pointer_to_complete program.structs parts.a) (same_type parts.a parts.b) parts.holds in
-      let sizes = and_parts (has_small program.structs left) (has_small program.structs right) small in
+      let sizes = and_parts (makes (is_storable program.structs) left) (makes (is_storable program.structs) right) small in
       let laid = ap laid_by code.8.2 in
       let grows = grows_then (value_named program points scope left Kept from code.0 (AsPointer code.2 code.4) code.6).grows (value_named program points scope right Kept code.0 code.1 (AsPointer code.3 code.5) code.7).grows in
       let first : parts.a ≡ Pointer code.4 = value_form program points scope left Kept parts.a from code.0 (AsPointer code.2 code.4) parts.left code.6 in
@@ -170,7 +169,7 @@ module _ (tac : Tac) (program : Program) (calls : Calls) (worth : ℕ) (points :
       then_pointers tac program calls worth points placement hidden frame scope runs well keep left right follows follows' (difference place)
       from code.0 code.1 code.2 code.3 code.4 code.5 parts.a parts.b code.6 code.7 parts.left parts.right sizes.0 sizes.1 (record s { units = units }) state p' at' (omega arith) (λ x y s' state' p'' came keeps has has'.
       guarded_does (difference place x y s') (difference_guards place x y s') (λ answer after e.
-      let is = difference_is program well filled placement (types_of scope) s' keeps.sound (bytes code.1.at s' state' came.there) state'.objects came.there.stands.memory (surroundings program frame) refl place code.4 x y has.held has'.held
+      let is = difference_is program well filled placement (scope_types scope) s' keeps.sound state'.objects came.there.stands.memory (surroundings program frame) refl place code.4 x y has.held has'.held
       answer after complete has.typed (subst (λ u. PointsTo program s' u y) alike has'.typed) has.stands has'.stands e in
       from_same answer s' after is.1
       (puts_integer tac program calls worth points placement hidden frame scope runs well keep (λ register. O.Difference register code.4 code.2 code.3) I.Long is.0 mode from code.1 to lowered state.running.registers
@@ -178,14 +177,14 @@ module _ (tac : Tac) (program : Program) (calls : Calls) (worth : ℕ) (points :
 
   moved_form : (place : Pos) (is_minus : Bool) (amount : Scalar → ℤ) → ((z : ℤ) → (if is_minus then neg_ℤ z else z) ≡ amount (IntegerValue z)) → (pointer number : Value) → Follows pointer → Follows number
       → (mode : Mode) (from to : Spot) (lowered : Lowered) (t : CType) → MovedCode points is_minus (ValueCode program points scope Kept pointer) (ValueCode program points scope Kept number) from to lowered
-      → moved_type pointer number ≡ Some t → (has_small program.structs pointer && has_small program.structs number) ≡ true
+      → moved_type pointer number ≡ Some t → (makes (is_storable program.structs) pointer && makes (is_storable program.structs) number) ≡ true
       → (start : State) (n lag slack : ℕ) (s : S.State) (state : State) → Passing tac worth start state n s.units lag slack → AtSpot tac program calls worth points placement hidden frame scope from.at s state
       → Does tac worth start n (lag + (1 + value_units pointer + value_units number)) (slack + (laid_by lowered + 6)) (ComesToValue tac program calls worth points placement hidden frame scope mode from to lowered state.running.registers)
       (tick (value (around_of program) calls pointer >>= λ x. value (around_of program) calls number >>= λ y. added place x (amount y)) s)
   moved_form place is_minus amount amount_is pointer number follows follows' mode from to lowered t code typed small start n lag slack s state p at =
       let parts = first_parts (type_of (context_of program scope) pointer) (type_of (context_of program scope) number) (λ a b. is_pointer_to_complete program.structs a && is_integer b) t typed in
       let holds = and_parts (is_pointer_to_complete program.structs t) (is_integer parts.b) parts.holds in
-      let sizes = and_parts (has_small program.structs pointer) (has_small program.structs number) small in
+      let sizes = and_parts (makes (is_storable program.structs) pointer) (makes (is_storable program.structs) number) small in
       let laid = ap laid_by code.8.2 in
       let one = value_named program points scope pointer Kept from code.0 (AsPointer code.2 code.3) code.6 in
       let grows = grows_then one.grows (value_named program points scope number Kept code.0 code.1 (AsInteger code.4 code.5) code.7).grows in
@@ -199,7 +198,7 @@ module _ (tac : Tac) (program : Program) (calls : Calls) (worth : ℕ) (points :
       s1 state1 p2 (record { stands = came.there; sound = keeps.sound }) (omega arith) (λ y s2 state2 p3 came1 keeps1 has1.
       moves_pointer tac program calls worth points placement hidden frame scope runs well keep place is_minus code.2 code.3 code.5 came1.1.0 (amount y) mode from code.1 to lowered state.running.registers x s2 state2 p3
       (record { there = came1.0.there; kept = keeps_then from.counts state.running.registers state1.running.registers state2.running.registers came.kept (keeps_fewer state1.running.registers state2.running.registers one.grows came1.0.kept) })
-      keeps1.sound grows code.8 complete (pointer_lasts program placement (types_of scope) code.0.counts code.2 code.3 x s1 s2 state1 state2 keeps1 came1.0.kept one.named has) came1.1.2
+      keeps1.sound grows code.8 complete (pointer_lasts program placement (scope_types scope) code.0.counts code.2 code.3 x s1 s2 state1 state2 keeps1 came1.0.kept one.named has) came1.1.2
       (amount_is came1.1.0 ∙ ap amount (sym came1.1.1)) (omega arith) (omega (arith, laid)))))
 
   pub adds : (place : Pos) (pointer number : Value) → Follows pointer → Follows number → Follows (T.PointerPlus place pointer number)
@@ -214,7 +213,7 @@ module _ (tac : Tac) (program : Program) (calls : Calls) (worth : ℕ) (points :
   number_adds place number pointer follows follows' mode from to lowered t code typed small start n lag slack s state p at =
       let parts = first_parts (type_of (context_of program scope) pointer) (type_of (context_of program scope) number) (λ a b. is_pointer_to_complete program.structs a && is_integer b) t typed in
       let holds = and_parts (is_pointer_to_complete program.structs t) (is_integer parts.b) parts.holds in
-      let sizes = and_parts (has_small program.structs number) (has_small program.structs pointer) small in
+      let sizes = and_parts (makes (is_storable program.structs) number) (makes (is_storable program.structs) pointer) small in
       let laid = ap laid_by code.11.2 in
       let nodes = ap tree_nodes code.9.2 in
       let one = value_named program points scope number Kept from code.0 (AsInteger code.5 code.3) code.8 in
@@ -246,7 +245,7 @@ module _ (tac : Tac) (program : Program) (calls : Calls) (worth : ℕ) (points :
       let parts = other_parts (type_of (context_of program scope) operand) (λ u. is_repointed u target && not (is_conversion operand)) (Pointer target) t typed in
       let holds = and_parts (is_repointed parts.0 target) (not (is_conversion operand)) parts.2 in
       let six = left_six operand (not-true (is_conversion operand) holds.1) in
-      let sizes = and_parts (is_small program.structs target) (has_small program.structs operand) small in
+      let sizes = and_parts (is_storable program.structs target) (makes (is_storable program.structs) operand) small in
       let laid = ap laid_by code.4.2 in
       let grows = (value_named program points scope operand Kept from code.0 (AsPointer code.1 code.2) code.3).grows in
       let form : parts.0 ≡ Pointer code.2 = value_form program points scope operand Kept parts.0 from code.0 (AsPointer code.1 code.2) parts.1 code.3 in
@@ -254,7 +253,7 @@ module _ (tac : Tac) (program : Program) (calls : Calls) (worth : ℕ) (points :
       then_pointer tac program calls worth points placement hidden frame scope runs well keep operand follows (repointed (around_of program) place target) from code.0 code.1 code.2 parts.0 code.3 parts.1 sizes.1 s state p at (omega arith)
       (λ scalar s1 state1 p1 came keeps has.
       guarded_does (repointed (around_of program) place target scalar s1) (repointed_guards (around_of program) place target scalar s1) (λ answer after e.
-      let is = repointed_is program well placement (types_of scope) s1 keeps.sound state1 came.there.stands.memory (surroundings program frame) refl target (expression code.0) place code.2 scalar has.held answer after kind has.typed has.stands e in
+      let is = repointed_is program well placement (scope_types scope) s1 keeps.sound state1 came.there.stands.memory (surroundings program frame) refl target (expression code.0) place code.2 scalar has.held answer after kind has.typed has.stands e in
       from_same answer (record s1 { objects = after.objects }) after is.after_is
       (changes s1 after.objects state1 is.objects target has.held (O.Repoint (expression code.0) target code.1) mode from code.0 to lowered state.running.registers answer p1 came keeps.sound
       code.4.0 (rw (has.holds, is.alive) is.done) grows code.4.1 code.4.2 is.memory is.lives is.locals_are is.own_are is.value (omega arith) (omega (arith, six, laid)))))

@@ -31,8 +31,8 @@ use Rattle.tac_build.specs.Homes.{Home, Scope}
 use Rattle.tac_build.specs.Spots.{Spot, behind, with_expression, expression, Lowered, AsPointer, AsObject, Mode, Kept}
 use Rattle.tac_simulation.proofs.Evaluating.{laid_by}
 use Rattle.tac_build.specs.Code.{HasOp, ReadsLocal, Loads, MovesPointer, Stores, Writes, StepsLocal, StepsObject}
-use Rattle.tac_simulation.specs.Forms.{PathNamed, TreeNamed, IsNamed}
-use Rattle.tac_simulation.specs.Standing.{Placement, Frame, KeepsBefore, At, ScalarStands, types_of, context_of, PathStands, LoweredStands, surroundings}
+use Rattle.tac_build.specs.Forms.{scope_types, context_of, PathNamed, TreeNamed, IsNamed}
+use Rattle.tac_simulation.specs.Standing.{Placement, Frame, KeepsBefore, At, ScalarStands, PathStands, LoweredStands, surroundings}
 use Rattle.tac_simulation.proofs.Paths.{Stand, Passage as Passing, Does, stray}
 use Rattle.tac_simulation.proofs.Spotting.{Runs, kept_write, written_there, with_written}
 use Rattle.tac_simulation.proofs.Alive.{value_lasts}
@@ -126,8 +126,8 @@ module _ (tac : Tac) (program : Program) (calls : Calls) (worth : ℕ) (points :
       → Does tac worth start n lag' slack' Stands' (continue_with next (added here a amount s))
   then_moved {B} {Stands'} {start} {n} {lag} {lag'} {slack} {slack'} between here next from last target is_minus number old new z amount a held s state code p h sound holds stands typed complete is amount_is less rest =
       guarded_then next (added here a amount s) (added_guards here a amount s) (λ answer after e.
-      let both = added_is program well placement (types_of scope) s sound state.objects h.stands.memory (surroundings program frame) refl here target a amount held answer after complete typed stands e in
-      let has = ((added_keeps program well (types_of scope) s sound here target a amount complete typed).gives answer after e).1 in
+      let both = added_is program well placement (scope_types scope) s sound state.objects h.stands.memory (surroundings program frame) refl here target a amount held answer after complete typed stands e in
+      let has = ((added_keeps program well (scope_types scope) s sound here target a amount complete typed).gives answer after e).1 in
       let w = writes tac program worth points placement hidden frame scope runs between (O.Move (expression (further_spot from)) (expression from) target is_minus number) (expression (further_spot from)) both.further (suc from.at) s state p h code.move
       (rw (holds, both.alive, is, amount_is, both.moves) refl) tt less in
       subst (λ u. Does tac worth start n lag' slack' Stands' (next answer u)) (sym both.same)

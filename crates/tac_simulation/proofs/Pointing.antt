@@ -7,7 +7,7 @@ use Rattle.c_typed.specs.Layouts.{is_complete}
 use Rattle.c_typed.specs.Typed.{Value, Program}
 use Rattle.c_well_typed.specs.Expressions.{type_of}
 use Rattle.c_well_typed.specs.Programs.{IsWellTyped}
-use Rattle.c_well_typed.specs.Sizes.{has_small}
+use Rattle.c_well_typed.specs.Sizes.{makes, is_storable}
 use Rattle.ref_semantics.specs.Values as V
 use Rattle.ref_semantics.specs.Values.{Scalar, IntegerValue}
 use Rattle.ref_semantics.specs.Store as S
@@ -30,11 +30,11 @@ use Rattle.tac_ir.specs.Meaning.{execute}
 use Rattle.tac_build.specs.Homes.{Scope}
 use Rattle.tac_build.specs.Spots.{Spot, temporary, expression, Lowered, AsInteger, AsPointer, Mode, Kept}
 use Rattle.tac_build.specs.Code.{KeepsTree as KeepsTree, GivesInteger, GivesPointer, MovesPointer, ValueCode}
-use Rattle.tac_simulation.specs.Standing.{Placement, Frame, ScalarStands, IsBefore, KeepsBefore, At, types_of, context_of, surroundings}
-use Rattle.tac_simulation.specs.Forms.{SpotGrows}
+use Rattle.tac_simulation.specs.Standing.{Placement, Frame, ScalarStands, KeepsBefore, At, surroundings}
+use Rattle.tac_build.specs.Forms.{IsBefore, scope_types, context_of, SpotGrows}
 use Rattle.tac_simulation.proofs.Paths.{Stand, Passage as Passing, Passes, Does, eased, stepped}
 use Rattle.tac_simulation.proofs.Spotting.{Runs, kept_write, written_there, before_at, with_written, at_written}
-use Rattle.tac_simulation.proofs.Forms.{value_form}
+use Rattle.tac_build.proofs.Forms.{value_form}
 use Rattle.tac_simulation.proofs.Named.{value_named}
 use Rattle.tac_simulation.proofs.Unchanged.{keeps_fewer, keeps_then}
 use Rattle.tac_simulation.proofs.Lasting.{value_later}
@@ -86,7 +86,7 @@ module _ (tac : Tac) (program : Program) (calls : Calls) (worth : ℕ) (points :
   -- an operand comes to a pointer
   pub then_pointer : {B : Type 0} {Stands : Stand B} {start : State} {n lag lag' slack slack' : ℕ} (tree : Value) → Evaluating.ValueDoes tac program calls worth points placement hidden frame scope tree → (next : Scalar → Eval B)
       → (from mid : Spot) (register : Register) (target : CType) (t : CType) → ValueCode program points scope Kept tree from mid (AsPointer register target) → type_of (context_of program scope) tree ≡ Some t
-      → has_small program.structs tree ≡ true
+      → makes (is_storable program.structs) tree ≡ true
       → (s : S.State) (state : State) → Passing tac worth start state n s.units lag slack → Evaluating.AtSpot tac program calls worth points placement hidden frame scope from.at s state → lag + Evaluating.value_units tree ≤ lag'
       → ((scalar : Scalar) (s' : S.State) (state' : State) → Passing tac worth start state' n s'.units (lag + Evaluating.value_units tree) (slack + Evaluating.left_for tree)
       → Evaluating.Came tac program calls worth points placement hidden frame scope from mid state.running.registers s' state' → Keeps (context_of program scope) s s' → HasPointer program placement register target scalar s' state'
@@ -102,7 +102,7 @@ module _ (tac : Tac) (program : Program) (calls : Calls) (worth : ℕ) (points :
   pub then_pointers : {B : Type 0} {Stands : Stand B} {start : State} {n lag lag' slack slack' : ℕ} (left right : Value) → Evaluating.ValueDoes tac program calls worth points placement hidden frame scope left
       → Evaluating.ValueDoes tac program calls worth points placement hidden frame scope right → (next : Scalar → Scalar → Eval B)
       → (from mid next_spot : Spot) (a b : Register) (own other : CType) (t u : CType) → ValueCode program points scope Kept left from mid (AsPointer a own) → ValueCode program points scope Kept right mid next_spot (AsPointer b other)
-      → type_of (context_of program scope) left ≡ Some t → type_of (context_of program scope) right ≡ Some u → has_small program.structs left ≡ true → has_small program.structs right ≡ true
+      → type_of (context_of program scope) left ≡ Some t → type_of (context_of program scope) right ≡ Some u → makes (is_storable program.structs) left ≡ true → makes (is_storable program.structs) right ≡ true
       → (s : S.State) (state : State) → Passing tac worth start state n s.units lag slack → Evaluating.AtSpot tac program calls worth points placement hidden frame scope from.at s state
       → lag + Evaluating.value_units left + Evaluating.value_units right ≤ lag'
       → ((x y : Scalar) (s' : S.State) (state' : State) → Passing tac worth start state' n s'.units (lag + Evaluating.value_units left + Evaluating.value_units right) slack
@@ -115,7 +115,7 @@ module _ (tac : Tac) (program : Program) (calls : Calls) (worth : ℕ) (points :
       then_pointer right does' (next x) mid next_spot b other u code' typed' small' s' state' p' (record { stands = came.there; sound = keeps.sound }) (omega (arith, more)) (λ y s'' state'' p'' came' keeps' has'.
       rest x y s'' state'' (eased p'' (omega arith) (omega arith))
       (record { there = came'.there; kept = keeps_then from.counts state.running.registers state'.running.registers state''.running.registers came.kept (keeps_fewer state'.running.registers state''.running.registers first.grows came'.kept) })
-      (keeps_trans keeps keeps') (pointer_lasts program placement (types_of scope) mid.counts a own x s' s'' state' state'' keeps' came'.kept first.named has) has'))
+      (keeps_trans keeps keeps') (pointer_lasts program placement (scope_types scope) mid.counts a own x s' s'' state' state'' keeps' came'.kept first.named has) has'))
 
   -- a register holds an integer while other code runs
   pub keeps_integer : {A : Type 0} {Stands : Stand A} {outcome : Outcome A} {start : State} {n lag lag' slack slack' : ℕ} (tree kept : Tree) (z : ℤ) (first mid : Spot) (s : S.State) (state : State) (left : ℕ)
@@ -147,7 +147,7 @@ module _ (tac : Tac) (program : Program) (calls : Calls) (worth : ℕ) (points :
       → Does tac worth start n lag' slack' (Evaluating.ComesToValue tac program calls worth points placement hidden frame scope mode from to lowered before) (added place pointer amount s)
   moves_pointer place is_minus register target tree z amount mode from mid to lowered before pointer s state p came sound grows code complete has is amount_is more less =
       guarded_does (added place pointer amount s) (added_guards place pointer amount s) (λ answer after e.
-      let moved = added_is program well placement (types_of scope) s sound state.objects came.there.stands.memory (surroundings program frame) refl place target pointer amount has.held answer after complete has.typed has.stands e in
+      let moved = added_is program well placement (scope_types scope) s sound state.objects came.there.stands.memory (surroundings program frame) refl place target pointer amount has.held answer after complete has.typed has.stands e in
       from_same answer s after moved.same
       (puts_pointer (λ to. O.Move to register target is_minus tree) target moved.further mode from mid to lowered before answer s state p came.there came.kept grows code
       (rw (has.holds, moved.alive, is, amount_is, moved.moves) refl) moved.stands more less))

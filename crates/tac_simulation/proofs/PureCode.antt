@@ -10,7 +10,7 @@ use Rattle.tac_ir.specs.Code.{Tree, Op}
 use Rattle.tac_build.specs.Homes.{Home, Scope, register_home, holds_integer, is_pure}
 use Rattle.tac_build.specs.Spots.{Spot, Lowered, AsInteger, Mode, Kept, cast_mode}
 use Rattle.tac_build.specs.Code.{PartCode, KeepsTree, ReadsLocal, ReadCode, ValueCode, ObjectCode}
-use Rattle.tac_simulation.specs.Forms.{AddsNone}
+use Rattle.tac_build.specs.Forms.{AddsNone}
 
 adds_integer : {from to : Spot} {lowered : Lowered} {own : IntType} {tree : Tree} → to ≡ from → lowered ≡ AsInteger own tree → AddsNone from to lowered
 adds_integer {own = own} {tree = tree} at is = record { stays = at; own = own; tree = tree; is = is }

@@ -12,7 +12,7 @@ use Rattle.c_typed.specs.Typed.{Value, Object, Program}
 use Rattle.c_well_typed.specs.Context.{Context}
 use Rattle.c_well_typed.specs.Expressions.{type_of}
 use Rattle.c_well_typed.specs.Programs.{IsWellTyped}
-use Rattle.c_well_typed.specs.Sizes.{has_small}
+use Rattle.c_well_typed.specs.Sizes.{makes, is_storable}
 use Rattle.ref_semantics.specs.Values as V
 use Rattle.ref_semantics.specs.Values.{LocalObject, Place, Scalar, IntegerValue, NullValue, FunctionValue, PointerValue, RawPointer, object_place}
 use Rattle.ref_semantics.specs.Store as S
@@ -32,14 +32,14 @@ use Rattle.tac_ir.specs.Trees.{Registers, integer_in}
 use Rattle.tac_build.specs.Homes.{Home, Scope, register_home, holds_integer}
 use Rattle.tac_build.specs.Spots.{Spot, Lowered, AsInteger}
 use Rattle.tac_build.specs.Code.{ReadsLocal, ReadCode, ObjectCode}
-use Rattle.tac_simulation.specs.Forms.{HasForm}
-use Rattle.tac_simulation.specs.Standing.{Placement, Frame, At, HomeStands, HoldsFor, ScalarStands, types_of, context_of}
+use Rattle.tac_build.specs.Forms.{scope_types, context_of, HasForm}
+use Rattle.tac_simulation.specs.Standing.{Placement, Frame, At, HomeStands, HoldsFor, ScalarStands}
 use Rattle.tac_simulation.proofs.Spotting.{Runs}
 use Rattle.tac_simulation.proofs.Evaluating
 use Rattle.tac_simulation.specs.Standing
 use Rattle.tac_simulation.proofs.Evaluating.{ValueDoes, AtSpot, object_units, laid_by, left_for}
 use Rattle.tac_simulation.proofs.Paths.{Stand, Passage as Passing, Does, comes, stops, eases, allows, bind, stray}
-use Rattle.tac_simulation.proofs.Forms.{value_form}
+use Rattle.tac_build.proofs.Forms.{value_form}
 use Rattle.tac_simulation.proofs.Leading.{found_home}
 use Rattle.tac_simulation.proofs.Finding.{finds_local}
 use Rattle.tac_simulation.proofs.Finding
@@ -107,14 +107,14 @@ module _ (tac : Tac) (program : Program) (calls : Calls) (worth : ℕ) (points :
   around = context_of program scope
 
   -- what an expression gives is of its type, too
-  typed_does : {Stands : Stand Scalar} {start : State} {n lag slack : ℕ} (tree : Value) (t : CType) → type_of around tree ≡ Some t → has_small program.structs tree ≡ true → (s : S.State) → Sound around s
+  typed_does : {Stands : Stand Scalar} {start : State} {n lag slack : ℕ} (tree : Value) (t : CType) → type_of around tree ≡ Some t → makes (is_storable program.structs) tree ≡ true → (s : S.State) → Sound around s
       → Does tac worth start n lag slack Stands (value (around_of program) calls tree s)
       → Does tac worth start n lag slack (λ scalar s' state'. Stands scalar s' state' × HasType program s' t scalar) (value (around_of program) calls tree s)
   typed_does {Stands} {start} {n} {lag} {slack} tree t typed small s sound does = by (value (around_of program) calls tree s) refl does
     where
       by : (outcome : Outcome Scalar) → value (around_of program) calls tree s ≡ outcome → Does tac worth start n lag slack Stands outcome
           → Does tac worth start n lag slack (λ scalar s' state'. Stands scalar s' state' × HasType program s' t scalar) outcome
-      by _ e (comes scalar s' state' p stands) = comes scalar s' state' p (stands, (value_keeps program well calls keep (types_of scope) tree small t typed s sound scalar s' e).1)
+      by _ e (comes scalar s' state' p stands) = comes scalar s' state' p (stands, (value_keeps program well calls keep (scope_types scope) tree small t typed s sound scalar s' e).1)
       by _ e (stops answer s' a) = stops answer s' a
 
   -- the register holds what is read, and no step was made

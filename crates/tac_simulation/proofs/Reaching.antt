@@ -19,7 +19,7 @@ use Rattle.ref_semantics.specs.Pointers.{accessed}
 use Rattle.ref_semantics.specs.First.{around_of}
 use Rattle.ref_typing.specs.Sound.{HasType, IsPlace}
 use Rattle.ref_typing.specs.Keeping.{CallsKeep}
-use Rattle.ref_typing.proofs.Splitting.{given_parts, pointed_parts}
+use Rattle.c_well_typed.proofs.Splitting.{given_parts, pointed_parts}
 use Rattle.ref_typing.proofs.WellTyped.{complete_object, complete_known}
 use Rattle.tac_ir.specs.Code.{Op, Tac, Path, Pointed, Member}
 use Rattle.tac_ir.specs.Layouts.{size_of}
@@ -29,14 +29,14 @@ use Rattle.tac_ir.specs.States.{State}
 use Rattle.tac_build.specs.Homes.{Scope}
 use Rattle.tac_build.specs.Spots.{Spot, Lowered, AsInteger, AsPointer, AsObject, AsNothing, Behind}
 use Rattle.tac_build.specs.Code.{path_from, then_step, pointed_by}
-use Rattle.tac_simulation.specs.Forms.{HasForm}
-use Rattle.tac_simulation.specs.Standing.{Placement, Frame, IsAlive, MemoryStands, HoldsFor, LoweredStands, PathStands, context_of, surroundings}
+use Rattle.tac_build.specs.Forms.{context_of, HasForm}
+use Rattle.tac_simulation.specs.Standing.{Placement, Frame, IsAlive, MemoryStands, HoldsFor, LoweredStands, PathStands, surroundings}
 use Rattle.tac_simulation.proofs.Paths.{Passage as Passing, Does, comes, eases, bind, allows}
 use Rattle.tac_simulation.proofs.Spotting.{Runs}
 use Rattle.tac_simulation.proofs.Evaluating
 use Rattle.tac_simulation.proofs.Evaluating.{ValueDoes, laid_by, value_units}
 use Rattle.tac_simulation.proofs.Combining.{ticked, then_value}
-use Rattle.tac_simulation.proofs.Forms.{value_form, object_form}
+use Rattle.tac_build.proofs.Forms.{value_form, object_form}
 use Rattle.tac_simulation.proofs.Looking.{not_dead, when_alive, living_place}
 use Rattle.tac_simulation.proofs.Leading.{cost_then, stays_there}
 use Rattle.tac_simulation.proofs.Finding.{Finds, LeadsTo, has_found, unless_does, object_type, member_leads}

@@ -12,7 +12,7 @@ use Rattle.c_typed.specs.Typed as T
 use Rattle.c_typed.specs.Typed.{Value, Object, Program, GlobalDef, LiteralDef}
 use Rattle.c_well_typed.specs.Expressions.{is_scalar, type_of_object}
 use Rattle.c_well_typed.specs.Programs.{IsWellTyped}
-use Rattle.c_well_typed.specs.Sizes.{object_has_small}
+use Rattle.c_well_typed.specs.Sizes.{object_makes, is_storable}
 use Rattle.ref_semantics.specs.Values as V
 use Rattle.ref_semantics.specs.Values.{Name, Heap, GlobalObject, LiteralObject, LocalObject, Place, Scalar, IntegerValue, NullValue, FunctionValue, PointerValue, RawPointer, object_place}
 use Rattle.ref_semantics.specs.Store as S
@@ -23,7 +23,7 @@ use Rattle.ref_semantics.specs.First.{around_of}
 use Rattle.ref_typing.specs.Rows.{LeafAt}
 use Rattle.ref_typing.specs.Sound.{HasType, Sound}
 use Rattle.ref_typing.specs.Keeping.{Keeps, CallsKeep, IsElement}
-use Rattle.ref_typing.proofs.Splitting.{same_parts}
+use Rattle.c_well_typed.proofs.Splitting.{same_parts}
 use Rattle.ref_typing.proofs.Storing.{read_keeps}
 use Rattle.ref_typing.proofs.ValuesKeep.{find_keeps}
 use Rattle.tac_ir.specs.declared.register.Register.{Register}
@@ -45,14 +45,14 @@ use Rattle.tac_build.specs.Homes.{Home, Scope, register_home}
 use Rattle.tac_build.specs.Spots.{Spot, temporary, expression, Lowered, AsInteger, AsPointer, AsObject, AsNothing, Mode}
 use Rattle.tac_build.specs.Code.{HasOp, ReadsLocal, Loads, ReadCode, ObjectCode}
 use Rattle.tac_simulation.specs.Comparing.{ticks_per_unit}
-use Rattle.tac_simulation.specs.Forms.{HasForm, SpotGrows}
-use Rattle.tac_simulation.specs.Standing.{Placement, Frame, StateStands, KeepsBefore, At, HomeStands, image, global_object, literal_object, HoldsFor, ScalarStands, LoweredStands, PathStands, types_of, context_of, surroundings}
+use Rattle.tac_build.specs.Forms.{scope_types, context_of, HasForm, SpotGrows}
+use Rattle.tac_simulation.specs.Standing.{Placement, Frame, StateStands, KeepsBefore, At, HomeStands, image, global_object, literal_object, HoldsFor, ScalarStands, LoweredStands, PathStands, surroundings}
 use Rattle.tac_simulation.proofs.Paths.{Stand, Passage as Passing, Passes, Does, comes, stops, stepped, eased, eases, stray}
 use Rattle.tac_simulation.proofs.Spotting.{Runs, IsFrom, IsNoLocal, kept_same, kept_write, written_there, before_at, around_is, with_written, at_written}
 use Rattle.tac_simulation.proofs.Evaluating
 use Rattle.tac_simulation.proofs.Evaluating.{ValueDoes, laid_by, object_units, stood}
 use Rattle.tac_simulation.proofs.Combining.{puts, has_come}
-use Rattle.tac_simulation.proofs.Forms.{value_form, object_form}
+use Rattle.tac_build.proofs.Forms.{value_form, object_form}
 use Rattle.tac_simulation.proofs.Accessing.{access_stands, read_stands}
 use Rattle.tac_simulation.proofs.Placing.{Placed, placed}
 use Rattle.tac_simulation.proofs.Placing as Placing
@@ -157,7 +157,7 @@ module _ (tac : Tac) (program : Program) (calls : Calls) (worth : ℕ) (points :
 
   -- a local in a register is found, and the evaluation goes on
   pub then_local : {B : Type 0} {StateStands : Stand B} {start : State} {n lag lag' slack slack' : ℕ} (tree : Object) (next : Place → Eval B) (home : Home) → register_home scope tree ≡ Some home → (at : ℕ) (t : CType)
-      → type_of_object (context_of program scope) tree ≡ Some t → object_has_small program.structs tree ≡ true
+      → type_of_object (context_of program scope) tree ≡ Some t → object_makes (is_storable program.structs) tree ≡ true
       → (s : S.State) (state : State) → Passing tac worth start state n s.units lag slack → Evaluating.AtSpot tac program calls worth points placement hidden frame scope at s state → lag + object_units tree ≤ lag'
       → ((place : Place) (s' : S.State) (state' : State) → Passing tac worth start state' n s'.units (lag + object_units tree) (ticks_per_unit + slack)
       → FoundLocal tac program calls worth points placement hidden frame scope runs well keep at home state place s' state' → Keeps (context_of program scope) s s' → IsElement program s' t place
@@ -170,7 +170,7 @@ module _ (tac : Tac) (program : Program) (calls : Calls) (worth : ℕ) (points :
           → Does tac worth start n (lag + object_units tree) (ticks_per_unit + slack) (FoundLocal tac program calls worth points placement hidden frame scope runs well keep at home state) outcome
           → Does tac worth start n lag' slack' StateStands (continue_with next outcome)
       by _ e (comes place s' state' p' found) =
-          let keeps = find_keeps program well calls keep (types_of scope) tree small t typed s h.sound place s' e in
+          let keeps = find_keeps program well calls keep (scope_types scope) tree small t typed s h.sound place s' e in
           rest place s' state' p' found keeps.0 keeps.1
       by _ e (stops answer s' a) = let same : Does tac worth start n (lag + object_units tree) slack' StateStands (S.Stopped answer s') = stops answer s' a in eases same more (omega arith)
 
@@ -219,7 +219,7 @@ module _ (tac : Tac) (program : Program) (calls : Calls) (worth : ℕ) (points :
       (sym place_is)
       (read_does program here (object_place (LocalObject home'.number) home.c_type) s (λ scalar lives holds.
       let after : S.State = record s { trace = s.trace ++ [] } in
-      let typed = (read_keeps program well (types_of scope) s found.there.sound here t (object_place (LocalObject home'.number) home.c_type) scalar_type (subst (IsElement program s t) place_is element)).gives scalar (record s { trace = s.trace ++ [] })
+      let typed = (read_keeps program well (scope_types scope) s found.there.sound here t (object_place (LocalObject home'.number) home.c_type) scalar_type (subst (IsElement program s t) place_is element)).gives scalar (record s { trace = s.trace ++ [] })
       (read_is program here (object_place (LocalObject home'.number) home.c_type) s scalar lives holds) in
       home_value slack mode from to lowered before.running.registers home.c_type home.local home.is_object t scalar (record s { trace = s.trace ++ [] }) state p (at_unseen from.at s state found.there.stands) kept code form typed.1 (register.2 scalar (sym held ∙ holds))))
 
@@ -269,8 +269,8 @@ module _ (tac : Tac) (program : Program) (calls : Calls) (worth : ℕ) (points :
   load_value {start} {n} {lag} slack here mode from mid to lowered before path own t place s state p h sound kept grows code is leads_to element scalar_type =
       read_does program here place s (λ scalar lives holds.
       let memory = h.stands.memory in
-      let at = placed program well placement (types_of scope) s sound state.objects memory place (Address leads_to.0 leads_to.1) element.place_stands lives
-      (Placing.stands_at program well placement (types_of scope) s sound state.objects memory place leads_to.0 leads_to.1 leads_to.3.0 leads_to.3.1) in
+      let at = placed program well placement (scope_types scope) s sound state.objects memory place (Address leads_to.0 leads_to.1) element.place_stands lives
+      (Placing.stands_at program well placement (scope_types scope) s sound state.objects memory place leads_to.0 leads_to.1 leads_to.3.0 leads_to.3.1) in
       let same : leads_to.0 ≡ at.object = same_Some _ _ (sym leads_to.3.0 ∙ at.is_image) in
       let found : leads (surroundings program frame) state.running.registers path ≡ Some (record { object = at.object; inner = record { offset = offset_of (around_of program) place; c_type = own } })
       = leads_to.2 ∙ (λ i. Some (record { object = same i; inner = record { offset = leads_to.3.1 i; c_type = own } })) in
@@ -288,7 +288,7 @@ module _ (tac : Tac) (program : Program) (calls : Calls) (worth : ℕ) (points :
         before = before_at tac program points placement hidden frame scope runs mid.at (O.Load to_load.register own path) s state to_load.has h;
         does = ap (λ around. execute tac around (O.Load to_load.register own path) state) (around_is tac program points placement hidden frame scope runs mid.at s state h) ∙ does;
       } in
-      let typed = (read_keeps program well (types_of scope) s sound here t place scalar_type element).gives scalar (record s { trace = s.trace ++ access Loaded place.name }) (read_is program here place s scalar lives holds) in
+      let typed = (read_keeps program well (scope_types scope) s sound here t place scalar_type element).gives scalar (record s { trace = s.trace ++ access Loaded place.name }) (read_is program here place s scalar lives holds) in
       let there = at_written tac program points placement hidden frame scope runs mid.at to_load.register held.0 (record s { trace = s.trace ++ access Loaded place.name }) (record state { trace = state.trace ++ A.access ReadFrom at.object }) to_load.no_local
       (at_emitted mid.at (access Loaded place.name) (A.access ReadFrom at.object) s state (same_access place.name at.object s state h.stands at.is_image) h) in
       let laid = ap laid_by to_load.is in

@@ -18,7 +18,7 @@ use Rattle.c_typed.proofs.Same.{same_type-true}
 use Rattle.c_well_typed.specs.Context.{Context}
 use Rattle.c_well_typed.specs.Expressions.{is_conversion, is_scalar, is_right, type_of}
 use Rattle.c_well_typed.specs.Programs.{IsWellTyped}
-use Rattle.c_well_typed.specs.Sizes.{has_small}
+use Rattle.c_well_typed.specs.Sizes.{makes, is_storable}
 use Rattle.ref_semantics.specs.Values as V
 use Rattle.ref_semantics.specs.Values.{Scalar, IntegerValue, integer_of}
 use Rattle.ref_semantics.specs.Store as S
@@ -28,7 +28,7 @@ use Rattle.ref_semantics.specs.Meaning.{Calls, value, is_true, converted, arithm
 use Rattle.ref_semantics.specs.First.{around_of}
 use Rattle.ref_typing.specs.Sound.{Sound}
 use Rattle.ref_typing.specs.Keeping.{CallsKeep}
-use Rattle.ref_typing.proofs.Splitting.{same_parts, other_parts, first_parts, both_parts}
+use Rattle.c_well_typed.proofs.Splitting.{same_parts, other_parts, first_parts, both_parts}
 use Rattle.tac_ir.specs.Code.{Op, Tac, Tree}
 use Rattle.tac_ir.specs.Code as O
 use Rattle.tac_ir.specs.States.{State}
@@ -37,8 +37,8 @@ use Rattle.tac_build.specs.Homes.{Scope, is_pure}
 use Rattle.tac_build.specs.Spots.{Spot, Lowered, AsInteger, AsPointer, AsObject, AsNothing, Mode, Kept, Dropped, Behind, Row, cast_mode}
 use Rattle.tac_build.specs.Code.{ValueCode, KeepsTree}
 use Rattle.tac_simulation.specs.Comparing.{ticks_per_unit}
-use Rattle.tac_simulation.specs.Forms.{HasForm}
-use Rattle.tac_simulation.specs.Standing.{Placement, Frame, At, context_of, LoweredStands}
+use Rattle.tac_build.specs.Forms.{context_of, HasForm}
+use Rattle.tac_simulation.specs.Standing.{Placement, Frame, At, LoweredStands}
 use Rattle.tac_simulation.proofs.Spotting.{Runs}
 use Rattle.tac_simulation.proofs.PureRests.{Rests}
 use Rattle.tac_simulation.proofs.Integers.{integer_is, plain_left, own_is}
@@ -48,7 +48,7 @@ use Rattle.tac_simulation.proofs.Evaluating.{AtSpot, Came, ComesToValue, value_u
 use Rattle.tac_simulation.proofs.Paths.{Stand, Passage as Passing, Does, comes, eased, eases, allows, stray}
 use Rattle.tac_simulation.proofs.Combining.{ticked}
 use Rattle.tac_simulation.proofs.Constants.{left_most}
-use Rattle.tac_simulation.proofs.Forms.{value_form}
+use Rattle.tac_build.proofs.Forms.{value_form}
 use Rattle.tac_simulation.proofs.Computing.{zero_fits, truth_is, negated_zero, arithmetic_is, computes_arithmetic, computes_compare, computes_complement, computes_not, computes_convert}
 
 -- a tree that isn't kept stands as it is
@@ -79,7 +79,7 @@ module _ (tac : Tac) (program : Program) (calls : Calls) (worth : ℕ) (points :
 
   -- an operand comes to an integer, and the registers are as they were
   then_rests : {B : Type 0} {Stands : Stand B} {start : State} {n lag lag' slack slack' : ℕ} (tree : Value) → Quiet tree → is_pure scope tree ≡ true → (next : Scalar → Eval B)
-      → (from to : Spot) (own : IntType) (a : Tree) (t : CType) → ValueCode program points scope Kept tree from to (AsInteger own a) → type_of around tree ≡ Some t → has_small program.structs tree ≡ true
+      → (from to : Spot) (own : IntType) (a : Tree) (t : CType) → ValueCode program points scope Kept tree from to (AsInteger own a) → type_of around tree ≡ Some t → makes (is_storable program.structs) tree ≡ true
       → (s : S.State) (state : State) → Passing tac worth start state n s.units lag slack → AtSpot tac program calls worth points placement hidden frame scope from.at s state → lag + value_units tree ≤ lag'
       → ((z : ℤ) (s' : S.State) (state' : State) → Passing tac worth start state' n s'.units (lag + value_units tree) (slack + (2 * tree_nodes a + left_for tree))
       → Came tac program calls worth points placement hidden frame scope from to state.running.registers s' state' → Sound around s' → computes state'.running.registers a ≡ Some z → is_value own z ≡ true → state'.running.registers ≡ state.running.registers
@@ -192,7 +192,7 @@ module _ (tac : Tac) (program : Program) (calls : Calls) (worth : ℕ) (points :
   pub operator_rests : (op : BinOp) (place : Pos) (int_type : IntType) (left right : Value) → Quiet left → Quiet right → Quiet (T.Arithmetic op place int_type left right)
   operator_rests op place int_type left right quiet quiet' pure mode from to lowered t code typed small start n lag slack s state p at =
       let pures = and_parts (is_pure scope left) (is_pure scope right) pure in
-      let sizes = and_parts (has_small program.structs left) (has_small program.structs right) small in
+      let sizes = and_parts (makes (is_storable program.structs) left) (makes (is_storable program.structs) right) small in
       let parts = first_parts (type_of around left) (type_of around right) (λ a b. same_type a (Integer int_type) && is_right op a b) t typed in
       let fit = and_parts (same_type t (Integer int_type)) (is_right op t parts.b) parts.holds in
       let first = value_form program points scope left Kept t from code.0 (AsInteger code.5 code.2) parts.left code.7 in
@@ -213,7 +213,7 @@ module _ (tac : Tac) (program : Program) (calls : Calls) (worth : ℕ) (points :
   pub relation_rests : (relation : Relation) (left right : Value) → Quiet left → Quiet right → Quiet (T.Compare relation left right)
   relation_rests relation left right quiet quiet' pure mode from to lowered t code typed small start n lag slack s state p at =
       let pures = and_parts (is_pure scope left) (is_pure scope right) pure in
-      let sizes = and_parts (has_small program.structs left) (has_small program.structs right) small in
+      let sizes = and_parts (makes (is_storable program.structs) left) (makes (is_storable program.structs) right) small in
       let parts = both_parts (type_of around left) (type_of around right) (λ a b. is_integer a && same_type a b) int t typed in
       let fit = and_parts (is_integer parts.a) (same_type parts.a parts.b) parts.holds in
       let first = value_form program points scope left Kept parts.a from code.0 (AsInteger code.5 code.2) parts.left code.7 in

@@ -8,7 +8,7 @@ use Rattle.c_well_typed.specs.Context.{Context, with_local}
 use Rattle.c_well_typed.specs.Expressions.{type_of}
 use Rattle.c_well_typed.specs.Statements.{Within, in_loop, if_any, is_expression, is_condition, is_start, is_stmt, with_start, with_locals}
 use Rattle.c_well_typed.specs.Programs.{IsWellTyped}
-use Rattle.c_well_typed.specs.Sizes.{any_has_small, start_has_small, stmt_has_small}
+use Rattle.c_well_typed.specs.Sizes.{any_makes, start_makes, stmt_makes, is_storable}
 use Rattle.ref_semantics.specs.Values as V
 use Rattle.ref_semantics.specs.Values.{Scalar, IntegerValue}
 use Rattle.ref_semantics.specs.Store as S
@@ -27,7 +27,8 @@ use Rattle.tac_build.specs.Homes.{Home, Scope, takes_optional, takes_stmt}
 use Rattle.tac_build.specs.Spots.{Spot, behind, Dropped}
 use Rattle.tac_build.specs.Code.{HasOp}
 use Rattle.tac_build.specs.StatementCode.{Ways, LocalsCode, StartCode, StepCode}
-use Rattle.tac_simulation.specs.Standing.{Placement, Frame, types_of, context_of}
+use Rattle.tac_build.specs.Forms.{scope_types, context_of}
+use Rattle.tac_simulation.specs.Standing.{Placement, Frame}
 use Rattle.tac_simulation.proofs.Spotting.{Runs}
 use Rattle.tac_simulation.proofs.Evaluating.{ValueDoes}
 use Rattle.tac_simulation.proofs.Paths.{Stand, Passage as Passing, Does, comes, stops, start, eased, moved, along, turn, allows, bind}
@@ -74,19 +75,19 @@ module _ (tac : Tac) (program : Program) (calls : Calls) (worth : ℕ) (points :
       → Left placement scope onward ways way (left (length s.locals) s') state'
 
   -- the state behind a statement is sound
-  pub soundly : {lag slack : ℕ} (tree : Stmt) (within : Within) (placement : Placement) (scope : Scope) (onward : ℕ) (ways : Ways program points) → is_stmt (context_of program scope) within tree ≡ true → stmt_has_small program.structs tree ≡ true
+  pub soundly : {lag slack : ℕ} (tree : Stmt) (within : Within) (placement : Placement) (scope : Scope) (onward : ℕ) (ways : Ways program points) → is_stmt (context_of program scope) within tree ≡ true → stmt_makes (is_storable program.structs) tree ≡ true
       → (s : S.State) (state : State) → Sound (context_of program scope) s → Does tac worth state s.units lag slack (λ way s' state'. Sound (context_of program scope) s' → Left placement scope onward ways way s' state') (stmt (around_of program) calls tree s)
       → Does tac worth state s.units lag slack (Left placement scope onward ways) (stmt (around_of program) calls tree s)
   soundly {lag} {slack} tree within placement scope onward ways typed small s state sound does = by (stmt (around_of program) calls tree s) refl does
     where
       by : (outcome : Outcome Completion) → stmt (around_of program) calls tree s ≡ outcome → Does tac worth state s.units lag slack (λ way s' state'. Sound (context_of program scope) s' → Left placement scope onward ways way s' state') outcome
           → Does tac worth state s.units lag slack (Left placement scope onward ways) outcome
-      by _ e (comes way s' state' p leaves) = comes way s' state' p (leaves (stmt_keeps program well calls keep (types_of scope) within tree typed small s sound way s' e).0.sound)
+      by _ e (comes way s' state' p leaves) = comes way s' state' p (leaves (stmt_keeps program well calls keep (scope_types scope) within tree typed small s sound way s' e).0.sound)
       by _ e (stops answer s' a) = stops answer s' a
 
   -- the step, and the way back to the test
   steps : (own : List ℕ) (placement : Placement) (scope : Scope) (step : Option Value) (from next : Spot) (head onward : ℕ) (ways : Ways program points) → StepCode program points scope step from next → HasOp points next.at (O.Jump head)
-      → if_any (is_expression (context_of program scope)) step ≡ true → any_has_small program.structs step ≡ true → (start' to : State) (n before lag lag' : ℕ) (way : Option Completion) (s : S.State) → Passing tac worth start' to n s.units 0 16 → s.units < before → s.locals ≡ own
+      → if_any (is_expression (context_of program scope)) step ≡ true → any_makes (is_storable program.structs) step ≡ true → (start' to : State) (n before lag lag' : ℕ) (way : Option Completion) (s : S.State) → Passing tac worth start' to n s.units 0 16 → s.units < before → s.locals ≡ own
       → optional_units step ≤ lag → lag ≤ lag' → Turns.AfterBody tac program calls worth points hidden frame runs well keep follows placement scope from.at onward ways way s to
       → Does tac worth start' n lag' left_behind (Turns.Turned tac program calls worth points hidden frame runs well keep follows own placement scope onward ways start' n lag head before) (for_step way (optional_value (value (around_of program) calls) step) s)
   steps own placement scope step from next head onward ways code jump typed small start' to n before lag lag' (Some way) s p fewer same enough more after =
@@ -162,16 +163,16 @@ module _ (tac : Tac) (program : Program) (calls : Calls) (worth : ℕ) (points :
       body_typed : is_stmt (context_of program inner) (in_loop within) body ≡ true
       body_typed = subst (λ around. is_stmt around (in_loop within) body ≡ true) same typed'.1
 
-      small' : (((start_has_small program.structs begin && any_has_small program.structs condition) && any_has_small program.structs step) ≡ true) × (stmt_has_small program.structs body ≡ true)
-      small' = and_parts ((start_has_small program.structs begin && any_has_small program.structs condition) && any_has_small program.structs step) (stmt_has_small program.structs body) small
+      small' : (((start_makes (is_storable program.structs) begin && any_makes (is_storable program.structs) condition) && any_makes (is_storable program.structs) step) ≡ true) × (stmt_makes (is_storable program.structs) body ≡ true)
+      small' = and_parts ((start_makes (is_storable program.structs) begin && any_makes (is_storable program.structs) condition) && any_makes (is_storable program.structs) step) (stmt_makes (is_storable program.structs) body) small
 
-      small'' : ((start_has_small program.structs begin && any_has_small program.structs condition) ≡ true) × (any_has_small program.structs step ≡ true)
-      small'' = and_parts (start_has_small program.structs begin && any_has_small program.structs condition) (any_has_small program.structs step) small'.0
+      small'' : ((start_makes (is_storable program.structs) begin && any_makes (is_storable program.structs) condition) ≡ true) × (any_makes (is_storable program.structs) step ≡ true)
+      small'' = and_parts (start_makes (is_storable program.structs) begin && any_makes (is_storable program.structs) condition) (any_makes (is_storable program.structs) step) small'.0
 
-      small''' : (start_has_small program.structs begin ≡ true) × (any_has_small program.structs condition ≡ true)
-      small''' = and_parts (start_has_small program.structs begin) (any_has_small program.structs condition) small''.0
+      small''' : (start_makes (is_storable program.structs) begin ≡ true) × (any_makes (is_storable program.structs) condition ≡ true)
+      small''' = and_parts (start_makes (is_storable program.structs) begin) (any_makes (is_storable program.structs) condition) small''.0
 
-      start_small : start_has_small program.structs begin ≡ true
+      start_small : start_makes (is_storable program.structs) begin ≡ true
       start_small = small'''.0
 
       inside : Ways program points

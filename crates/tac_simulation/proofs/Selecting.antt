@@ -14,7 +14,7 @@ use Rattle.c_typed.specs.Values.{not_zero}
 use Rattle.c_well_typed.specs.Expressions.{given, type_of}
 use Rattle.c_well_typed.specs.Statements.{in_switch, is_label, is_condition, is_stmt, are_items}
 use Rattle.c_well_typed.specs.Programs.{IsWellTyped}
-use Rattle.c_well_typed.specs.Sizes.{has_small, stmt_has_small, items_have_small}
+use Rattle.c_well_typed.specs.Sizes.{makes, stmt_makes, items_make, is_storable}
 use Rattle.ref_semantics.specs.Values as V
 use Rattle.ref_semantics.specs.Values.{Scalar, IntegerValue, integer_of}
 use Rattle.ref_semantics.specs.Store as S
@@ -31,14 +31,15 @@ use Rattle.tac_ir.specs.Trees.{computes, tree_nodes, truth, integer_in}
 use Rattle.tac_build.specs.Homes.{Scope}
 use Rattle.tac_build.specs.Spots.{Spot, behind, with_temporary, temporary, AsInteger, Kept}
 use Rattle.tac_build.specs.StatementCode.{Ways, SwitchCode, GoesPast}
-use Rattle.tac_simulation.specs.Standing.{Placement, Frame, context_of}
+use Rattle.tac_build.specs.Forms.{context_of}
+use Rattle.tac_simulation.specs.Standing.{Placement, Frame}
 use Rattle.tac_simulation.proofs.Spotting.{Runs, written_there, with_written}
 use Rattle.tac_simulation.proofs.Evaluating.{ValueDoes, value_units}
 use Rattle.tac_simulation.proofs.Paths.{Stand, Passage as Passing, Does, comes, start, eased, along, eases, allows, bind}
 use Rattle.tac_simulation.proofs.Combining.{ticked}
 use Rattle.tac_simulation.proofs.Constants.{left_most}
 use Rattle.tac_simulation.proofs.Computing.{truth_fits, computes_compare}
-use Rattle.tac_simulation.proofs.Forms.{value_form}
+use Rattle.tac_build.proofs.Forms.{value_form}
 use Rattle.tac_simulation.proofs.Going.{gone, some_node, branches, jumps, assigns}
 use Rattle.tac_simulation.proofs.Integers.{integer_fits}
 use Rattle.tac_simulation.proofs.Named.{value_named}
@@ -170,7 +171,7 @@ module _ (tac : Tac) (program : Program) (calls : Calls) (worth : ℕ) (points :
   pub stmt_items : (one : Stmt) (others : SwitchItems) → Done one → DoneItems others → DoneItems (T.SwitchStmt one others)
   stmt_items one others does does' within labels placement scope own switched tests from to last default ways code typed small numbered objects enough (suc number) s state at =
       let parts = and_parts (is_stmt (context_of program scope) within one) (are_items (context_of program scope) within labels others) typed in
-      let sizes = and_parts (stmt_has_small program.structs one) (items_have_small program.structs others) small in
+      let sizes = and_parts (stmt_makes (is_storable program.structs) one) (items_make (is_storable program.structs) others) small in
       eases (does' within labels placement scope own switched tests code.0 to last default ways code.2 parts.1 sizes.1 (numbered_behind (stmt_wider program points one scope from code.0 ways code.1) scope numbered) objects (omega arith) number s state at) (omega arith) (omega arith)
   stmt_items one others does does' within labels placement scope own switched tests from to last default ways code typed small numbered objects enough zero s state at =
       bind (λ way. block_rest way (switch_from (around_of program) calls (At 0) others))
@@ -180,8 +181,8 @@ module _ (tac : Tac) (program : Program) (calls : Calls) (worth : ℕ) (points :
       parts : (is_stmt (context_of program scope) within one ≡ true) × (are_items (context_of program scope) within labels others ≡ true)
       parts = and_parts (is_stmt (context_of program scope) within one) (are_items (context_of program scope) within labels others) typed
 
-      sizes : (stmt_has_small program.structs one ≡ true) × (items_have_small program.structs others ≡ true)
-      sizes = and_parts (stmt_has_small program.structs one) (items_have_small program.structs others) small
+      sizes : (stmt_makes (is_storable program.structs) one ≡ true) × (items_make (is_storable program.structs) others ≡ true)
+      sizes = and_parts (stmt_makes (is_storable program.structs) one) (items_make (is_storable program.structs) others) small
 
       by : (way : Completion) (s' : S.State) (state' : State) → Passing tac worth state state' s.units s'.units (stmt_units one) left_behind → Left placement scope code.0.at ways way s' state'
           → Does tac worth state s.units (stmt_units one + switch_units others) 0 (Left placement scope to.at ways) (block_rest way (switch_from (around_of program) calls (At 0) others) s')
@@ -214,8 +215,8 @@ module _ (tac : Tac) (program : Program) (calls : Calls) (worth : ℕ) (points :
       parts : (is_condition (context_of program scope) v ≡ true) × (are_items (context_of program scope) (in_switch within) (given (type_of (context_of program scope) v) integer_type) items ≡ true)
       parts = and_parts (is_condition (context_of program scope) v) (are_items (context_of program scope) (in_switch within) (given (type_of (context_of program scope) v) integer_type) items) typed
 
-      sizes : (has_small program.structs v ≡ true) × (items_have_small program.structs items ≡ true)
-      sizes = and_parts (has_small program.structs v) (items_have_small program.structs items) small
+      sizes : (makes (is_storable program.structs) v ≡ true) × (items_make (is_storable program.structs) items ≡ true)
+      sizes = and_parts (makes (is_storable program.structs) v) (items_make (is_storable program.structs) items) small
 
       done : Entry → Eval Completion
       done entry = switch_from (around_of program) calls entry items >>= λ way. give (broken_out way)

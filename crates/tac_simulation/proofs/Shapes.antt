@@ -6,7 +6,7 @@ use Rattle.c_typed.specs.Types.{CType, Void, Integer, Pointer, Array}
 use Rattle.tac_ir.specs.declared.register.Register.{Register}
 use Rattle.tac_ir.specs.Code.{Tree, Path}
 use Rattle.tac_build.specs.Spots.{Lowered, AsInteger, AsPointer, AsObject, AsNothing, Kept, Dropped, Behind, Row}
-use Rattle.tac_simulation.specs.Forms.{HasForm, HasObjectForm}
+use Rattle.tac_build.specs.Forms.{HasForm, HasObjectForm}
 
 integer_is : {a b : IntType} → Integer a ≡ Integer b → a ≡ b
 integer_is e = cc

@@ -17,7 +17,8 @@ use Rattle.tac_ir.specs.States.{State, function_of, points_of, objects_of, aroun
 use Rattle.tac_ir.proofs.Seen.{seen_crossed}
 use Rattle.tac_build.specs.Homes.{Home, Scope}
 use Rattle.tac_build.specs.Code.{HasOp}
-use Rattle.tac_simulation.specs.Standing.{Placement, Frame, HomeStands, HomesStand, At, IsBefore, KeepsBefore, surroundings}
+use Rattle.tac_build.specs.Forms.{IsBefore}
+use Rattle.tac_simulation.specs.Standing.{Placement, Frame, HomeStands, HomesStand, At, KeepsBefore, surroundings}
 use Rattle.tac_simulation.proofs.Memory.{same_local-refl}
 use Rattle.tac_simulation.proofs.Paths.{Before, before_op}
 

@@ -11,7 +11,7 @@ use Rattle.c_typed.specs.Values.{not_zero}
 use Rattle.c_well_typed.specs.Expressions.{type_of, is_scalar}
 use Rattle.c_well_typed.specs.Statements.{Within, holds_for, if_any, is_condition, is_stmt}
 use Rattle.c_well_typed.specs.Programs.{IsWellTyped}
-use Rattle.c_well_typed.specs.Sizes.{has_small, any_has_small, stmt_has_small}
+use Rattle.c_well_typed.specs.Sizes.{makes, any_makes, stmt_makes, is_storable}
 use Rattle.ref_semantics.specs.Values as V
 use Rattle.ref_semantics.specs.Values.{Scalar, IntegerValue}
 use Rattle.ref_semantics.specs.Store as S
@@ -35,13 +35,14 @@ use Rattle.tac_build.specs.Homes.{Scope}
 use Rattle.tac_build.specs.Spots.{Spot, behind, Lowered, AsInteger, AsPointer, AsObject, AsNothing, Mode, Kept, Dropped}
 use Rattle.tac_build.specs.Code.{HasOp, ValueCode}
 use Rattle.tac_build.specs.StatementCode.{Ways, BranchCode, TestCode, StmtCode, ReturnCode}
+use Rattle.tac_build.specs.Forms.{context_of, scope_types}
 use Rattle.tac_simulation.specs.Comparing.{ticks_per_unit}
-use Rattle.tac_simulation.specs.Standing.{Placement, Frame, At, context_of, types_of, surroundings, LoweredStands}
+use Rattle.tac_simulation.specs.Standing.{Placement, Frame, At, surroundings, LoweredStands}
 use Rattle.tac_simulation.proofs.Spotting.{Runs, before_at, around_is}
 use Rattle.tac_simulation.proofs.Evaluating.{ValueDoes, ComesToValue, Stood, value_units, laid_by, left_for}
 use Rattle.tac_simulation.proofs.Paths.{Stand, Passage as Passing, Passes, Does, comes, stops, start, eased, stepped, moved, along, eases, bind}
 use Rattle.tac_simulation.proofs.Combining.{ticked}
-use Rattle.tac_simulation.proofs.Forms.{value_form}
+use Rattle.tac_build.proofs.Forms.{value_form}
 use Rattle.tac_simulation.proofs.Going.{gone, at_gone, jumps}
 use Rattle.tac_simulation.proofs.Integers.{integer_fits}
 use Rattle.tac_simulation.proofs.Widening.{Wider, wider_same, wider_then, wider_behind, have_before, numbered_behind, branch_wider, stmt_wider}
@@ -99,7 +100,7 @@ module _ (tac : Tac) (program : Program) (calls : Calls) (worth : ℕ) (points :
     pub after : After s s'
 
   pub evaluated : (placement : Placement) (scope : Scope) (tree : Value) (mode : Mode) (from to : Spot) (lowered : Lowered) (t : CType) → ValueCode program points scope mode tree from to lowered
-      → type_of (context_of program scope) tree ≡ Some t → has_small program.structs tree ≡ true → (s : S.State) (state : State) → Stays placement scope from.at s state
+      → type_of (context_of program scope) tree ≡ Some t → makes (is_storable program.structs) tree ≡ true → (s : S.State) (state : State) → Stays placement scope from.at s state
       → Does tac worth state s.units (value_units tree) (laid_by lowered + left_for tree) (Valued placement scope mode from to lowered t s) (value (around_of program) calls tree s)
   evaluated placement scope tree mode from to lowered t code typed small s state at =
       by (value (around_of program) calls tree s) refl (follows placement scope tree mode from to lowered t code typed small state s.units 0 0 s state (start state s.units) at)
@@ -108,7 +109,7 @@ module _ (tac : Tac) (program : Program) (calls : Calls) (worth : ℕ) (points :
           → Does tac worth state s.units (0 + value_units tree) (0 + (laid_by lowered + left_for tree)) (ComesToValue tac program calls worth points placement hidden frame scope mode from to lowered state.running.registers) outcome
           → Does tac worth state s.units (value_units tree) (laid_by lowered + left_for tree) (Valued placement scope mode from to lowered t s) outcome
       by _ e (comes scalar s' state' p came) =
-          let keeps = value_keeps program well calls keep (types_of scope) tree small t typed s at.sound scalar s' e in
+          let keeps = value_keeps program well calls keep (scope_types scope) tree small t typed s at.sound scalar s' e in
           comes scalar s' state' (eased p (omega arith) (omega arith)) (record { there = record { stands = came.0.there; sound = keeps.0.sound }; stands = came.1; typed = keeps.1; after = (omega (arith, p.allowed), keeps.0.locals) })
       by _ e (stops answer s' a) =
           let same : Does tac worth state s.units (0 + value_units tree) (laid_by lowered + left_for tree) (Valued placement scope mode from to lowered t s) (S.Stopped answer s') = stops answer s' a in eases same (omega arith) (omega arith)
@@ -154,7 +155,7 @@ module _ (tac : Tac) (program : Program) (calls : Calls) (worth : ℕ) (points :
   -- A condition is evaluated and tested, and one of two evaluations follows.
   pub conditions : {B : Type 0} {Stands : Stand B} {from : State} {n lag lag' slack slack' : ℕ} (placement : Placement) (scope : Scope) (next : Scalar → Eval B) (first second : Eval B)
       → ((z : ℤ) → not_zero z ≡ true → next (IntegerValue z) ≡ first) → ((z : ℤ) → not_zero z ≡ false → next (IntegerValue z) ≡ second)
-      → (condition : Value) (entry to : Spot) (holds fails : ℕ) → BranchCode program points scope condition entry to holds fails → is_condition (context_of program scope) condition ≡ true → has_small program.structs condition ≡ true
+      → (condition : Value) (entry to : Spot) (holds fails : ℕ) → BranchCode program points scope condition entry to holds fails → is_condition (context_of program scope) condition ≡ true → makes (is_storable program.structs) condition ≡ true
       → (s : S.State) (state : State) → Passing tac worth from state n s.units lag slack → Stays placement scope entry.at s state → lag + value_units condition ≤ lag'
       → Way Stands from n (lag + value_units condition) slack lag' slack' placement scope holds s first → Way Stands from n (lag + value_units condition) slack lag' slack' placement scope fails s second
       → Does tac worth from n lag' slack' Stands (continue_with next (value (around_of program) calls condition s))
@@ -180,7 +181,7 @@ module _ (tac : Tac) (program : Program) (calls : Calls) (worth : ℕ) (points :
   -- the same for one that may be left out: a jump stands in its place
   pub tests : {B : Type 0} {Stands : Stand B} {from : State} {n lag lag' slack slack' : ℕ} (placement : Placement) (scope : Scope) (next : Option Scalar → Eval B) (first second : Eval B)
       → ((c : Option Scalar) → holds c ≡ true → next c ≡ first) → ((c : Option Scalar) → holds c ≡ false → next c ≡ second)
-      → (condition : Option Value) (entry to : Spot) (inside outside : ℕ) → TestCode program points scope condition entry to inside outside → if_any (is_condition (context_of program scope)) condition ≡ true → any_has_small program.structs condition ≡ true
+      → (condition : Option Value) (entry to : Spot) (inside outside : ℕ) → TestCode program points scope condition entry to inside outside → if_any (is_condition (context_of program scope)) condition ≡ true → any_makes (is_storable program.structs) condition ≡ true
       → (s : S.State) (state : State) → Passing tac worth from state n s.units lag slack → Stays placement scope entry.at s state → lag + optional_units condition ≤ lag'
       → Way Stands from n (lag + optional_units condition) slack lag' slack' placement scope inside s first → Way Stands from n (lag + optional_units condition) slack lag' slack' placement scope outside s second
       → Does tac worth from n lag' slack' Stands (continue_with next (optional_value (value (around_of program) calls) condition s))
@@ -197,7 +198,7 @@ module _ (tac : Tac) (program : Program) (calls : Calls) (worth : ℕ) (points :
 
   -- a statement keeps which locals are in scope
   pub performed : (tree : Stmt) → Done tree → (within : Within) (placement : Placement) (scope : Scope) (from to : Spot) (ways : Ways program points) → StmtCode program points scope tree from to ways → is_stmt (context_of program scope) within tree ≡ true
-      → stmt_has_small program.structs tree ≡ true → AreNumbered from.counts scope → HaveObjects frame.objects to.objects → stmt_units tree ≤ worth → (s : S.State) (state : State) → Stays placement scope from.at s state
+      → stmt_makes (is_storable program.structs) tree ≡ true → AreNumbered from.counts scope → HaveObjects frame.objects to.objects → stmt_units tree ≤ worth → (s : S.State) (state : State) → Stays placement scope from.at s state
       → Does tac worth state s.units (stmt_units tree) left_behind (λ way s' state'. Left placement scope to.at ways way s' state' × After s s') (stmt (around_of program) calls tree s)
   performed tree does within placement scope from to ways code typed small numbered objects enough s state at =
       by (stmt (around_of program) calls tree s) refl (does within placement scope from to ways code typed small numbered objects enough s state at)
@@ -205,7 +206,7 @@ module _ (tac : Tac) (program : Program) (calls : Calls) (worth : ℕ) (points :
       by : (outcome : Outcome Completion) → stmt (around_of program) calls tree s ≡ outcome → Does tac worth state s.units (stmt_units tree) left_behind (Left placement scope to.at ways) outcome
           → Does tac worth state s.units (stmt_units tree) left_behind (λ way s' state'. Left placement scope to.at ways way s' state' × After s s') outcome
       by _ e (comes way s' state' p leaves) =
-          comes way s' state' p (leaves, (omega (arith, p.allowed), (stmt_keeps program well calls keep (types_of scope) within tree typed small s at.sound way s' e).0.locals))
+          comes way s' state' p (leaves, (omega (arith, p.allowed), (stmt_keeps program well calls keep (scope_types scope) within tree typed small s at.sound way s' e).0.locals))
       by _ e (stops answer s' a) = stops answer s' a
 
   -- ---- statements without statements
@@ -280,7 +281,7 @@ module _ (tac : Tac) (program : Program) (calls : Calls) (worth : ℕ) (points :
   pub ifs : (condition : Value) (taken : Stmt) → Done taken → Done (T.If condition taken)
   ifs condition taken does within placement scope from to ways code typed small numbered objects enough s state at =
       let parts = and_parts (is_condition (context_of program scope) condition) (is_stmt (context_of program scope) within taken) typed in
-      let sizes = and_parts (has_small program.structs condition) (stmt_has_small program.structs taken) small in
+      let sizes = and_parts (makes (is_storable program.structs) condition) (stmt_makes (is_storable program.structs) taken) small in
       let next : Scalar → Eval Completion = λ c. if is_true c then stmt (around_of program) calls taken else give Normal in
       ticked tac program calls worth points placement hidden frame scope runs well keep (value (around_of program) calls condition >>= next) from.at s state (start state s.units) at (omega arith) (λ left p at'.
       conditions placement scope next (stmt (around_of program) calls taken) (give Normal) (λ z e. rw e refl) (λ z e. rw e refl) condition from code.0 code.0.at to.at code.1 parts.0 sizes.0 (record s { units = left }) state p at' (omega arith)
@@ -309,11 +310,11 @@ module _ (tac : Tac) (program : Program) (calls : Calls) (worth : ℕ) (points :
       parts : (is_condition (context_of program scope) condition ≡ true) × (is_stmt (context_of program scope) within taken ≡ true)
       parts = and_parts (is_condition (context_of program scope) condition) (is_stmt (context_of program scope) within taken) typed'.0
 
-      small' : ((has_small program.structs condition && stmt_has_small program.structs taken) ≡ true) × (stmt_has_small program.structs otherwise ≡ true)
-      small' = and_parts (has_small program.structs condition && stmt_has_small program.structs taken) (stmt_has_small program.structs otherwise) small
+      small' : ((makes (is_storable program.structs) condition && stmt_makes (is_storable program.structs) taken) ≡ true) × (stmt_makes (is_storable program.structs) otherwise ≡ true)
+      small' = and_parts (makes (is_storable program.structs) condition && stmt_makes (is_storable program.structs) taken) (stmt_makes (is_storable program.structs) otherwise) small
 
-      sizes : (has_small program.structs condition ≡ true) × (stmt_has_small program.structs taken ≡ true)
-      sizes = and_parts (has_small program.structs condition) (stmt_has_small program.structs taken) small'.0
+      sizes : (makes (is_storable program.structs) condition ≡ true) × (stmt_makes (is_storable program.structs) taken ≡ true)
+      sizes = and_parts (makes (is_storable program.structs) condition) (stmt_makes (is_storable program.structs) taken) small'.0
 
       front : Wider from code.0
       front = branch_wider program points scope condition from code.0 _ _ code.2

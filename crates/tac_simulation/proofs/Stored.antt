@@ -40,7 +40,8 @@ use Rattle.tac_ir.specs.Meaning.{execute, value_of}
 use Rattle.tac_ir.proofs.Seen.{seen_emitted}
 use Rattle.tac_build.specs.Homes.{Home, Scope}
 use Rattle.tac_build.specs.Code.{HasOp}
-use Rattle.tac_simulation.specs.Standing.{Placement, Frame, image, global_object, literal_object, IsAlive, ScalarStands, MemoryStands, HomeStands, HomesStand, At, PathStands, context_of, surroundings, types_of}
+use Rattle.tac_build.specs.Forms.{context_of, scope_types}
+use Rattle.tac_simulation.specs.Standing.{Placement, Frame, image, global_object, literal_object, IsAlive, ScalarStands, MemoryStands, HomeStands, HomesStand, At, PathStands, surroundings}
 use Rattle.tac_simulation.proofs.Alive.{LivesBefore, held_lasts}
 use Rattle.tac_simulation.proofs.Memory.{same_object-true, lives_before}
 use Rattle.tac_simulation.proofs.Placing.{TypedBoth, placed, stands_at}
@@ -207,15 +208,15 @@ module _ (tac : Tac) (program : Program) (worth : ℕ) (points : List Op) (place
       → PathStands program frame placement state.running.registers path own place → own ≡ t → is_scalar t ≡ true → IsElement program s t place → is_dead (s.objects place.name) ≡ false
       → Accessed t path place s state
   accessed at t own path place s state h sound stands same scalar element lives =
-      let found = placed program well placement (types_of scope) s sound state.objects h.stands.memory place (M.Address stands.0 stands.1) element.place_stands lives
-      (stands_at program well placement (types_of scope) s sound state.objects h.stands.memory place stands.0 stands.1 stands.3.0 stands.3.1) in
+      let found = placed program well placement (scope_types scope) s sound state.objects h.stands.memory place (M.Address stands.0 stands.1) element.place_stands lives
+      (stands_at program well placement (scope_types scope) s sound state.objects h.stands.memory place stands.0 stands.1 stands.3.0 stands.3.1) in
       let one : stands.0 ≡ found.object = same_Some stands.0 found.object (sym stands.3.0 ∙ found.is_image) in
       record {
         object = found.object;
         leads_there = stands.2 ∙ reached_is stands.0 found.object stands.1 (offset_of (around_of program) place) own t one stands.3.1 same;
         is_image = found.is_image;
         typed = found.typed;
-        leaf = accessed_leaf program well (types_of scope) s sound t place scalar element found.typed.is_static found.typed.c_type found.typed.count found.typed.held found.typed.content;
+        leaf = accessed_leaf program well (scope_types scope) s sound t place scalar element found.typed.is_static found.typed.c_type found.typed.count found.typed.held found.typed.content;
       }
 
   -- what is known behind a point that reads
@@ -241,7 +242,7 @@ module _ (tac : Tac) (program : Program) (worth : ℕ) (points : List Op) (place
           let stands_there = access_stands program well placement s state.objects h.stands.memory t place a.object a.is_image a.typed a.leaf in
           let holds = read_stands program well placement s state.objects h.stands.memory t place a.object a.is_image a.typed a.leaf scalar is element.is_own in
           let read_is : read (around_of program) here place s ≡ Then scalar (was_read place.name s) = rw (lives, is) refl in
-          let typed = (read_keeps program well (types_of scope) s sound here t place is_scalar_type element).gives scalar (was_read place.name s) read_is in
+          let typed = (read_keeps program well (scope_types scope) s sound here t place is_scalar_type element).gives scalar (was_read place.name s) read_is in
           let passes : Passes tac (O.Load register own path) state (with_read register holds.0 a.object state) = record {
             before = before_at tac program points placement hidden frame scope runs at (O.Load register own path) s state has h;
             does = ap (λ around. execute tac around (O.Load register own path) state) (around_is tac program points placement hidden frame scope runs at s state h)
@@ -294,7 +295,7 @@ module _ (tac : Tac) (program : Program) (worth : ℕ) (points : List Op) (place
           let memory = write_stands program well placement s state.objects h.stands.memory t place a.object a.is_image a.typed a.leaf scalar value is in
           let alive : IsAlive (s.objects place.name) = subst IsAlive (sym a.typed.content) tt in
           let write_is : write (around_of program) here place scalar s ≡ Then scalar (was_stored place.name (offset_of (around_of program) place) scalar s) = rw lives refl in
-          let after = (write_keeps program well (types_of scope) s sound here t place scalar is_scalar_type element typed).gives scalar (was_stored place.name (offset_of (around_of program) place) scalar s) write_is in
+          let after = (write_keeps program well (scope_types scope) s sound here t place scalar is_scalar_type element typed).gives scalar (was_stored place.name (offset_of (around_of program) place) scalar s) write_is in
           let passes : Passes tac (O.Store path own operand) state (with_stored a.object (offset_of (around_of program) place) value state) = record {
             before = before_at tac program points placement hidden frame scope runs at (O.Store path own operand) s state has h;
             does = ap (λ around. execute tac around (O.Store path own operand) state) (around_is tac program points placement hidden frame scope runs at s state h)

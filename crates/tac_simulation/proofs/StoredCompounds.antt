@@ -18,7 +18,7 @@ use Rattle.c_typed.proofs.Same.{same_type-true}
 use Rattle.c_well_typed.specs.Context.{Context}
 use Rattle.c_well_typed.specs.Expressions.{is_right, type_of, type_of_object}
 use Rattle.c_well_typed.specs.Programs.{IsWellTyped}
-use Rattle.c_well_typed.specs.Sizes.{has_small, object_has_small}
+use Rattle.c_well_typed.specs.Sizes.{makes, object_makes, is_storable}
 use Rattle.ref_semantics.specs.Values as V
 use Rattle.ref_semantics.specs.Values.{Place, Scalar, IntegerValue}
 use Rattle.ref_semantics.specs.Store as S
@@ -29,7 +29,7 @@ use Rattle.ref_semantics.specs.Meaning.{Calls, value, find, arithmetic, converte
 use Rattle.ref_semantics.specs.First.{around_of}
 use Rattle.ref_typing.specs.Sound.{HasType, Sound}
 use Rattle.ref_typing.specs.Keeping.{CallsKeep, IsElement}
-use Rattle.ref_typing.proofs.Splitting.{first_parts, same_parts}
+use Rattle.c_well_typed.proofs.Splitting.{first_parts, same_parts}
 use Rattle.ref_typing.proofs.Lasting.{element_lasts}
 use Rattle.ref_typing.proofs.Operating.{integer_scalar}
 use Rattle.tac_ir.specs.declared.register.Register.{Register}
@@ -43,8 +43,8 @@ use Rattle.tac_build.specs.Homes.{Scope, is_pure}
 use Rattle.tac_build.specs.Spots.{Spot, behind, with_temporary, temporary, Lowered, AsInteger, AsObject, Mode, Kept, is_used}
 use Rattle.tac_build.specs.Code as Code
 use Rattle.tac_build.specs.Code.{HasOp, Stores, CompoundCode, SteppingCode, compound_tree, gives_old, ValueCode, ObjectCode}
-use Rattle.tac_simulation.specs.Forms.{PathNamed, TreeNamed, IsNamed}
-use Rattle.tac_simulation.specs.Standing.{Placement, Frame, KeepsBefore, At, ScalarStands, context_of, PathStands, LoweredStands}
+use Rattle.tac_build.specs.Forms.{context_of, PathNamed, TreeNamed, IsNamed}
+use Rattle.tac_simulation.specs.Standing.{Placement, Frame, KeepsBefore, At, ScalarStands, PathStands, LoweredStands}
 use Rattle.tac_simulation.proofs.Paths.{Stand, Passage as Passing, Does, comes, eased}
 use Rattle.tac_simulation.proofs.Spotting.{Runs, written_there}
 use Rattle.tac_simulation.proofs.Evaluating.{ValueDoes, FindDoes, AtSpot, ComesToValue, value_units, laid_by, left_for, stood}
@@ -53,7 +53,7 @@ use Rattle.tac_simulation.proofs.Constants.{left_most}
 use Rattle.tac_simulation.proofs.Named.{value_named, object_named}
 use Rattle.tac_simulation.proofs.Naming.{lowered_later, behind_grows, temporary_grows, grows_then}
 use Rattle.tac_simulation.proofs.Unchanged.{tree_same, keeps_fewer, keeps_then}
-use Rattle.tac_simulation.proofs.Forms.{value_form, object_form}
+use Rattle.tac_build.proofs.Forms.{value_form, object_form}
 use Rattle.tac_simulation.proofs.Integers.{integer_fits}
 use Rattle.tac_simulation.proofs.Computing.{converted_fits, computes_arithmetic, computes_convert}
 use Rattle.tac_simulation.proofs.Resting.{ValueRests}
@@ -123,7 +123,7 @@ module _ (tac : Tac) (program : Program) (calls : Calls) (worth : ℕ) (points :
   pub compounds_object : (op : BinOp) (place : Pos) (object_type int_type : IntType) (object : Object) (operand : Value) → FindDoes tac program calls worth points placement hidden frame scope object → Follows operand → ValueRests tac program calls worth points placement hidden frame scope runs well keep operand
       → (mode : Mode) (from to : Spot) (lowered : Lowered) (t : CType)
       → CompoundCode points (is_used mode) None (ObjectCode program points scope false (not (is_pure scope operand)) object) (ValueCode program points scope Kept operand) object_type (compound_tree op object_type int_type) from to lowered
-      → type_of around (T.AssignArithmetic op place object_type int_type object operand) ≡ Some t → has_small program.structs (T.AssignArithmetic op place object_type int_type object operand) ≡ true
+      → type_of around (T.AssignArithmetic op place object_type int_type object operand) ≡ Some t → makes (is_storable program.structs) (T.AssignArithmetic op place object_type int_type object operand) ≡ true
       → (start : State) (n lag slack : ℕ) (s : S.State) (state : State) → Passing tac worth start state n s.units lag slack → AtSpot tac program calls worth points placement hidden frame scope from.at s state
       → Does tac worth start n (lag + value_units (T.AssignArithmetic op place object_type int_type object operand)) (slack + (laid_by lowered + 6))
       (ComesToValue tac program calls worth points placement hidden frame scope mode from to lowered state.running.registers) (value (around_of program) calls (T.AssignArithmetic op place object_type int_type object operand) s)
@@ -131,7 +131,7 @@ module _ (tac : Tac) (program : Program) (calls : Calls) (worth : ℕ) (points :
       let parts = first_parts (type_of_object around object) (type_of around operand) (λ a b. same_type a (Integer object_type) && is_right op (Integer int_type) b) t typed in
       let tests = and_parts (same_type t (Integer object_type)) (is_right op (Integer int_type) parts.b) parts.holds in
       let is : t ≡ Integer object_type = same_type-true t (Integer object_type) tests.0 in
-      let sizes = and_parts (object_has_small program.structs object) (has_small program.structs operand) small in
+      let sizes = and_parts (object_makes (is_storable program.structs) object) (makes (is_storable program.structs) operand) small in
       let followed = not (is_pure scope operand) in
       let some : 3 ≤ left_for operand = left_most operand in
       ticked tac program calls worth points placement hidden frame scope runs well keep
@@ -199,7 +199,7 @@ module _ (tac : Tac) (program : Program) (calls : Calls) (worth : ℕ) (points :
   -- `o++` and its like, where o is an integer in memory
   pub steps_object : (stepping : Stepping) (place : Pos) (int_type : IntType) (object : Object) → FindDoes tac program calls worth points placement hidden frame scope object
       → (mode : Mode) (from to : Spot) (lowered : Lowered) (t : CType) → SteppingCode points (is_used mode) stepping int_type None (ObjectCode program points scope false false object) from to lowered
-      → type_of around (T.StepInteger stepping place int_type object) ≡ Some t → has_small program.structs (T.StepInteger stepping place int_type object) ≡ true
+      → type_of around (T.StepInteger stepping place int_type object) ≡ Some t → makes (is_storable program.structs) (T.StepInteger stepping place int_type object) ≡ true
       → (start : State) (n lag slack : ℕ) (s : S.State) (state : State) → Passing tac worth start state n s.units lag slack → AtSpot tac program calls worth points placement hidden frame scope from.at s state
       → Does tac worth start n (lag + value_units (T.StepInteger stepping place int_type object)) (slack + (laid_by lowered + 6))
       (ComesToValue tac program calls worth points placement hidden frame scope mode from to lowered state.running.registers) (value (around_of program) calls (T.StepInteger stepping place int_type object) s)

@@ -10,7 +10,7 @@ use Rattle.c_typed.proofs.Same.{same_type-true}
 use Rattle.c_well_typed.specs.Context.{Context}
 use Rattle.c_well_typed.specs.Expressions.{is_scalar, type_of, type_of_object}
 use Rattle.c_well_typed.specs.Programs.{IsWellTyped}
-use Rattle.c_well_typed.specs.Sizes.{has_small, object_has_small}
+use Rattle.c_well_typed.specs.Sizes.{makes, object_makes, is_storable}
 use Rattle.ref_semantics.specs.Values as V
 use Rattle.ref_semantics.specs.Values.{Place, Scalar}
 use Rattle.ref_semantics.specs.Store as S
@@ -21,7 +21,7 @@ use Rattle.ref_semantics.specs.First.{around_of}
 use Rattle.ref_typing.specs.Sound.{HasType, Sound}
 use Rattle.ref_typing.specs.Keeping.{Keeps, CallsKeep, IsElement}
 use Rattle.ref_typing.proofs.ValuesKeep.{value_keeps}
-use Rattle.ref_typing.proofs.Splitting.{first_parts}
+use Rattle.c_well_typed.proofs.Splitting.{first_parts}
 use Rattle.ref_typing.proofs.Lasting.{element_lasts}
 use Rattle.tac_ir.specs.declared.program.Counts.{Counts}
 use Rattle.tac_ir.specs.declared.register.Register.{Register}
@@ -36,8 +36,8 @@ use Rattle.tac_ir.specs.States.{State}
 use Rattle.tac_build.specs.Homes.{Scope, is_pure}
 use Rattle.tac_build.specs.Spots.{Spot, temporary, Lowered, AsInteger, AsPointer, AsObject, AsNothing, Mode, Kept, is_used}
 use Rattle.tac_build.specs.Code.{Stores, AssignCode, ValueCode, ObjectCode}
-use Rattle.tac_simulation.specs.Forms.{IsNamed, PathNamed}
-use Rattle.tac_simulation.specs.Standing.{Placement, Frame, IsBefore, KeepsBefore, At, ScalarStands, types_of, context_of, PathStands, LoweredStands, surroundings}
+use Rattle.tac_build.specs.Forms.{IsBefore, scope_types, context_of, IsNamed, PathNamed}
+use Rattle.tac_simulation.specs.Standing.{Placement, Frame, KeepsBefore, At, ScalarStands, PathStands, LoweredStands, surroundings}
 use Rattle.tac_simulation.proofs.Paths.{Stand, Passage as Passing, Does, comes, allows, eased}
 use Rattle.tac_simulation.proofs.Spotting.{Runs, IsFrom, IsNoLocal, no_local, kept_write, written_there, with_written}
 use Rattle.tac_simulation.proofs.Evaluating.{ValueDoes, FindDoes, AtSpot, ComesToValue, value_units, laid_by, left_for, stood}
@@ -47,7 +47,7 @@ use Rattle.tac_simulation.proofs.Alive.{value_lasts}
 use Rattle.tac_simulation.proofs.Named.{value_named, object_named}
 use Rattle.tac_simulation.proofs.Naming.{lowered_later, path_more, before_named}
 use Rattle.tac_simulation.proofs.Unchanged.{object_leads, path_same, keeps_fewer, keeps_then}
-use Rattle.tac_simulation.proofs.Forms.{object_form}
+use Rattle.tac_build.proofs.Forms.{object_form}
 use Rattle.tac_simulation.proofs.Resting.{ValueRests}
 use Rattle.tac_simulation.proofs.Going.{assigns}
 use Rattle.tac_simulation.proofs.Finding.{then_find}
@@ -97,7 +97,7 @@ module _ (tac : Tac) (program : Program) (calls : Calls) (worth : ℕ) (points :
   -- an operand comes to its value while a path is kept, and the evaluation goes on
   pub then_operand : {B : Type 0} {Stands : Stand B} {start : State} {n lag lag' slack slack' : ℕ} (object : Object) (tree : Value) → Follows tree → ValueRests tac program calls worth points placement hidden frame scope runs well keep tree → (next : Scalar → Eval B)
       → (first from to : Spot) (path : Path) (own : CType) (place : Place) (lowered : Lowered) (t : CType) → ObjectCode program points scope false (not (is_pure scope tree)) object first from (AsObject path own)
-      → ValueCode program points scope Kept tree from to lowered → type_of around tree ≡ Some t → has_small program.structs tree ≡ true
+      → ValueCode program points scope Kept tree from to lowered → type_of around tree ≡ Some t → makes (is_storable program.structs) tree ≡ true
       → (s : S.State) (state : State) → PathStands program frame placement state.running.registers path own place
       → Passing tac worth start state n s.units lag slack → AtSpot tac program calls worth points placement hidden frame scope from.at s state → lag + value_units tree ≤ lag'
       → ((scalar : Scalar) (s' : S.State) (state' : State) → Passing tac worth start state' n s'.units (lag + value_units tree) (slack + (laid_by lowered + left_for tree))
@@ -107,7 +107,7 @@ module _ (tac : Tac) (program : Program) (calls : Calls) (worth : ℕ) (points :
       → Does tac worth start n lag' slack' Stands (continue_with next (value (around_of program) calls tree s))
   then_operand {B} {Stands} {start} {n} {lag} {lag'} {slack} {slack'} object tree follows rests next first from to path own place lowered t object_code code typed small s state stands p at more rest =
       then_does (value (around_of program) calls tree) next s (by (is_pure scope tree) refl) more (λ scalar s' state' e p' came.
-      let keeps = value_keeps program well calls keep (types_of scope) tree small t typed s at.sound scalar s' e in
+      let keeps = value_keeps program well calls keep (scope_types scope) tree small t typed s at.sound scalar s' e in
       rest scalar s' state' p' came.0 keeps.0 keeps.1 (stands.0, stands.1, came.1 ∙ stands.2, stands.3))
     where
       by : (pure : Bool) → is_pure scope tree ≡ pure → Does tac worth start n (lag + value_units tree) (slack + (laid_by lowered + left_for tree))
@@ -189,14 +189,14 @@ module _ (tac : Tac) (program : Program) (calls : Calls) (worth : ℕ) (points :
   -- `o = v`, where o is in memory
   pub assigns_object : (place : Pos) (object : Object) (operand : Value) → FindDoes tac program calls worth points placement hidden frame scope object → Follows operand → ValueRests tac program calls worth points placement hidden frame scope runs well keep operand
       → (mode : Mode) (from to : Spot) (lowered : Lowered) (t : CType) → AssignCode points (is_used mode) None (ObjectCode program points scope false (not (is_pure scope operand)) object) (ValueCode program points scope Kept operand) from to lowered
-      → type_of around (T.Assign place object operand) ≡ Some t → has_small program.structs (T.Assign place object operand) ≡ true
+      → type_of around (T.Assign place object operand) ≡ Some t → makes (is_storable program.structs) (T.Assign place object operand) ≡ true
       → (start : State) (n lag slack : ℕ) (s : S.State) (state : State) → Passing tac worth start state n s.units lag slack → AtSpot tac program calls worth points placement hidden frame scope from.at s state
       → Does tac worth start n (lag + value_units (T.Assign place object operand)) (slack + (laid_by lowered + 6)) (ComesToValue tac program calls worth points placement hidden frame scope mode from to lowered state.running.registers)
       (value (around_of program) calls (T.Assign place object operand) s)
   assigns_object place object operand finds follows rests mode from to lowered t code typed small start n lag slack s state p at =
       let parts = first_parts (type_of_object around object) (type_of around operand) (λ a b. is_scalar a && same_type a b) t typed in
       let tests = and_parts (is_scalar t) (same_type t parts.b) parts.holds in
-      let sizes = and_parts (object_has_small program.structs object) (has_small program.structs operand) small in
+      let sizes = and_parts (object_makes (is_storable program.structs) object) (makes (is_storable program.structs) operand) small in
       let followed = not (is_pure scope operand) in
       let some : 3 ≤ left_for operand = left_most operand in
       ticked tac program calls worth points placement hidden frame scope runs well keep (find (around_of program) calls object >>= λ q. value (around_of program) calls operand >>= λ a. write (around_of program) place q a) from.at s state p at (omega arith) (λ left p1 at1.

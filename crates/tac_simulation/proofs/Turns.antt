@@ -6,7 +6,7 @@ use Rattle.c_typed.specs.Typed as T
 use Rattle.c_typed.specs.Typed.{Value, Stmt, Program}
 use Rattle.c_well_typed.specs.Statements.{in_loop, is_condition, is_stmt}
 use Rattle.c_well_typed.specs.Programs.{IsWellTyped}
-use Rattle.c_well_typed.specs.Sizes.{has_small, stmt_has_small}
+use Rattle.c_well_typed.specs.Sizes.{makes, stmt_makes, is_storable}
 use Rattle.ref_semantics.specs.Values as V
 use Rattle.ref_semantics.specs.Values.{Scalar, IntegerValue}
 use Rattle.ref_semantics.specs.Store as S
@@ -23,7 +23,8 @@ use Rattle.tac_build.specs.Homes.{Scope}
 use Rattle.tac_build.specs.Spots.{behind}
 use Rattle.tac_build.specs.Code.{HasOp}
 use Rattle.tac_build.specs.StatementCode.{Ways}
-use Rattle.tac_simulation.specs.Standing.{Placement, Frame, context_of}
+use Rattle.tac_build.specs.Forms.{context_of}
+use Rattle.tac_simulation.specs.Standing.{Placement, Frame}
 use Rattle.tac_simulation.proofs.Spotting.{Runs}
 use Rattle.tac_simulation.proofs.Evaluating.{ValueDoes, value_units}
 use Rattle.tac_simulation.proofs.Paths.{Stand, Passage as Passing, Passes, Does, comes, start, eased, moved, along, turn, allows, bind, passing}
@@ -127,8 +128,8 @@ module _ (tac : Tac) (program : Program) (calls : Calls) (worth : ℕ) (points :
       parts : (is_condition (context_of program scope) condition ≡ true) × (is_stmt (context_of program scope) (in_loop within) body ≡ true)
       parts = and_parts (is_condition (context_of program scope) condition) (is_stmt (context_of program scope) (in_loop within) body) typed
 
-      sizes : (has_small program.structs condition ≡ true) × (stmt_has_small program.structs body ≡ true)
-      sizes = and_parts (has_small program.structs condition) (stmt_has_small program.structs body) small
+      sizes : (makes (is_storable program.structs) condition ≡ true) × (stmt_makes (is_storable program.structs) body ≡ true)
+      sizes = and_parts (makes (is_storable program.structs) condition) (stmt_makes (is_storable program.structs) body) small
 
       first : Eval (Option Completion)
       first = stmt (around_of program) calls body >>= λ way. give (after_body way)
@@ -172,8 +173,8 @@ module _ (tac : Tac) (program : Program) (calls : Calls) (worth : ℕ) (points :
       parts : (is_stmt (context_of program scope) (in_loop within) body ≡ true) × (is_condition (context_of program scope) condition ≡ true)
       parts = and_parts (is_stmt (context_of program scope) (in_loop within) body) (is_condition (context_of program scope) condition) typed
 
-      sizes : (stmt_has_small program.structs body ≡ true) × (has_small program.structs condition ≡ true)
-      sizes = and_parts (stmt_has_small program.structs body) (has_small program.structs condition) small
+      sizes : (stmt_makes (is_storable program.structs) body ≡ true) × (makes (is_storable program.structs) condition ≡ true)
+      sizes = and_parts (stmt_makes (is_storable program.structs) body) (makes (is_storable program.structs) condition) small
 
       next : Scalar → Eval (Option Completion)
       next c = give (if is_true c then None else Some Normal)

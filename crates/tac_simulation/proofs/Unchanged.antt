@@ -15,8 +15,8 @@ use Rattle.tac_ir.specs.Objects.{Surroundings, Reached, reach, base_of, element_
 use Rattle.tac_build.specs.Homes.{Scope}
 use Rattle.tac_build.specs.Spots.{Spot, Lowered, AsInteger, AsPointer, AsObject, AsNothing, Mode, Kept, Dropped, Behind, Row, is_followed}
 use Rattle.tac_build.specs.Code.{ValueCode, ObjectCode}
-use Rattle.tac_simulation.specs.Standing.{IsBefore, KeepsBefore, Placement, Frame, WhereAlive, surroundings, PathStands, PointedStands, FoundStands, LoweredStands}
-use Rattle.tac_simulation.specs.Forms.{IsNamed, IsStable, TreeHolds, BaseHolds, StepHolds, StepsHold, PathHolds, TreeNamed, TreeStable, PathNamed, PathStable, LoweredNamed, LoweredStable, SpotGrows}
+use Rattle.tac_simulation.specs.Standing.{KeepsBefore, Placement, Frame, WhereAlive, surroundings, PathStands, PointedStands, FoundStands, LoweredStands}
+use Rattle.tac_build.specs.Forms.{IsBefore, IsNamed, IsStable, TreeHolds, BaseHolds, StepHolds, StepsHold, PathHolds, TreeNamed, TreeStable, PathNamed, PathStable, LoweredNamed, LoweredStable, SpotGrows}
 use Rattle.tac_simulation.proofs.Naming.{named_before, before_more}
 use Rattle.tac_simulation.proofs.Named.{value_named, object_named}
 use Rattle.tac_simulation.proofs.Fixed.{followed_path, value_fixed, object_fixed}

@@ -13,7 +13,7 @@ use Rattle.tac_build.specs.Homes.{Home, Scope}
 use Rattle.tac_build.specs.Spots.{Spot, behind, with_variable, with_temporary, Lowered, AsInteger, AsPointer, AsObject, AsNothing, Mode, Kept, Dropped}
 use Rattle.tac_build.specs.Code.{Writes, ValueCode}
 use Rattle.tac_build.specs.StatementCode.{Begins, with_home, FirstCode, LocalCode, LocalsCode, StartCode, BranchCode, TestCode, StepCode, Ways, ReturnCode, StmtCode, BlockCode, SwitchCode}
-use Rattle.tac_simulation.specs.Forms.{SpotGrows}
+use Rattle.tac_build.specs.Forms.{SpotGrows}
 use Rattle.tac_simulation.proofs.Named.{value_named}
 use Rattle.tac_simulation.proofs.Executing.{IsNumbered, AreNumbered, HaveObjects}
 

@@ -1,5 +1,5 @@
 -- From a spot to a spot statements add points, registers, and the variables and objects of what they declare.
-use Rattle.std.proofs.Common.{◌≡◌, ℕ, suc, ◌≤◌, Bool, true, false, List, [], ◌∷◌, ◌++◌, append-nil, append_assoc, Option, Some, None, refl, sym, ap, ◌∙◌, subst, arith}
+use Rattle.std.proofs.Common.{◌≡◌, ℕ, suc, ◌≤◌, ◌<◌, Bool, true, false, List, [], ◌∷◌, ◌++◌, append-nil, append_assoc, Option, Some, None, refl, sym, ap, ◌∙◌, subst, arith}
 use Rattle.c_num.specs.declared.IntType.{IntType}
 use Rattle.c_typed.specs.Typed as T
 use Rattle.c_typed.specs.Typed.{Value, Stmt, Block, SwitchItems, LocalDef, ForStart, Program}
@@ -13,33 +13,49 @@ use Rattle.tac_build.specs.Homes.{Home, Scope}
 use Rattle.tac_build.specs.Spots.{Spot, behind, with_variable, with_temporary, Lowered, AsInteger, AsPointer, AsObject, AsNothing, Mode, Kept, Dropped}
 use Rattle.tac_build.specs.Code.{Writes, ValueCode}
 use Rattle.tac_build.specs.StatementCode.{Ways, Begins, with_home, FirstCode, LocalCode, LocalsCode, StartCode, BranchCode, TestCode, StepCode, ReturnCode, StmtCode, BlockCode, SwitchCode}
-use Rattle.tac_simulation.specs.Forms.{SpotGrows}
+use Rattle.tac_build.specs.Forms.{SpotGrows}
 use Rattle.tac_simulation.proofs.Named.{value_named}
 use Rattle.tac_simulation.proofs.Executing.{IsNumbered, AreNumbered, HaveObjects}
+
+-- objects of variables with these numbers, each behind those before it
+abbrev pub AreNew : ℕ → ℕ → List LocalObject → Type 0
+AreNew low high [] = Unit {0}
+AreNew low high (first ∷ others) = (number : ℕ) × (first.local ≡ L.Variable number) × (low ≤ number) × (number < high) × AreNew (suc number) high others
+
+pub new_from : (low later high : ℕ) (objects : List LocalObject) → low ≤ later → AreNew later high objects → AreNew low high objects
+new_from low later high [] less new = tt
+new_from low later high (first ∷ others) less new = let least = new.2 in (new.0, new.1, omega (arith, less, least), new.3, new.4)
+
+new_then : (low mid high : ℕ) (objects more : List LocalObject) → low ≤ mid → mid ≤ high → AreNew low mid objects → AreNew mid high more → AreNew low high (objects ++ more)
+new_then low mid high [] more less most one other = new_from low mid high more less other
+new_then low mid high (first ∷ others) more less most one other =
+    let below = one.3 in (one.0, one.1, one.2, omega (arith, below, most), new_then (suc one.0) mid high others more (omega (arith, below)) most one.4 other)
 
 pub record Widens (from to : Spot) : Type 0 where
   pub variables : from.counts.variables ≤ to.counts.variables
   pub more : List LocalObject
   pub objects : to.objects ≡ from.objects ++ more
+  pub own : AreNew from.counts.variables to.counts.variables more
 
 pub same_widens : (spot : Spot) → Widens spot spot
-same_widens spot = record { variables = omega arith; more = []; objects = sym (append-nil spot.objects) }
+same_widens spot = record { variables = omega arith; more = []; objects = sym (append-nil spot.objects); own = tt }
 
 pub widens_then : {a b c : Spot} → Widens a b → Widens b c → Widens a c
 widens_then {a} {b} {c} one other = record {
   variables = (let first = one.variables in let second = other.variables in omega (arith, first, second));
   more = one.more ++ other.more;
   objects = other.objects ∙ ap (λ l. l ++ other.more) one.objects ∙ append_assoc a.objects one.more other.more;
+  own = new_then a.counts.variables b.counts.variables c.counts.variables one.more other.more one.variables other.variables one.own other.own;
 }
 
 pub grows_widens : {from to : Spot} → SpotGrows from to → Widens from to
-grows_widens {from} {to} g = record { variables = (let same = g.variables in omega (arith, same)); more = []; objects = g.objects ∙ sym (append-nil from.objects) }
+grows_widens {from} {to} g = record { variables = (let same = g.variables in omega (arith, same)); more = []; objects = g.objects ∙ sym (append-nil from.objects); own = tt }
 
 pub widens_to : {from next to : Spot} → to ≡ next → Widens from next → Widens from to
 widens_to {from} same w = subst (λ spot. Widens from spot) (sym same) w
 
 pub widens_behind : {from to : Spot} → Widens from to → Widens from (behind to)
-widens_behind w = record { variables = w.variables; more = w.more; objects = w.objects }
+widens_behind w = record { variables = w.variables; more = w.more; objects = w.objects; own = w.own }
 
 -- points alone lie between
 pub past_points : {from next to : Spot} → next.counts.variables ≡ from.counts.variables → next.objects ≡ from.objects → Widens next to → Widens from to
@@ -47,6 +63,7 @@ past_points {from} {next} {to} same objects w = record {
   variables = (let rest = w.variables in omega (arith, same, rest));
   more = w.more;
   objects = w.objects ∙ ap (λ l. l ++ w.more) objects;
+  own = subst (λ low. AreNew low to.counts.variables w.more) same w.own;
 }
 
 -- ---- what widens keeps
@@ -68,12 +85,12 @@ objects_before {from} own w h = objects_front own from.objects w.more (subst (Ha
 
 -- ---- declarations
 
-pub home_widens : (home : Home) (from : Spot) → Widens from (with_home home (with_variable from))
-home_widens home from = by home.is_object
+pub home_widens : (home : Home) (from : Spot) → home.local ≡ L.Variable from.counts.variables → Widens from (with_home home (with_variable from))
+home_widens home from is = by home.is_object
   where
     by : (b : Bool) → Widens from (with_home (record home { is_object = b }) (with_variable from))
-    by true = record { variables = omega arith; more = record { local = home.local; c_type = home.c_type } ∷ []; objects = refl }
-    by false = record { variables = omega arith; more = []; objects = sym (append-nil from.objects) }
+    by true = record { variables = omega arith; more = record { local = home.local; c_type = home.c_type } ∷ []; objects = refl; own = (from.counts.variables, is, omega arith, omega arith, tt) }
+    by false = record { variables = omega arith; more = []; objects = sym (append-nil from.objects); own = tt }
 
 module _ (points : List Op) where
   writes_widens : (register : Register) (value : Lowered) (from to : Spot) → Writes points register value from to → Widens from to
@@ -107,7 +124,7 @@ module _ (program : Program) (points : List Op) where
   first_widens scope home (Some v) from to code = widens_then (value_widens scope Kept v from code.0 code.1 code.2) (begins_widens points home code.1 code.0 to code.3)
 
   pub local_widens : (scope : Scope) (local : LocalDef) (is_taken : Bool) (from to : Spot) (home : Home) → LocalCode program points scope local is_taken from to home → Widens from to
-  local_widens scope local is_taken from to home code = widens_then (home_widens home from) (first_widens (home ∷ scope) home local.first (with_home home (with_variable from)) to code.1)
+  local_widens scope local is_taken from to home code = widens_then (home_widens home from (ap (λ (h : Home). h.local) code.0)) (first_widens (home ∷ scope) home local.first (with_home home (with_variable from)) to code.1)
 
   pub locals_widen : (scope : Scope) (is_taken : ℕ → Bool) (locals : List LocalDef) (from to : Spot) (inner : Scope) → LocalsCode program points scope is_taken locals from to inner → Widens from to
   locals_widen scope is_taken [] from to inner code = widens_to code.0 (same_widens from)
@@ -154,7 +171,7 @@ module _ (program : Program) (points : List Op) where
         widens_then (value_widens scope Kept v from code.0 (AsInteger code.2 code.3) code.7)
         (widens_then (past_points {from = code.0} {next = behind (behind (behind (with_temporary code.0)))} refl refl
         (switch_widens items scope code.2 _ (suc code.1.at) (behind (behind (behind (with_temporary code.0)))) code.1 code.5 code.4 _ code.11))
-        (widens_to code.14.1 (record { variables = omega arith; more = []; objects = sym (append-nil code.1.objects) })))
+        (widens_to code.14.1 (record { variables = omega arith; more = []; objects = sym (append-nil code.1.objects); own = tt })))
     stmt_widens T.Break scope from to ways code = widens_to code.1 (widens_behind (same_widens from))
     stmt_widens T.Continue scope from to ways code = widens_to code.1 (widens_behind (same_widens from))
     stmt_widens (T.Return None) scope from to ways code = widens_to code.1 (widens_behind (same_widens from))

@@ -1,4 +1,3 @@
-pub mod Forms
 pub mod Standing
 pub mod Comparing
 pub mod Entered

@@ -6,7 +6,6 @@
 use Rattle.std.specs.Prelude.{◌≡◌, ℕ, ◌<◌, ◌⊎◌, Bool, true, false, List, [], ◌∷◌, Option, Some, None}
 use Rattle.c_typed.specs.Types.{CType}
 use Rattle.c_typed.specs.Typed.{GlobalDef, LiteralDef, Program}
-use Rattle.c_well_typed.specs.Context.{Context}
 use Rattle.ref_semantics.specs.Values as V
 use Rattle.ref_semantics.specs.Values.{Name, Heap, GlobalObject, LiteralObject, LocalObject, Place, Scalar, IntegerValue, NullValue, FunctionValue, PointerValue, RawPointer}
 use Rattle.ref_semantics.specs.Store as S
@@ -25,6 +24,7 @@ use Rattle.tac_ir.specs.Objects.{Surroundings, leads, own_type}
 use Rattle.tac_ir.specs.States.{Owner, Activation, State}
 use Rattle.tac_ir.specs.First.{named_global, placed_literal}
 use Rattle.tac_build.specs.Homes.{Home, Scope}
+use Rattle.tac_build.specs.Forms.{IsBefore}
 use Rattle.tac_build.specs.Spots.{Lowered, AsInteger, AsPointer, AsObject, AsNothing, Mode, Behind, Row}
 use Rattle.tac_build.specs.Code.{function_number}
 
@@ -51,10 +51,6 @@ WhereAlive V.Dead stands = Unit {0}
 WhereAlive (V.Raw size) stands = stands
 WhereAlive (V.Elements is_static c_type count held) stands = stands
 
-abbrev pub types_of : Scope → List CType
-types_of [] = []
-types_of (home ∷ scope) = home.c_type ∷ types_of scope
-
 abbrev pub IsAmong : ℕ → List ℕ → Type 0
 IsAmong number [] = ⊥
 IsAmong number (first ∷ others) = (first ≡ number) ⊎ IsAmong number others
@@ -64,14 +60,6 @@ abbrev pub IsApart : Local → ℕ → Scope → List ℕ → Type 0
 IsApart local number [] others = Unit {0}
 IsApart local number (home ∷ scope) [] = Unit {0}
 IsApart local number (home ∷ scope) (older ∷ others) = (local ≡ home.local → ⊥) × (older < number) × IsApart local number scope others
-
--- a register that was named before a spot; those of locals change
-abbrev pub IsBefore : Counts → Register → Type 0
-IsBefore counts (R.Local local) = ⊥
-IsBefore counts (R.Call number) = number < counts.calls
-IsBefore counts (R.Argument number) = number < counts.arguments
-IsBefore counts (R.Expression number) = number < counts.expressions
-IsBefore counts (R.Temporary number) = number < counts.temporaries
 
 abbrev pub KeepsBefore : Counts → Registers → Registers → Type 0
 KeepsBefore counts before after = (register : Register) → IsBefore counts register → after register ≡ before register
@@ -151,9 +139,6 @@ module _ (program : Program) where
   HomesStand placement activation objects registers (home ∷ scope) (newest ∷ others) =
       HomeStands placement activation objects registers home newest × HomesStand placement activation objects registers scope others × IsApart home.local newest scope others
   HomesStand placement activation objects registers _ _ = ⊥
-
-  abbrev pub context_of : Scope → Context
-  context_of scope = record { program = program; locals = types_of scope }
 
   -- the objects of an activation are there; of the locals that live in them, those in scope are alive
   pub record OwnStands (placement : Placement) (frame : Frame) (s : S.State) (t : State) : Type 0 where

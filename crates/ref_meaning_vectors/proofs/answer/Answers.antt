@@ -22,5 +22,5 @@ premises g c =
 pub answer_program-requires-clause-well_typed : goal.answer_program-requires-clause-well_typed
 answer_program-requires-clause-well_typed g c = (premises g c).well_typed
 
-pub answer_program-requires-clause-small : goal.answer_program-requires-clause-small
-answer_program-requires-clause-small g c = (premises g c).small
+pub answer_program-requires-clause-storable : goal.answer_program-requires-clause-storable
+answer_program-requires-clause-storable g c = (premises g c).storable

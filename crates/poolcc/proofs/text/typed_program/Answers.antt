@@ -10,7 +10,7 @@ returns-in-Ok-elaborate-clause-well_typed c =
     let accepted = c.in-Ok-elaborate.ensures.accepted c.args.text.now c.in-Ok.ensures.found in
     (accepted_tree c.args.text.now (program_tree c.in-Ok.program) _ accepted c.in-Ok-elaborate.ensures.typed).well_typed
 
-pub returns-in-Ok-elaborate-clause-small : goal.returns-in-Ok-elaborate-clause-small
-returns-in-Ok-elaborate-clause-small c =
+pub returns-in-Ok-elaborate-clause-storable : goal.returns-in-Ok-elaborate-clause-storable
+returns-in-Ok-elaborate-clause-storable c =
     let accepted = c.in-Ok-elaborate.ensures.accepted c.args.text.now c.in-Ok.ensures.found in
-    (accepted_tree c.args.text.now (program_tree c.in-Ok.program) _ accepted c.in-Ok-elaborate.ensures.typed).small
+    (accepted_tree c.args.text.now (program_tree c.in-Ok.program) _ accepted c.in-Ok-elaborate.ensures.typed).storable

@@ -21,5 +21,5 @@ premises c =
 pub returns-clause-well_typed : goal.returns-clause-well_typed
 returns-clause-well_typed c = (premises c).well_typed
 
-pub returns-clause-small : goal.returns-clause-small
-returns-clause-small c = (premises c).small
+pub returns-clause-storable : goal.returns-clause-storable
+returns-clause-storable c = (premises c).storable

@@ -7,9 +7,8 @@ use Rattle.c_typed.specs.Layouts.{StructDef, is_complete}
 use Rattle.c_typed.specs.Typed.{Program, FunctionDef}
 use Rattle.c_typed.proofs.Same.{same_type-true}
 use Rattle.c_well_typed.specs.Context.{function_type}
-use Rattle.c_well_typed.specs.Expressions.{given, given_two, where_holds, is_scalar, is_pointer_to_complete, pointed, pointed_function, element, result_of}
-use Rattle.c_well_typed.specs.Programs.{IsWellTyped, are_functions, function_of, is_function_def}
-use Rattle.ref_typing.proofs.WellTyped.{well_functions}
+use Rattle.c_well_typed.specs.Expressions.{given, given_two, where_holds, is_scalar, is_pointer_to_complete, pointed, pointed_function, element, all_scalar, result_of}
+use Rattle.c_well_typed.specs.Programs.{are_functions, function_of, is_function_def}
 
 -- ---- what rules ask
 
@@ -146,20 +145,25 @@ pub record Called (types : CTypes) (f c_type : CType) (is_used : Bool) (t : CTyp
   pub is_function : f ≡ Function result parameters
   pub called : c_type ≡ Function result parameters
   pub passed : types ≡ parameters
+  pub gives_scalar : (is_scalar result || is_void result) ≡ true
+  pub takes_scalars : all_scalar parameters ≡ true
   pub gives : (if is_used then result else Void) ≡ t
 
 pub called_parts : (types : CTypes) (f c_type : CType) (is_used : Bool) (t : CType)
     → given (result_of types f) (λ result. where_holds (same_type f c_type) (if is_used then result else Void)) ≡ Some t → Called types f c_type is_used t
 called_parts types (Function result parameters) c_type is_used t is =
     let known = given_parts (result_of types (Function result parameters)) (λ r. where_holds (same_type (Function result parameters) c_type) (if is_used then r else Void)) t is in
-    let fits = held_parts (same_types parameters types && (is_scalar result || is_void result)) result known.0 known.1 in
+    let fits = held_parts (all_scalar parameters && same_types parameters types && (is_scalar result || is_void result)) result known.0 known.1 in
+    let both = and_parts (all_scalar parameters && same_types parameters types) (is_scalar result || is_void result) fits.0 in
     let held = held_parts (same_type (Function result parameters) c_type) (if is_used then known.0 else Void) t known.2 in
     record {
       result = result;
       parameters = parameters;
       is_function = refl;
       called = sym (same_type-true (Function result parameters) c_type held.0);
-      passed = sym (same_types-true parameters types (and_parts (same_types parameters types) (is_scalar result || is_void result) fits.0).0);
+      passed = sym (same_types-true parameters types (and_parts (all_scalar parameters) (same_types parameters types) both.0).1);
+      gives_scalar = both.1;
+      takes_scalars = (and_parts (all_scalar parameters) (same_types parameters types) both.0).0;
       gives = subst (λ r. (if is_used then r else Void) ≡ t) (sym fits.1) held.1;
     }
 called_parts types Void c_type is_used t is = absurd (none-some t is)
@@ -192,8 +196,8 @@ module _ (program : Program) where
       by false one rest is = rest is
 
   -- a function of the program has a function's type
-  pub function_is : IsWellTyped program → (name : List ℕ) (t : CType) → function_type program.functions name ≡ Some t → is_function t ≡ true
-  function_is well name t is = functions_are program.functions (well_functions program well) name t is
+  pub function_is : are_functions program program.functions ≡ true → (name : List ℕ) (t : CType) → function_type program.functions name ≡ Some t → is_function t ≡ true
+  function_is well name t is = functions_are program.functions well name t is
 
 pub some_is : {A : Type 0} (option : Option A) (a : A) → option ≡ Some a → is_some option ≡ true
 some_is option a is = subst (λ o. is_some o ≡ true) (sym is) refl

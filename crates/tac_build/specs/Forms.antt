@@ -2,13 +2,23 @@
 use Rattle.std.specs.Prelude.{◌≡◌, ℕ, suc, ◌<◌, ◌≤◌, Bool, true, false, List, [], ◌∷◌}
 use Rattle.c_num.specs.declared.IntType.{IntType}
 use Rattle.c_typed.specs.Types.{CType, Void, Integer, Pointer, Array, is_pointer}
-use Rattle.c_typed.specs.Typed.{Values, NoValues, MoreValues}
+use Rattle.c_typed.specs.Typed.{Program, Values, NoValues, MoreValues}
+use Rattle.c_well_typed.specs.Context.{Context}
 use Rattle.tac_ir.specs.declared.program.Counts.{Counts}
 use Rattle.tac_ir.specs.declared.register.Register.{Register}
 use Rattle.tac_ir.specs.declared.register.Register.TheVariants as R
 use Rattle.tac_ir.specs.Code.{Tree, Constant, Held, Convert, Complement, Not, Arithmetic, Compare, Base, AtLocal, AtGlobal, AtLiteral, Pointed, Indexed, Step, Member, Element, Path, Callee, Known, Through}
+use Rattle.tac_build.specs.Homes.{Scope}
 use Rattle.tac_build.specs.Spots.{Spot, Lowered, AsInteger, AsPointer, AsObject, AsNothing, Mode, Kept, Dropped, Behind, Row}
-use Rattle.tac_simulation.specs.Standing.{IsBefore}
+
+-- ---- types
+
+abbrev pub scope_types : Scope → List CType
+scope_types [] = []
+scope_types (home ∷ scope) = home.c_type ∷ scope_types scope
+
+abbrev pub context_of : Program → Scope → Context
+context_of program scope = record { program = program; locals = scope_types scope }
 
 -- ---- forms
 
@@ -52,6 +62,14 @@ count_of NoValues = 0
 count_of (MoreValues first others) = suc (count_of others)
 
 -- ---- names
+
+-- a register that was named before a spot; those of locals change
+abbrev pub IsBefore : Counts → Register → Type 0
+IsBefore counts (R.Local local) = ⊥
+IsBefore counts (R.Call number) = number < counts.calls
+IsBefore counts (R.Argument number) = number < counts.arguments
+IsBefore counts (R.Expression number) = number < counts.expressions
+IsBefore counts (R.Temporary number) = number < counts.temporaries
 
 -- a register that was named before, or a local
 abbrev pub IsNamed : Counts → Register → Type 0

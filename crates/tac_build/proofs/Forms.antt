@@ -15,8 +15,8 @@ use Rattle.c_typed.specs.Typed as T
 use Rattle.c_typed.specs.Typed.{Program, Value, Values, Object, Designator, GlobalDef, FunctionDef}
 use Rattle.c_typed.proofs.Same.{same_type-true}
 use Rattle.c_well_typed.specs.Context.{Context, local_type, global_type, function_type, literal_bytes}
-use Rattle.c_well_typed.specs.Expressions.{given, given_two, where_holds, is_scalar, is_conversion, is_pointer_to_complete, is_right, are_comparable, repoints, first_element, pointed, pointed_function, element, member_of, moved, result_of, library_result, type_of, types_of, type_of_object, type_of_designator}
-use Rattle.ref_typing.proofs.Splitting.{held_parts, given_parts, unless_parts, two_parts, same_parts, other_parts, first_parts, both_parts, pointed_parts, element_parts, pointed_function_is}
+use Rattle.c_well_typed.specs.Expressions.{given, given_two, where_holds, is_scalar, is_conversion, is_pointer_to_complete, is_right, are_comparable, repoints, first_element, pointed, pointed_function, element, member_of, moved, all_scalar, result_of, library_result, type_of, types_of, type_of_object, type_of_designator}
+use Rattle.c_well_typed.proofs.Splitting.{held_parts, given_parts, unless_parts, two_parts, same_parts, other_parts, first_parts, both_parts, pointed_parts, element_parts, pointed_function_is}
 use Rattle.tac_ir.specs.declared.register.Local.{Local}
 use Rattle.tac_ir.specs.declared.register.Register.{Register}
 use Rattle.tac_ir.specs.Code.{Tree, Path, Callee, Known, Through, Op}
@@ -24,9 +24,7 @@ use Rattle.tac_ir.specs.First.{named_global}
 use Rattle.tac_build.specs.Homes.{Home, Scope, home_of, in_register, register_home, home_behind, is_pure}
 use Rattle.tac_build.specs.Spots.{Spot, Lowered, AsInteger, AsPointer, AsObject, AsNothing, Mode, Kept, Dropped, Behind, Row, is_used, is_followed, is_address, cast_mode, pointed_mode}
 use Rattle.tac_build.specs.Code.{PartCode, compound_tree, type_of_function, type_of_member, gives_old, is_up, pointed_by, call_gives, ReadsLocal, Loads, WritesLocal, Stores, Joins, Decays, TakesAddress, Addresses, StepsLocal, StepsObject, Indexes, ReadCode, MovedCode, AssignCode, CompoundCode, PointerCode, OneCode, SteppingCode, ValueCode, LibraryCode, ArgumentsCode, DesignatorCode, ObjectCode}
-use Rattle.tac_simulation.specs.Standing as S
-use Rattle.tac_simulation.specs.Standing.{context_of}
-use Rattle.tac_simulation.specs.Forms.{NothingForm, HasForm, HasObjectForm, CalleeForm, count_of}
+use Rattle.tac_build.specs.Forms.{scope_types, context_of, NothingForm, HasForm, HasObjectForm, CalleeForm, count_of}
 
 -- ---- types
 
@@ -74,18 +72,18 @@ cast_form (Row followed) lowered t form = kept_form (Row followed) lowered t for
 
 -- ---- names
 
-length_types : (scope : Scope) → length (S.types_of scope) ≡ length scope
+length_types : (scope : Scope) → length (scope_types scope) ≡ length scope
 length_types [] = refl
 length_types (newest ∷ others) = ap suc (length_types others)
 
-local_home : (scope : Scope) (number : ℕ) (home : Home) (t : CType) → home_of scope number ≡ Some home → local_type (S.types_of scope) number ≡ Some t → t ≡ home.c_type
+local_home : (scope : Scope) (number : ℕ) (home : Home) (t : CType) → home_of scope number ≡ Some home → local_type (scope_types scope) number ≡ Some t → t ≡ home.c_type
 local_home [] number home t at typed = absurd (none-some home at)
 local_home (newest ∷ others) number home t at typed =
-    by (length others == number) at (subst (λ n. (if n == number then Some newest.c_type else local_type (S.types_of others) number) ≡ Some t) (length_types others) typed)
+    by (length others == number) at (subst (λ n. (if n == number then Some newest.c_type else local_type (scope_types others) number) ≡ Some t) (length_types others) typed)
     (local_home others number home t)
   where
-    by : (b : Bool) → (if b then Some newest else home_of others number) ≡ Some home → (if b then Some newest.c_type else local_type (S.types_of others) number) ≡ Some t
-        → (home_of others number ≡ Some home → local_type (S.types_of others) number ≡ Some t → t ≡ home.c_type) → t ≡ home.c_type
+    by : (b : Bool) → (if b then Some newest else home_of others number) ≡ Some home → (if b then Some newest.c_type else local_type (scope_types others) number) ≡ Some t
+        → (home_of others number ≡ Some home → local_type (scope_types others) number ≡ Some t → t ≡ home.c_type) → t ≡ home.c_type
     by true at typed rest = sym (same_Some newest.c_type t typed) ∙ ap (λ h. h.c_type) (same_Some newest home at)
     by false at typed rest = rest at typed
 
@@ -319,13 +317,13 @@ called_parts : (types : CTypes) (f c_type : CType) (is_used : Bool) (t : CType)
     → given (result_of types f) (λ result. where_holds (same_type f c_type) (if is_used then result else Void)) ≡ Some t → Called f c_type is_used t
 called_parts types (Function result parameters) c_type is_used t is =
     let known = given_parts (result_of types (Function result parameters)) (λ r. where_holds (same_type (Function result parameters) c_type) (if is_used then r else Void)) t is in
-    let fits = held_parts (same_types parameters types && (is_scalar result || is_void result)) result known.0 known.1 in
+    let fits = held_parts (all_scalar parameters && same_types parameters types && (is_scalar result || is_void result)) result known.0 known.1 in
     let held = held_parts (same_type (Function result parameters) c_type) (if is_used then known.0 else Void) t known.2 in
     record {
       result = result;
       parameters = parameters;
       called = sym (same_type-true (Function result parameters) c_type held.0);
-      gives_scalar = (and_parts (same_types parameters types) (is_scalar result || is_void result) fits.0).1;
+      gives_scalar = (and_parts (all_scalar parameters && same_types parameters types) (is_scalar result || is_void result) fits.0).1;
       gives = subst (λ r. (if is_used then r else Void) ≡ t) (sym fits.1) held.1;
     }
 called_parts types Void c_type is_used t is = absurd (none-some t is)

@@ -5,7 +5,7 @@ use Rattle.std.proofs.lemmas.Bool.Decides.{Decides-ltb}
 use Rattle.c_typed.specs.Types.{CType, Void, Integer, Pointer, Array, Struct, Function, literal_type}
 use Rattle.c_typed.specs.Layouts.{StructDef, is_complete}
 use Rattle.c_well_typed.specs.Expressions.{is_scalar}
-use Rattle.c_filled.specs.Filled.{is_filled, fills}
+use Rattle.c_well_typed.specs.Sizes.{is_filled, fills}
 
 -- a complete type that an object gets
 pub fills_complete : (structs : List StructDef) (t : CType) → fills structs t ≡ true → is_complete structs t ≡ true → is_filled structs t ≡ true
