@@ -1,0 +1,4 @@
+pub mod Plan
+pub mod Placing
+pub mod Rewriting
+pub mod Standing
