@@ -4,3 +4,11 @@ pub mod Code
 pub mod StatementCode
 pub mod ProgramCode
 pub mod Forms
+pub mod Building
+pub mod Numbers
+pub mod Lowering
+pub mod Passing
+pub mod Taken
+pub mod Marks
+pub mod LoweringStatements
+pub mod LoweringDefinitions

@@ -4,6 +4,7 @@ use Rattle.std.specs.Prelude.{if◌then◌else◌, neg_ℤ, slice_get}
 use Rattle.std.proofs.lemmas.Bool.{false≢true, true≢false, and_parts}
 use Rattle.std.proofs.lemmas.Option.{same_Some}
 use Rattle.run_theory.specs.Runs.{Final, Move, To, Halt, Leads, here, onward}
+use Rattle.c_num.specs.declared.IntType.TheVariants as I
 use Rattle.c_num.specs.Types.{is_value}
 use Rattle.c_typed.specs.Types.{CType}
 use Rattle.tac_ir.specs.declared.register.Local.{Local}
@@ -12,7 +13,7 @@ use Rattle.tac_ir.specs.declared.register.Register.{Register}
 use Rattle.tac_ir.specs.Values.{Object, OfHeap, OfGlobal, OfLiteral, OfActivation, same_local, same_object, Value, Number, NoAddress, Code, Address, Content, Absent, Untyped, Typed, Objects, with_content}
 use Rattle.tac_ir.specs.Layouts.{Inner}
 use Rattle.tac_ir.specs.Trees.{computes, is_zero}
-use Rattle.tac_ir.specs.Objects.{Surroundings, Reached, leads, whole, own_type, holding, stands_at, held_at, is_place, is_there}
+use Rattle.tac_ir.specs.Objects.{Surroundings, Reached, leads, whole, own_type, fits, holding, stands_at, held_at, is_place, is_there}
 use Rattle.tac_ir.specs.Pointers.{is_alive, moved_pointer, difference, compared, typed_content, repoint}
 use Rattle.tac_ir.specs.States.{Activation, State, function_of, objects_of, around_of, lost, go_to, write, given, unless_lost}
 use Rattle.tac_ir.specs.Calls.{opened, closed, all_held, call, called, natural_of, leave, allocate, free}
@@ -185,7 +186,7 @@ module _ (tac : Tac) where
   of_load : (around : Surroundings) (to : Register) (c_type : CType) (state : State) (reached : Reached) → IsStacked tac state → Keeps tac (load around to c_type state reached)
   of_load around to c_type state reached kept =
       of_unless (stands_at around.structs c_type reached.inner.offset (state.objects reached.object)) state _
-      (of_given (held_at reached.inner.offset (state.objects reached.object)) state _ (λ value is. goes_on _ kept))
+      (of_given (held_at reached.inner.offset (state.objects reached.object)) state _ (λ value is. of_unless (fits c_type value) state _ (goes_on _ kept)))
 
   of_store : (around : Surroundings) (c_type : CType) (value : Value) (state : State) (reached : Reached) → IsStacked tac state → Keeps tac (store around c_type value state reached)
   of_store around c_type value state reached kept =
@@ -254,7 +255,7 @@ module _ (tac : Tac) where
       of_given (computes state.running.registers condition) state _ (λ z is. of_unless (is_value int_type z) state _ (of_choice (is_zero z) _ _ (of_go_to fails state kept) (of_go_to holds state kept)))
   of_execute around (O.Assign to tree) state kept = of_given (computes state.running.registers tree) state _ (λ z is. goes_on _ kept)
   of_execute around (O.Null to) state kept = goes_on _ kept
-  of_execute around (O.FunctionAddress to function) state kept = goes_on _ kept
+  of_execute around (O.FunctionAddress to function) state kept = of_given (slice_get tac.functions function) state _ (λ known is. goes_on _ kept)
   of_execute around (O.Copy to from) state kept = of_given (state.running.registers from) state _ (λ value is. goes_on _ kept)
   of_execute around (O.Test to pointer) state kept = of_looked_at pointer state _ (λ value. goes_on _ kept)
   of_execute around (O.Move to pointer element is_minus number) state kept =
@@ -270,7 +271,7 @@ module _ (tac : Tac) where
   of_execute around (O.Load to scalar path) state kept = of_given (leads around state.running.registers path) state _ (λ reached is. of_load around to scalar state reached kept)
   of_execute around (O.Store path scalar value) state kept =
       of_given (value_of state.running.registers value) state _ (λ stored is. of_given (leads around state.running.registers path) state _ (λ reached is. of_store around scalar stored state reached kept))
-  of_execute around (O.Allocate site size) state kept = of_given (computes state.running.registers size) state _ (λ z is. of_allocate site (natural_of z) state kept)
+  of_execute around (O.Allocate site size) state kept = of_given (computes state.running.registers size) state _ (λ z is. of_unless (is_value I.ULong z) state _ (of_allocate site (natural_of z) state kept))
   of_execute around (O.Free site pointer) state kept = of_given (state.running.registers pointer) state _ (λ value is. of_free site value state kept)
   of_execute around (O.Call site callee arguments) state kept =
       of_given (called tac around state.running.registers callee) state _ (λ number is. of_given (all_held state.running.registers arguments) state _ (λ values is.

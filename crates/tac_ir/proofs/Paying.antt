@@ -4,12 +4,13 @@ use Rattle.std.specs.Prelude.{if◌then◌else◌, neg_ℤ, slice_get}
 use Rattle.std.proofs.lemmas.Bool.{lt-ltb, le-ltb}
 use Rattle.run_theory.specs.Runs.{Final, Move, To, Halt, Leads, here, onward}
 use Rattle.run_theory.proofs.Machines.{leads_more}
+use Rattle.c_num.specs.declared.IntType.TheVariants as I
 use Rattle.c_num.specs.Types.{is_value}
 use Rattle.c_typed.specs.Types.{CType}
 use Rattle.tac_ir.specs.declared.register.Register.{Register}
 use Rattle.tac_ir.specs.Values.{OfHeap, OfGlobal, OfLiteral, OfActivation, Value, Number, NoAddress, Code, Address}
 use Rattle.tac_ir.specs.Trees.{computes, is_zero}
-use Rattle.tac_ir.specs.Objects.{Surroundings, Reached, leads, stands_at, held_at, is_place, is_there}
+use Rattle.tac_ir.specs.Objects.{Surroundings, Reached, leads, fits, stands_at, held_at, is_place, is_there}
 use Rattle.tac_ir.specs.Pointers.{is_alive, moved_pointer, difference, compared, typed_content, repoint}
 use Rattle.tac_ir.specs.States.{Activation, State, function_of, points_of, around_of, lost, go_to, given, unless_lost}
 use Rattle.tac_ir.specs.Calls.{all_held, call, called, natural_of, leave, allocate, free}
@@ -58,7 +59,7 @@ module _ (paid : ℕ) where
   of_load : (around : Surroundings) (to : Register) (c_type : CType) (state : State) (reached : Reached) → Alike (load around to c_type state reached) (load around to c_type (with_paid paid state) reached)
   of_load around to c_type state reached =
       of_unless (stands_at around.structs c_type reached.inner.offset (state.objects reached.object)) state _ _
-      (of_given (held_at reached.inner.offset (state.objects reached.object)) state _ _ (λ value. goes_on _ refl))
+      (of_given (held_at reached.inner.offset (state.objects reached.object)) state _ _ (λ value. of_unless (fits c_type value) state _ _ (goes_on _ refl)))
 
   of_store : (around : Surroundings) (c_type : CType) (value : Value) (state : State) (reached : Reached) → Alike (store around c_type value state reached) (store around c_type value (with_paid paid state) reached)
   of_store around c_type value state reached = of_unless (stands_at around.structs c_type reached.inner.offset (state.objects reached.object)) state _ _ (goes_on _ refl)
@@ -95,7 +96,7 @@ module _ (paid : ℕ) where
       of_given (computes state.running.registers condition) state _ _ (λ z. of_unless (is_value int_type z) state _ _ (of_choice (is_zero z) _ _ _ _ (of_go_to fails state) (of_go_to holds state)))
   of_execute tac around (O.Assign to tree) state = of_given (computes state.running.registers tree) state _ _ (λ z. goes_on _ refl)
   of_execute tac around (O.Null to) state = goes_on _ refl
-  of_execute tac around (O.FunctionAddress to function) state = goes_on _ refl
+  of_execute tac around (O.FunctionAddress to function) state = of_given (slice_get tac.functions function) state _ _ (λ known. goes_on _ refl)
   of_execute tac around (O.Copy to from) state = of_given (state.running.registers from) state _ _ (λ value. goes_on _ refl)
   of_execute tac around (O.Test to pointer) state = of_looked_at pointer state _ _ (λ value. goes_on _ refl)
   of_execute tac around (O.Move to pointer element is_minus number) state =
@@ -111,7 +112,7 @@ module _ (paid : ℕ) where
   of_execute tac around (O.Load to scalar path) state = of_given (leads around state.running.registers path) state _ _ (λ reached. of_load around to scalar state reached)
   of_execute tac around (O.Store path scalar value) state =
       of_given (value_of state.running.registers value) state _ _ (λ stored. of_given (leads around state.running.registers path) state _ _ (λ reached. of_store around scalar stored state reached))
-  of_execute tac around (O.Allocate site size) state = of_given (computes state.running.registers size) state _ _ (λ z. of_allocate site (natural_of z) state)
+  of_execute tac around (O.Allocate site size) state = of_given (computes state.running.registers size) state _ _ (λ z. of_unless (is_value I.ULong z) state _ _ (of_allocate site (natural_of z) state))
   of_execute tac around (O.Free site pointer) state = of_given (state.running.registers pointer) state _ _ (λ value. of_free site value state)
   of_execute tac around (O.Call site callee arguments) state =
       of_given (called tac around state.running.registers callee) state _ _ (λ number. of_given (all_held state.running.registers arguments) state _ _ (λ values.

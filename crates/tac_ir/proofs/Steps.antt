@@ -3,13 +3,14 @@ use Rattle.std.proofs.Common.{ℕ, zero, suc, Bool, true, false, List, [], ◌�
 use Rattle.std.specs.Prelude.{if◌then◌else◌, neg_ℤ, slice_get}
 use Rattle.run_theory.specs.Runs.{Final, IsResourceEnd, IsPrefix, Move, To, Halt}
 use Rattle.run_theory.proofs.Traces.{prefix_refl, prefix_trans, prefix_append}
+use Rattle.c_num.specs.declared.IntType.TheVariants as I
 use Rattle.c_num.specs.Types.{is_value}
 use Rattle.c_typed.specs.Types.{CType}
 use Rattle.tac_ir.specs.declared.register.Register.{Register}
 use Rattle.tac_ir.specs.Values.{OfHeap, OfGlobal, OfLiteral, OfActivation, Value, Number, NoAddress, Code, Address}
 use Rattle.tac_ir.specs.Events.{TacEvent}
 use Rattle.tac_ir.specs.Trees.{computes, is_zero}
-use Rattle.tac_ir.specs.Objects.{Surroundings, Reached, leads}
+use Rattle.tac_ir.specs.Objects.{Surroundings, fits, Reached, leads}
 use Rattle.tac_ir.specs.Pointers.{is_alive, moved_pointer, difference, compared, repoint}
 use Rattle.tac_ir.specs.States.{Activation, State, lost, go_to, write, emit, given, unless_lost}
 use Rattle.tac_ir.specs.Calls.{all_held, call, called, natural_of, leave, allocate, free}
@@ -56,7 +57,7 @@ module _ (before : List TacEvent) where
   of_repoint around target to (Code function) state kept = goes_on _ (more state _ kept)
 
   of_load : (around : Surroundings) (to : Register) (c_type : CType) (state : State) (reached : Reached) → IsPrefix before state.trace → Keeps before (load around to c_type state reached)
-  of_load around to c_type state reached kept = of_unless _ state _ kept (of_given _ state _ kept (λ value. of_write to value (emit _ state) (more state _ kept)))
+  of_load around to c_type state reached kept = of_unless _ state _ kept (of_given _ state _ kept (λ value. of_unless (fits c_type value) state _ kept (of_write to value (emit _ state) (more state _ kept))))
 
   of_store : (around : Surroundings) (c_type : CType) (value : Value) (state : State) (reached : Reached) → IsPrefix before state.trace → Keeps before (store around c_type value state reached)
   of_store around c_type value state reached kept = of_unless _ state _ kept (goes_on _ (more (emit _ state) _ (more state _ kept)))
@@ -93,7 +94,7 @@ module _ (before : List TacEvent) where
       of_given (computes state.running.registers condition) state _ kept (λ z. of_unless (is_value int_type z) state _ kept (of_choice (is_zero z) _ _ (of_go_to fails state kept) (of_go_to holds state kept)))
   of_execute tac around (O.Assign to tree) state kept = of_given _ state _ kept (λ z. goes_on _ (more state _ kept))
   of_execute tac around (O.Null to) state kept = goes_on _ (more state _ kept)
-  of_execute tac around (O.FunctionAddress to function) state kept = goes_on _ (more state _ kept)
+  of_execute tac around (O.FunctionAddress to function) state kept = of_given _ state _ kept (λ known. goes_on _ (more state _ kept))
   of_execute tac around (O.Copy to from) state kept = of_given _ state _ kept (λ value. goes_on _ (more state _ kept))
   of_execute tac around (O.Test to pointer) state kept = of_looked_at pointer state _ kept (λ value. goes_on _ (more state _ kept))
   of_execute tac around (O.Move to pointer element is_minus number) state kept =
@@ -110,7 +111,7 @@ module _ (before : List TacEvent) where
   of_execute tac around (O.Store path scalar value) state kept =
       of_given (value_of state.running.registers value) state _ kept (λ stored. of_given (leads around state.running.registers path) state _ kept (λ reached. of_store around scalar stored state reached kept))
   of_execute tac around (O.Allocate site size) state kept =
-      of_given (computes state.running.registers size) state _ kept (λ z. of_allocate site (natural_of z) state kept)
+      of_given (computes state.running.registers size) state _ kept (λ z. of_unless (is_value I.ULong z) state _ kept (of_allocate site (natural_of z) state kept))
   of_execute tac around (O.Free site pointer) state kept = of_given _ state _ kept (λ value. of_free site value state kept)
   of_execute tac around (O.Call site callee arguments) state kept =
       of_given (called tac around state.running.registers callee) state _ kept (λ number. of_given (all_held state.running.registers arguments) state _ kept (λ values.

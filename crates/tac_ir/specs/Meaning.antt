@@ -10,7 +10,7 @@ use Rattle.tac_ir.specs.declared.register.Register.TheVariants as Registers
 use Rattle.tac_ir.specs.Values.{Value, Number, NoAddress, Code, Address}
 use Rattle.tac_ir.specs.Events.{Wrote, ReadFrom, WroteTo}
 use Rattle.tac_ir.specs.Trees.{Registers, computes, is_zero, truth}
-use Rattle.tac_ir.specs.Objects.{Surroundings, is_place, stands_at, held_at, holding, Reached, leads}
+use Rattle.tac_ir.specs.Objects.{Surroundings, is_place, fits, stands_at, held_at, holding, Reached, leads}
 use Rattle.tac_ir.specs.States.{State, function_of, points_of, around_of, lost, go_to, go_on, write, emit, store_content, given, unless_lost, access}
 use Rattle.tac_ir.specs.Pointers.{is_alive, is_null, moved_pointer, difference, compared, repoint}
 use Rattle.tac_ir.specs.Calls.{all_held, call, called, leave, next_char, after_next, allocate, natural_of, free}
@@ -34,7 +34,7 @@ abbrev pub load : Surroundings → Register → CType → State → Reached → 
 load around to c_type state reached =
     let content = state.objects reached.object in
     unless_lost (stands_at around.structs c_type reached.inner.offset content) state
-    (given (held_at reached.inner.offset content) state (λ value. write to value (emit (access ReadFrom reached.object) state)))
+    (given (held_at reached.inner.offset content) state (λ value. unless_lost (fits c_type value) state (write to value (emit (access ReadFrom reached.object) state))))
 
 abbrev pub store : Surroundings → CType → Value → State → Reached → Move State
 store around c_type value state reached =
@@ -57,7 +57,7 @@ execute tac around (O.Branch int_type condition holds fails) state =
     given (computes state.running.registers condition) state (λ z. unless_lost (is_value int_type z) state (if is_zero z then go_to fails state else go_to holds state))
 execute tac around (O.Assign to tree) state = given (computes state.running.registers tree) state (λ z. write to (Number z) state)
 execute tac around (O.Null to) state = write to NoAddress state
-execute tac around (O.FunctionAddress to function) state = write to (Code function) state
+execute tac around (O.FunctionAddress to function) state = given (slice_get tac.functions function) state (λ known. write to (Code function) state)
 execute tac around (O.Copy to from) state = given (state.running.registers from) state (λ value. write to value state)
 execute tac around (O.Test to pointer) state = looked_at pointer state (λ value. write to (Number (truth (not (is_null value)))) state)
 execute tac around (O.Move to pointer element is_minus number) state =
@@ -73,7 +73,7 @@ execute tac around (O.AddressOf to path) state = given (leads around state.runni
 execute tac around (O.Load to scalar path) state = given (leads around state.running.registers path) state (load around to scalar state)
 execute tac around (O.Store path scalar value) state =
     given (value_of state.running.registers value) state (λ stored. given (leads around state.running.registers path) state (store around scalar stored state))
-execute tac around (O.Allocate site size) state = given (computes state.running.registers size) state (λ z. allocate site (natural_of z) state)
+execute tac around (O.Allocate site size) state = given (computes state.running.registers size) state (λ z. unless_lost (is_value I.ULong z) state (allocate site (natural_of z) state))
 execute tac around (O.Free site pointer) state = given (state.running.registers pointer) state (λ value. free site value state)
 execute tac around (O.Call site callee arguments) state =
     given (called tac around state.running.registers callee) state (λ number. given (all_held state.running.registers arguments) state (λ values.

@@ -1,10 +1,11 @@
 -- Objects while a program runs: how many bytes they have, reading and writing, and paths to their parts (C17 6.2.4, 6.5).
 use Rattle.std.specs.Prelude.{ℕ, ◌*◌, Bool, true, false, ◌&&◌, nat_le, if◌then◌else◌, List, [], ◌∷◌, slice_get, Option, Some, None, ℤ, pos, negsuc, ◌+ℤ◌, ◌*ℤ◌}
 use Rattle.c_typed.specs.Typed.{GlobalDef, LiteralDef}
-use Rattle.c_typed.specs.Types.{CType, literal_type, same_type}
+use Rattle.c_num.specs.Types.{is_value}
+use Rattle.c_typed.specs.Types.{CType, Integer, Pointer, literal_type, same_type}
 use Rattle.c_typed.specs.Layouts.{StructDef}
 use Rattle.tac_ir.specs.declared.register.Local.{Local}
-use Rattle.tac_ir.specs.Values.{Object, OfGlobal, OfLiteral, OfActivation, same_local, Value, Address, Content, Absent, Untyped, Typed, Objects, with_held}
+use Rattle.tac_ir.specs.Values.{Object, OfGlobal, OfLiteral, OfActivation, same_local, Value, Number, NoAddress, Code, Address, Content, Absent, Untyped, Typed, Objects, with_held}
 use Rattle.tac_ir.specs.Layouts.{size_of, leaf_at, Inner, within, member_of, element_of}
 use Rattle.tac_ir.specs.Trees.{Registers, computes}
 use Rattle.tac_ir.specs.Code.{Base, AtLocal, AtGlobal, AtLiteral, Pointed, Indexed, Step, Member, Element, Path, LocalObject}
@@ -36,6 +37,14 @@ abbrev pub is_place : List StructDef → Objects → Object → ℕ → Bool
 is_place structs objects object offset = is_there (objects object) && nat_le offset (extent_of structs (objects object))
 
 -- ---- scalars
+
+-- a value that a scalar of this type may hold
+abbrev pub fits : CType → Value → Bool
+fits (Integer int_type) (Number z) = is_value int_type z
+fits (Pointer target) NoAddress = true
+fits (Pointer target) (Code function) = true
+fits (Pointer target) (Address object offset) = true
+fits _ _ = false
 
 abbrev pub is_leaf : Option CType → CType → Bool
 is_leaf None c_type = false

@@ -1,5 +1,5 @@
 -- What operators do with pointers (C17 6.3.2.3, 6.5.6, 6.5.8, 6.5.9).
-use Rattle.std.specs.Prelude.{ℕ, ◌/◌, ◌%◌, ◌==◌, Bool, true, false, not, ◌&&◌, ◌||◌, if◌then◌else◌, Option, Some, None, ℤ, pos, ◌-ℤ◌, ◌*ℤ◌, int_div}
+use Rattle.std.specs.Prelude.{ℕ, ◌/◌, ◌%◌, ◌==◌, Bool, true, false, not, ◌&&◌, ◌||◌, nat_lt, if◌then◌else◌, Option, Some, None, ℤ, pos, ◌-ℤ◌, ◌*ℤ◌, int_div}
 use Rattle.run_theory.specs.Runs.{Move}
 use Rattle.c_num.specs.declared.Relation.{Relation}
 use Rattle.c_num.specs.declared.Relation.TheVariants as R
@@ -36,8 +36,9 @@ moved_pointer around objects element z value = None
 -- the elements of a type between two places in one object
 abbrev pub difference : Surroundings → Objects → CType → Value → Value → Option Value
 difference around objects element (Address a i) (Address b j) =
-    let z = int_div (pos i -ℤ pos j) (pos (size_of around.structs element)) in
-    if same_object a b && (is_there (objects a) && is_value I.Long z) then Some (Number z) else None
+    let size = size_of around.structs element in
+    let z = int_div (pos i -ℤ pos j) (pos size) in
+    if same_object a b && (is_there (objects a) && (nat_lt 0 size && is_value I.Long z)) then Some (Number z) else None
 difference around objects element a b = None
 
 -- the end of an object

@@ -5,6 +5,7 @@
 //! of the program; integers are computed by trees. `specs/Meaning.antt` says what the code does.
 #![tactic(auto)]
 
+mod copies;
 mod op;
 mod path;
 mod program;

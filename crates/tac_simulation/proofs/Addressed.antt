@@ -31,7 +31,7 @@ use Rattle.tac_build.specs.Code as C
 use Rattle.tac_build.specs.Code.{Indexes, MovesPointer}
 use Rattle.tac_build.specs.Forms.{context_of, HasForm, SpotGrows}
 use Rattle.tac_simulation.specs.Standing.{Placement, Frame, KeepsBefore, IsAlive, LoweredStands, PointedStands}
-use Rattle.tac_simulation.proofs.Naming.{grows_then}
+use Rattle.tac_build.proofs.Naming.{grows_then}
 use Rattle.tac_simulation.proofs.Paths.{Passage as Passing, Does, comes, eased, eases, allows}
 use Rattle.tac_simulation.proofs.Spotting.{Runs, kept_same}
 use Rattle.tac_simulation.proofs.Evaluating
@@ -40,7 +40,7 @@ use Rattle.tac_simulation.proofs.Combining.{ticked, then_value}
 use Rattle.tac_simulation.proofs.Constants.{left_most}
 use Rattle.tac_build.proofs.Forms.{value_form}
 use Rattle.tac_simulation.proofs.Looking.{not_dead}
-use Rattle.tac_simulation.proofs.Named.{value_named}
+use Rattle.tac_build.proofs.Named.{value_named}
 use Rattle.tac_simulation.proofs.Unchanged.{keeps_fewer, keeps_then}
 use Rattle.tac_simulation.proofs.Pointing.{moves_pointer}
 use Rattle.tac_simulation.proofs.Finding.{LeadsTo, unless_does}

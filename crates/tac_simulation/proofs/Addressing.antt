@@ -43,7 +43,7 @@ use Rattle.tac_simulation.proofs.Evaluating.{ValueDoes, laid_by, left_for, objec
 use Rattle.tac_simulation.proofs.Combining.{ticked, puts, has_come}
 use Rattle.tac_simulation.proofs.Constants.{left_most}
 use Rattle.tac_build.proofs.Forms.{object_form}
-use Rattle.tac_simulation.proofs.Named.{object_named}
+use Rattle.tac_build.proofs.Named.{object_named}
 use Rattle.tac_simulation.proofs.Placing as Placing
 use Rattle.tac_simulation.proofs.Placing.{placed, place_at}
 use Rattle.tac_simulation.proofs.Leading.{cost_then}

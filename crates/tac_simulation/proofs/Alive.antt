@@ -25,8 +25,8 @@ module _ (program : Program) (placement : Placement) (before after : S.Objects) 
   value_lasts (IntegerValue z) value stands = stands
   value_lasts NullValue value stands = stands
   value_lasts (FunctionValue name) value stands = stands
-  value_lasts (PointerValue place) value stands = where_alive (before place.name) (after place.name) _ (lives place.name) stands
-  value_lasts (RawPointer number) value stands = where_alive (before (Heap number)) (after (Heap number)) _ (lives (Heap number)) stands
+  value_lasts (PointerValue place) value stands = (stands.0, where_alive (before place.name) (after place.name) _ (lives place.name) stands.1)
+  value_lasts (RawPointer number) value stands = (stands.0, where_alive (before (Heap number)) (after (Heap number)) _ (lives (Heap number)) stands.1)
 
   pub held_lasts : (scalar : Scalar) (held : Option Value) → HoldsFor program before placement scalar held → HoldsFor program after placement scalar held
   held_lasts scalar held holds = (holds.0, holds.1, value_lasts scalar holds.0 holds.2)

@@ -136,7 +136,7 @@ module _ (program : Program) (placement : Placement) (locals : List CType) (s : 
         done = ap (λ n. write (Registers.Call site) (Address (OfHeap n) 0) (emit (Made site n (suc size) ∷ []) (store_content (OfHeap n) (Untyped (suc size)) (record state { next_heap = suc n })))) heap;
         after_is = refl;
         memory = made_stands (suc size);
-        value = wherever (S.with_content (Heap s.next_heap) (V.Raw (suc size)) s.objects (Heap s.next_heap)) refl;
+        value = (tt, wherever (S.with_content (Heap s.next_heap) (V.Raw (suc size)) s.objects (Heap s.next_heap)) refl);
         others = λ name given. other_content (Heap s.next_heap) name (V.Raw (suc size)) s.objects (not_given name given);
       } in
       subst (λ last. AllocatedBoth program placement site (suc size) s last state answer) (sym last.1) (subst (λ scalar. AllocatedBoth program placement site (suc size) s made state scalar) (sym last.0) result)

@@ -34,8 +34,8 @@ use Rattle.tac_simulation.proofs.Paths.{Stand, Passage as Passing, Does, comes, 
 use Rattle.tac_simulation.proofs.Spotting.{Runs, kept_same, kept_write, written_there, before_at, around_is, with_written, at_written}
 use Rattle.tac_simulation.proofs.Evaluating
 use Rattle.tac_simulation.proofs.Evaluating.{laid_by, left_for, passed_ticks, all_passed_ticks, value_units, values_units, designator_units}
-use Rattle.tac_simulation.proofs.Naming.{grows_then, grows_to, behind_grows, argument_grows, before_more}
-use Rattle.tac_simulation.proofs.Named.{value_named}
+use Rattle.tac_build.proofs.Naming.{grows_then, grows_to, behind_grows, argument_grows, before_more}
+use Rattle.tac_build.proofs.Named.{value_named}
 use Rattle.tac_build.proofs.Forms.{value_form}
 use Rattle.tac_simulation.proofs.Lasting.{holds_later}
 use Rattle.tac_simulation.proofs.Going.{some_node}

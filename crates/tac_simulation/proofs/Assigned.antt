@@ -39,7 +39,7 @@ use Rattle.tac_simulation.proofs.Evaluating.{ValueDoes, AtSpot, ComesToValue, va
 use Rattle.tac_simulation.proofs.Combining.{ticked, then_value}
 use Rattle.tac_simulation.proofs.Constants.{left_most}
 use Rattle.tac_simulation.proofs.Alive.{value_lasts}
-use Rattle.tac_simulation.proofs.Named.{value_named}
+use Rattle.tac_build.proofs.Named.{value_named}
 use Rattle.tac_simulation.proofs.Assigning.{IsHome, own_at, own_lives, local_holds, at_local_written, is_home, same_length}
 use Rattle.tac_simulation.proofs.Finding.{finds_local}
 

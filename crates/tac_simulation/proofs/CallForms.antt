@@ -37,8 +37,8 @@ use Rattle.tac_simulation.proofs.Paths.{Passage as Passing, Does, comes, stops, 
 use Rattle.tac_simulation.proofs.Spotting.{Runs}
 use Rattle.tac_simulation.proofs.Evaluating
 use Rattle.tac_simulation.proofs.Evaluating.{laid_by, all_passed_ticks, value_units, values_units, designator_units}
-use Rattle.tac_simulation.proofs.Naming.{call_grows, before_more}
-use Rattle.tac_simulation.proofs.Named.{designator_named}
+use Rattle.tac_build.proofs.Naming.{call_grows, before_more}
+use Rattle.tac_build.proofs.Named.{designator_named}
 use Rattle.tac_simulation.proofs.Lasting.{register_later}
 use Rattle.tac_simulation.proofs.Combining.{ticked}
 use Rattle.tac_simulation.proofs.Calling as Calling

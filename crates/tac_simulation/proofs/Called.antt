@@ -156,6 +156,7 @@ module _ (tac : Tac) (program : Program) (calls : Calls) (worth : ℕ) (points :
     structs = runs.structs;
     globals = runs.globals;
     literals = runs.literals;
+    known = runs.known;
   }
 
   -- Arguments stand for those of the reference, and the code is at the function's first point.

@@ -34,8 +34,8 @@ use Rattle.tac_simulation.proofs.Evaluating.{ValueDoes, ComesToValue, value_unit
 use Rattle.tac_simulation.proofs.Paths.{Stand, Passage as Passing, Does, comes, stops, slower, eases}
 use Rattle.tac_simulation.proofs.Combining.{ticked, puts, has_come}
 use Rattle.tac_simulation.proofs.Constants.{left_most}
-use Rattle.tac_simulation.proofs.Named.{value_named}
-use Rattle.tac_simulation.proofs.Naming.{grows_to, grows_then, temporary_grows, expression_grows, behind_grows, stays}
+use Rattle.tac_build.proofs.Named.{value_named}
+use Rattle.tac_build.proofs.Naming.{grows_to, grows_then, temporary_grows, expression_grows, behind_grows, stays}
 use Rattle.tac_simulation.proofs.Unchanged.{keeps_fewer, keeps_then}
 use Rattle.tac_simulation.proofs.Going.{gone, some_node, branches, jumps, assigns, writes}
 use Rattle.tac_simulation.proofs.Integers.{then_integer}

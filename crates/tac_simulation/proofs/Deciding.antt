@@ -37,8 +37,8 @@ use Rattle.tac_simulation.proofs.Evaluating.{ValueDoes, AtSpot, ComesToValue, va
 use Rattle.tac_simulation.proofs.Paths.{Passage as Passing, Does, slower}
 use Rattle.tac_simulation.proofs.Combining.{ticked, puts, has_come}
 use Rattle.tac_simulation.proofs.Constants.{left_most}
-use Rattle.tac_simulation.proofs.Named.{value_named}
-use Rattle.tac_simulation.proofs.Naming.{grows_then, temporary_grows}
+use Rattle.tac_build.proofs.Named.{value_named}
+use Rattle.tac_build.proofs.Naming.{grows_then, temporary_grows}
 use Rattle.tac_simulation.proofs.Unchanged.{keeps_fewer, keeps_then}
 use Rattle.tac_simulation.proofs.Computing.{truth_is, computes_truth}
 use Rattle.tac_simulation.proofs.Going.{gone, some_node, branches, jumps, assigns}

@@ -42,7 +42,7 @@ use Rattle.tac_simulation.proofs.Spotting.{Runs, with_written}
 use Rattle.tac_simulation.proofs.Evaluating.{ValueDoes, AtSpot, value_units, laid_by, left_for}
 use Rattle.tac_simulation.proofs.Combining.{then_value}
 use Rattle.tac_simulation.proofs.Constants.{left_most}
-use Rattle.tac_simulation.proofs.Named.{value_named}
+use Rattle.tac_build.proofs.Named.{value_named}
 use Rattle.tac_simulation.proofs.Assigning.{IsHome, own_at, local_holds}
 use Rattle.tac_simulation.proofs.Assigned.{writes_local, local_write}
 use Rattle.tac_simulation.proofs.Stored.{was_stored, with_stored, then_write}

@@ -21,16 +21,17 @@ use Rattle.tac_ir.specs.Code.{Op, Tac, Callee, Known, Through}
 use Rattle.tac_ir.specs.Code as O
 use Rattle.tac_ir.specs.Values as M
 use Rattle.tac_ir.specs.Trees.{Registers}
-use Rattle.tac_ir.specs.States.{State}
+use Rattle.tac_ir.specs.States as States
+use Rattle.tac_ir.specs.States.{State, write}
 use Rattle.tac_build.specs.Homes.{Scope}
-use Rattle.tac_build.specs.Spots.{Spot, Lowered, AsPointer, Mode, Kept}
+use Rattle.tac_build.specs.Spots.{Spot, expression, Lowered, AsPointer, Mode, Kept}
 use Rattle.tac_build.specs.Code.{Addresses, ValueCode, DesignatorCode}
 use Rattle.tac_simulation.specs.Comparing.{ticks_per_unit}
 use Rattle.tac_simulation.specs.Standing.{Placement, Frame, ScalarStands, At}
 use Rattle.tac_build.specs.Forms.{context_of, SpotGrows}
 use Rattle.tac_simulation.proofs.Paths.{Passage as Passing, Does, comes, stops, eased, eases, allows}
 use Rattle.tac_simulation.proofs.Spotting.{Runs, kept_same}
-use Rattle.tac_simulation.proofs.Named.{designator_named}
+use Rattle.tac_build.proofs.Named.{designator_named}
 use Rattle.tac_simulation.proofs.Evaluating.{AtSpot, Came, ComesToValue, ComesToCallee, CalleeStands, ValueDoes, DesignatorDoes, value_units, designator_units, laid_by, left_for}
 use Rattle.tac_simulation.proofs.Constants.{left_most}
 use Rattle.tac_simulation.proofs.Combining.{ticked, has_come}
@@ -133,7 +134,8 @@ module _ (tac : Tac) (program : Program) (calls : Calls) (worth : ℕ) (points :
       → CalleeStands tac program calls worth points placement hidden frame scope callee s.objects state.running.registers scalar → lag ≤ lag' → slack' + (if is_known callee then 1 else 0) ≤ slack
       → Does tac worth start n lag' slack' (ComesToValue tac program calls worth points placement hidden frame scope mode from to lowered before) (Then scalar s)
   addresses (Known number) c_type mode from mid to lowered before scalar s state p came grows code stands more less =
-      puts_pointer tac program calls worth points placement hidden frame scope runs well keep (λ register. O.FunctionAddress register number) c_type (M.Code number) mode from mid to lowered before scalar s state p came.there came.kept grows code refl
+      puts_pointer tac program calls worth points placement hidden frame scope runs well keep (λ register. O.FunctionAddress register number) c_type (M.Code number) mode from mid to lowered before scalar s state p came.there came.kept grows code
+      (ap (λ known. States.given known state (λ function. write (expression mid) (M.Code number) state)) (runs.known number stands.0 stands.1).1)
       (subst (λ v. ScalarStands program s.objects placement v (M.Code number)) (sym stands.2) (number, stands.1, refl)) more (omega (arith, less))
   addresses (Through register target) c_type mode from mid to lowered before scalar s state p came grows code stands more less =
       has_come tac program calls worth points placement hidden frame scope runs well keep mode from mid to lowered (AsPointer register target) before scalar s state p came.there came.kept code.0 code.1 stands more (omega (arith, less))

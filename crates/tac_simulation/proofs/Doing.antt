@@ -1,7 +1,9 @@
 -- What a point that looks at pointers does, where its registers hold them.
 use Rattle.std.proofs.Common.{◌≡◌, ℕ, not, Bool, true, Option, Some, ℤ, ap, ◌∙◌}
 use Rattle.run_theory.specs.Runs.{Move}
+use Rattle.c_num.specs.declared.IntType.TheVariants as I
 use Rattle.c_num.specs.declared.Relation.{Relation}
+use Rattle.c_num.specs.Types.{is_value}
 use Rattle.c_typed.specs.Types.{CType}
 use Rattle.tac_ir.specs.declared.register.Register.{Register}
 use Rattle.tac_ir.specs.Values.{Value, Number}
@@ -49,5 +51,7 @@ module _ (tac : Tac) (around : Surroundings) (state : State) where
   pub frees : (site : ℕ) (pointer : Register) (held : Value) → state.running.registers pointer ≡ Some held → execute tac around (O.Free site pointer) state ≡ free site held state
   frees site pointer held e = given_is (state.running.registers pointer) held state (λ value. free site value state) e
 
-  pub allocates : (site : ℕ) (size : Tree) (z : ℤ) → computes state.running.registers size ≡ Some z → execute tac around (O.Allocate site size) state ≡ allocate site (natural_of z) state
-  allocates site size z e = given_is (computes state.running.registers size) z state (λ z. allocate site (natural_of z) state) e
+  pub allocates : (site : ℕ) (size : Tree) (z : ℤ) → computes state.running.registers size ≡ Some z → is_value I.ULong z ≡ true → execute tac around (O.Allocate site size) state ≡ allocate site (natural_of z) state
+  allocates site size z e is =
+      given_is (computes state.running.registers size) z state (λ z. unless_lost (is_value I.ULong z) state (allocate site (natural_of z) state)) e
+      ∙ ap (λ b. unless_lost b state (allocate site (natural_of z) state)) is

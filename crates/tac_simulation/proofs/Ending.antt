@@ -177,9 +177,11 @@ module _ (program : Program) (placement placed : Placement) (hidden : ℕ → Op
   value_ended (IntegerValue z) value stands = stands
   value_ended NullValue value stands = stands
   value_ended (FunctionValue name) value stands = stands
-  value_ended (PointerValue place) value stands =
-      where_then (after place.name) _ _ (λ alive g. (g.0, g.1, (images place.name alive ∙ g.2.0, g.2.1), g.3)) (where_alive (s.objects place.name) (after place.name) _ (lives place.name) stands)
-  value_ended (RawPointer number) value stands = where_alive (s.objects (Heap number)) (after (Heap number)) _ (lives (Heap number)) stands
+  value_ended (PointerValue place) value stands = (
+    stands.0,
+    where_then (after place.name) _ _ (λ alive g. (g.0, g.1, (images place.name alive ∙ g.2.0, g.2.1), g.3)) (where_alive (s.objects place.name) (after place.name) _ (lives place.name) stands.1),
+  )
+  value_ended (RawPointer number) value stands = (stands.0, where_alive (s.objects (Heap number)) (after (Heap number)) _ (lives (Heap number)) stands.1)
 
   pub holds_ended : (scalar : Scalar) (held : Option Value) → HoldsFor program s.objects placed scalar held → HoldsFor program after placement scalar held
   holds_ended scalar held holds = (holds.0, holds.1, value_ended scalar holds.0 holds.2)

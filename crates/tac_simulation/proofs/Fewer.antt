@@ -27,8 +27,8 @@ module _ (program : Program) (placement placement' : Placement) (objects after :
   fewer_value NullValue value stands = stands
   fewer_value (FunctionValue name) value stands = stands
   fewer_value (PointerValue place) value stands =
-      where_fewer (objects place.name) (after place.name) _ _ (was_alive place.name) (λ lives h. (h.0, h.1, ((same place.name lives).1 ∙ h.2.0, h.2.1), h.3)) stands
-  fewer_value (RawPointer number) value stands = where_fewer (objects (Heap number)) (after (Heap number)) _ _ (was_alive (Heap number)) (λ lives h. h) stands
+      (stands.0, where_fewer (objects place.name) (after place.name) _ _ (was_alive place.name) (λ lives h. (h.0, h.1, ((same place.name lives).1 ∙ h.2.0, h.2.1), h.3)) stands.1)
+  fewer_value (RawPointer number) value stands = (stands.0, where_fewer (objects (Heap number)) (after (Heap number)) _ _ (was_alive (Heap number)) (λ lives h. h) stands.1)
 
   pub fewer_held : (scalar : Scalar) (held : Option Value) → HoldsFor program objects placement scalar held → HoldsFor program after placement' scalar held
   fewer_held scalar held holds = (holds.0, holds.1, fewer_value scalar holds.0 holds.2)

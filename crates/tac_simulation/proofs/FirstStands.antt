@@ -276,8 +276,11 @@ module _ (program : Program) (well : IsWellTyped program) (functions : List O.Fu
       subst (λ c. HoldsFor program objects no_object (PointerValue (walked (around_of program) (object_place name c) place.steps place.index)) (address_of tac place)) (sym root.typed) (
         Address root.object offset,
         value,
-        always (objects (walked (around_of program) (object_place name t) place.steps place.index).name)
-            (root.object, offset, (ap (image program no_object) stands.named ∙ root.is_image, refl), refl),
+        (
+          tt,
+          always (objects (walked (around_of program) (object_place name t) place.steps place.index).name)
+              (root.object, offset, (ap (image program no_object) stands.named ∙ root.is_image, refl), refl),
+        ),
       )
 
   value_stands : (t : CType) (value : first.FirstScalar) → is_scalar t ≡ true → is_first program t value ≡ true → HoldsFor program objects no_object (first_scalar program value) (constant_of tac value)

@@ -16,8 +16,8 @@ use Rattle.tac_build.specs.Homes.{Home, Scope, register_home, is_pure}
 use Rattle.tac_build.specs.Spots.{Spot, behind, with_temporary, temporary, Lowered, AsInteger, AsPointer, AsObject, AsNothing, Mode, Kept, Dropped, Behind, Row, is_used, is_followed, is_address, cast_mode, pointed_mode}
 use Rattle.tac_build.specs.Code.{PartCode, compound_tree, gives_old, is_up, pointed_by, call_gives, then_step, ReadsLocal, Loads, KeepsTree, WritesLocal, Stores, Joins, Decays, TakesAddress, Addresses, Indexes, ReadCode, AssignCode, CompoundCode, PointerCode, OneCode, SteppingCode, ValueCode, LibraryCode, ObjectCode}
 use Rattle.tac_build.specs.Forms.{IsStable, StepHolds, LoweredNamed, TreeStable, PathStable, StableWhere, StablePath, IsFixed, IsObjectFixed}
-use Rattle.tac_simulation.proofs.Naming.{before_stable, path_then}
-use Rattle.tac_simulation.proofs.Named.{value_named}
+use Rattle.tac_build.proofs.Naming.{before_stable, path_then}
+use Rattle.tac_build.proofs.Named.{value_named}
 
 -- ---- of what is told by equations
 

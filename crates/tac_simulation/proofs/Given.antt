@@ -62,8 +62,8 @@ module _ (program : Program) (s : S.State) (placement placement' : Placement) (a
   given_lasts NullValue value given stands = stands
   given_lasts (FunctionValue name) value given stands = stands
   given_lasts (PointerValue place) value given stands =
-      where_moves (after place.name) _ _ (λ h. (h.0, h.1, place_moves place h.0 h.1 given h.2, h.3)) (where_alive (s.objects place.name) (after place.name) _ (lives place.name given) stands)
-  given_lasts (RawPointer number) value given stands = where_alive (s.objects (Heap number)) (after (Heap number)) _ (lives (Heap number) given) stands
+      (stands.0, where_moves (after place.name) _ _ (λ h. (h.0, h.1, place_moves place h.0 h.1 given h.2, h.3)) (where_alive (s.objects place.name) (after place.name) _ (lives place.name given) stands.1))
+  given_lasts (RawPointer number) value given stands = (stands.0, where_alive (s.objects (Heap number)) (after (Heap number)) _ (lives (Heap number) given) stands.1)
 
   pub held_given : (scalar : Scalar) (held : Option Value) → NamesGiven s scalar → HoldsFor program s.objects placement scalar held → HoldsFor program after placement' scalar held
   held_given scalar held given holds = (holds.0, holds.1, given_lasts scalar holds.0 given holds.2)

@@ -39,7 +39,7 @@ use Rattle.tac_simulation.proofs.Parameters.{arguments_ticks, parameters_bound}
 pub runs_entered : (tac : Tac) (program : Program) (points : List Op) (frame : Frame) (site number : ℕ) (function : Function) (state : State) → Runs tac program points frame → slice_get tac.functions number ≡ Some function
     → Runs tac program function.points (entered site number function state)
 runs_entered tac program points frame site number function state runs is =
-    record { points_are = ap points_of is; objects_are = ap objects_of is; structs = runs.structs; globals = runs.globals; literals = runs.literals }
+    record { points_are = ap points_of is; objects_are = ap objects_of is; structs = runs.structs; globals = runs.globals; literals = runs.literals; known = runs.known }
 
 -- values that stand for these
 abbrev pub AllStand : Program → S.Objects → Placement → List Scalar → List Value → Type 0

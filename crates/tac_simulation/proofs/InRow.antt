@@ -1,5 +1,5 @@
 -- Pointers to elements of one row: they compare, and lie apart, as their indices do.
-use Rattle.std.proofs.Common.{◌≡◌, ℕ, ◌+◌, ◌*◌, ◌≤◌, ◌==◌, ◌&&◌, ◌||◌, not, if◌then◌else◌, Bool, true, false, List, [], ◌∷◌, Some, None, ℤ, pos, ◌-ℤ◌, int_div, refl, sym, ap, ◌∙◌, subst, eqb-true}
+use Rattle.std.proofs.Common.{◌≡◌, ℕ, ◌+◌, ◌*◌, ◌≤◌, ◌==◌, nat_lt, lt-ltb, arith, ◌&&◌, ◌||◌, not, if◌then◌else◌, Bool, true, false, List, [], ◌∷◌, Some, None, ℤ, pos, ◌-ℤ◌, int_div, refl, sym, ap, ◌∙◌, subst, eqb-true}
 use Rattle.std.proofs.lemmas.Bool.{false≢true, true≢false, and_parts, and_from, not-false}
 use Rattle.std.proofs.lemmas.Option.{same_Some}
 use Rattle.text_place.specs.declared.place.Pos.{Pos}
@@ -237,14 +237,14 @@ module _ (program : Program) (well : IsWellTyped program) (filled : are_filled p
       → C.difference around objects' t (Address object (offset_of (around_of program) p)) (Address other (offset_of (around_of program) q)) ≡ Some (Number (pos p.index -ℤ pos q.index))
   apart_places t p q object other one is is' there own size value =
       let own_size : size_in around.structs t ≡ size_in program.structs p.row.c_type = ap (λ structs. size_in structs t) same ∙ ap (size_in program.structs) (sym own) in
-      let i = offset_of (around_of program) p in
-      let j = offset_of (around_of program) q in
+      let has_byte : nat_lt 0 (size_in around.structs t) ≡ true = subst (λ n. nat_lt 0 n ≡ true) (sym own_size) (lt-ltb 0 (size_in program.structs p.row.c_type) (omega (arith, size))) in
       let z : int_div (pos (offset_of (around_of program) p) -ℤ pos (offset_of (around_of program) q)) (pos (size_in around.structs t)) ≡ pos p.index -ℤ pos q.index =
       (λ k. int_div (pos (offset_of (around_of program) p) -ℤ pos (offset_is p q one k)) (pos (own_size k))) ∙ difference_scaled p.row.start (size_in program.structs p.row.c_type) p.index q.index size in
-      ap (λ w. if same_object object other && (is_there (objects' object) && is_value I.Long w) then Some (Number w) else None) z
-      ∙ chosen_one (same_object object other && (is_there (objects' object) && is_value I.Long (pos p.index -ℤ pos q.index))) (Some (Number (pos p.index -ℤ pos q.index))) None
-      (and_from (same_object object other) (is_there (objects' object) && is_value I.Long (pos p.index -ℤ pos q.index)) (same_object_is p q object other one is is')
-      (and_from (is_there (objects' object)) (is_value I.Long (pos p.index -ℤ pos q.index)) there value))
+      ap (λ w. if same_object object other && (is_there (objects' object) && (nat_lt 0 (size_in around.structs t) && is_value I.Long w)) then Some (Number w) else None) z
+      ∙ chosen_one (same_object object other && (is_there (objects' object) && (nat_lt 0 (size_in around.structs t) && is_value I.Long (pos p.index -ℤ pos q.index)))) (Some (Number (pos p.index -ℤ pos q.index))) None
+      (and_from (same_object object other) (is_there (objects' object) && (nat_lt 0 (size_in around.structs t) && is_value I.Long (pos p.index -ℤ pos q.index))) (same_object_is p q object other one is is')
+      (and_from (is_there (objects' object)) (nat_lt 0 (size_in around.structs t) && is_value I.Long (pos p.index -ℤ pos q.index)) there
+      (and_from (nat_lt 0 (size_in around.structs t)) (is_value I.Long (pos p.index -ℤ pos q.index)) has_byte value)))
 
   pub difference_is : (here : Pos) (t : CType) (a b : Scalar) (held held' : Value) (answer : Scalar) (after : S.State) → is_complete program.structs t ≡ true
       → PointsTo program s t a → PointsTo program s t b → ScalarStands program s.objects placement a held → ScalarStands program s.objects placement b held'

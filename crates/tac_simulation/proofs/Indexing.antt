@@ -36,7 +36,7 @@ use Rattle.tac_build.specs.Spots.{Spot, behind, with_temporary, temporary, Lower
 use Rattle.tac_build.specs.Code as C
 use Rattle.tac_build.specs.Code.{path_from, then_step, Indexes, ValueCode}
 use Rattle.tac_build.specs.Forms.{context_of, HasForm, SpotGrows}
-use Rattle.tac_simulation.proofs.Naming.{grows_to, grows_then, temporary_grows, behind_grows}
+use Rattle.tac_build.proofs.Naming.{grows_to, grows_then, temporary_grows, behind_grows}
 use Rattle.tac_simulation.specs.Standing.{Placement, Frame, KeepsBefore, At, IsAlive, WhereAlive, MemoryStands, HoldsFor, LoweredStands, PathStands, surroundings}
 use Rattle.tac_simulation.proofs.Paths.{Passage as Passing, Does, comes, eased, eases, allows}
 use Rattle.tac_simulation.proofs.Spotting.{Runs}
@@ -49,7 +49,7 @@ use Rattle.tac_simulation.proofs.Alive.{where_alive}
 use Rattle.tac_simulation.proofs.Lasting.{lives_later, holds_later}
 use Rattle.tac_simulation.proofs.Looking.{not_dead, when_alive, living_place}
 use Rattle.tac_simulation.proofs.Moving.{offset_moves}
-use Rattle.tac_simulation.proofs.Named.{value_named}
+use Rattle.tac_build.proofs.Named.{value_named}
 use Rattle.tac_simulation.proofs.Parts.{array_place}
 use Rattle.tac_simulation.proofs.Unchanged.{value_leads, pointer_keeps, keeps_fewer, keeps_then}
 use Rattle.tac_simulation.proofs.Leading.{cost_then, leads_then}

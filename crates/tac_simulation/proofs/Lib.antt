@@ -15,9 +15,8 @@ pub mod Placing
 pub mod Filled
 pub mod Accessing
 pub mod Paths
+pub mod Fitting
 pub mod Fixed
-pub mod Named
-pub mod Naming
 pub mod PureCode
 pub mod Shapes
 pub mod Unchanged

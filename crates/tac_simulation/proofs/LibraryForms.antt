@@ -1,14 +1,16 @@
 -- The code of library calls (C17 7.21.7, 7.22.3, 7.22.4.4).
-use Rattle.std.proofs.Common.{◌≡◌, ℕ, zero, suc, ◌+◌, ◌≤◌, ◌<◌, ◌==◌, ◌||◌, not, Bool, true, false, List, [], ◌∷◌, ◌++◌, Option, Some, ℤ, pos, negsuc, refl, sym, ap, ◌∙◌, subst, arith}
+use Rattle.std.proofs.Common.{◌≡◌, ℕ, zero, suc, ◌+◌, ◌≤◌, ◌<◌, ◌==◌, ◌||◌, not, Bool, true, false, List, [], ◌∷◌, ◌++◌, Option, Some, None, ℤ, pos, negsuc, refl, sym, ap, ◌∙◌, subst, arith}
 use Rattle.std.proofs.lemmas.Bool.{false≢true, not-false, and_parts}
+use Rattle.std.proofs.lemmas.Option.{none-some, same_Some}
 use Rattle.text_place.specs.declared.place.Pos.{Pos}
 use Rattle.run_theory.specs.declared.ends.UbKind.TheVariants as Ub
 use Rattle.run_theory.specs.Runs.{Trace, Move, To, Halt, Freed, Output, Allocated, Over, Ended}
 use Rattle.c_num.specs.declared.IntType.TheVariants as I
 use Rattle.c_num.specs.Conversion.{bits_of}
+use Rattle.c_num.specs.Types.{is_value}
 use Rattle.c_typed.specs.declared.typed.LibraryFunction.{LibraryFunction}
 use Rattle.c_typed.specs.declared.typed.LibraryFunction.TheVariants as L
-use Rattle.c_typed.specs.Types.{CType, CTypes, Void, NoTypes, MoreTypes, Pointer}
+use Rattle.c_typed.specs.Types.{CType, CTypes, Void, Integer, NoTypes, MoreTypes, Pointer, same_type, same_types}
 use Rattle.c_typed.specs.Typed as T
 use Rattle.c_typed.specs.Typed.{Value, Values, Program}
 use Rattle.c_well_typed.specs.Expressions.{given, given_two, library_result, type_of}
@@ -25,7 +27,8 @@ use Rattle.ref_semantics.specs.Meaning.{Calls, value, values}
 use Rattle.ref_semantics.specs.First.{around_of}
 use Rattle.ref_typing.specs.Sound.{HasType}
 use Rattle.ref_typing.specs.Keeping.{CallsKeep}
-use Rattle.c_well_typed.proofs.Splitting.{given_parts, two_parts}
+use Rattle.c_typed.proofs.Same.{same_type-true}
+use Rattle.c_well_typed.proofs.Splitting.{held_parts, given_parts, two_parts}
 use Rattle.tac_ir.specs.declared.register.Local.{Local}
 use Rattle.tac_ir.specs.declared.register.Register.TheVariants as R
 use Rattle.tac_ir.specs.Code.{Op, Tac, Held}
@@ -51,7 +54,7 @@ use Rattle.tac_simulation.proofs.Paths.{Stand, Passage as Passing, Does, Passes,
 use Rattle.tac_simulation.proofs.Spotting.{Runs, kept_write, written_there, before_at, around_is}
 use Rattle.tac_simulation.proofs.Evaluating
 use Rattle.tac_simulation.proofs.Evaluating.{ValueDoes, laid_by, left_for, value_units, values_units}
-use Rattle.tac_simulation.proofs.Naming.{call_grows, before_more}
+use Rattle.tac_build.proofs.Naming.{call_grows, before_more}
 use Rattle.tac_build.proofs.Forms.{value_form}
 use Rattle.tac_simulation.proofs.Answered.{past, gave}
 use Rattle.tac_simulation.proofs.Equality.{neither_of}
@@ -75,6 +78,13 @@ one_type first rule t typed =
     let types = given_parts (given_two first (Some NoTypes) (λ u types. Some (MoreTypes u types))) rule t typed in
     let parts = two_parts first (Some NoTypes) (λ u types. Some (MoreTypes u types)) types.0 types.1 in
     (parts.a, parts.left)
+
+-- the size of an allocation is an unsigned long
+size_type : (first : Option CType) (t : CType) → given (given_two first (Some NoTypes) (λ u types. Some (MoreTypes u types))) (library_result L.Malloc) ≡ Some t → first ≡ Some (Integer I.ULong)
+size_type (Some u) t typed =
+    let same = (held_parts (same_types (MoreTypes (Integer I.ULong) NoTypes) (MoreTypes u NoTypes)) (Pointer Void) t typed).0 in
+    ap Some (sym (same_type-true (Integer I.ULong) u (and_parts (same_type (Integer I.ULong) u) (same_types NoTypes NoTypes) same).0))
+size_type None t typed = absurd (none-some t typed)
 
 allocated_guards : (size : ℕ) (s : S.State) → Guards (allocated size s)
 allocated_guards zero s = goes NullValue s
@@ -207,6 +217,7 @@ module _ (tac : Tac) (program : Program) (calls : Calls) (worth : ℕ) (points :
   pub allocates : (size : Value) (groups : ℕ) (place : Pos) → Follows size → Follows (T.LibraryCall L.Malloc groups place (T.MoreValues size T.NoValues))
   allocates size groups place follows mode from to lowered t code typed small start n lag slack s state p at =
       let first = one_type (type_of (context_of program scope) size) (library_result L.Malloc) t typed in
+      let form : first.0 ≡ Integer I.ULong = same_Some first.0 (Integer I.ULong) (sym first.1 ∙ size_type (type_of (context_of program scope) size) t typed) in
       let least = left_most size in
       begins L.Malloc groups place (T.MoreValues size T.NoValues) from.at s state p at (omega arith) (λ left p1 at1.
       subst (λ outcome. Does tac worth start n (lag + (2 + groups + values_units (T.MoreValues size T.NoValues))) (slack + (laid_by lowered + 6))
@@ -225,6 +236,7 @@ module _ (tac : Tac) (program : Program) (calls : Calls) (worth : ℕ) (points :
         trace = (state1.trace ++ both.events) ++ Crossed state1.running.at (suc state1.running.at) ∷ [];
         paid = 0;
       } in
+      let fits : is_value I.ULong come.1.0 ≡ true = subst (HasType program s1 (Integer I.ULong)) come.1.1 (subst (λ u. HasType program s1 u a) form holds) in
       let size_is : natural_of come.1.0 ≡ Library.natural_of (integer_of a) = same_natural come.1.0 ∙ ap (λ v. Library.natural_of (integer_of v)) (sym come.1.1) in
       let there : At program placement hidden frame scope (suc code.0.at) after last =
       subst (λ (end : S.State). At program placement hidden frame scope (suc code.0.at) end last) (sym both.after_is)
@@ -236,7 +248,8 @@ module _ (tac : Tac) (program : Program) (calls : Calls) (worth : ℕ) (points :
       code.0.at both.next_heap both.next_heap s1.input state1.input (s1.trace ++ seen both.events) last.trace refl stands.input
       (seen_emitted state1.trace both.events state1.running.at (suc state1.running.at) ∙ ap (λ trace. trace ++ seen both.events) stands.trace) come.0.there) in
       finishes (O.Allocate from.counts.calls code.2) mode from code.0 to lowered (AsPointer (R.Call from.counts.calls) Void) state.running.registers answer s1 after state1 last p2 come.0.there code.4.0
-      (ap (λ found. States.given found state1 (λ z. allocate from.counts.calls (natural_of z) state1)) come.1.2 ∙ (ap (λ k. allocate from.counts.calls k state1) size_is ∙ both.done))
+      (ap (λ found. States.given found state1 (λ z. unless_lost (is_value I.ULong z) state1 (allocate from.counts.calls (natural_of z) state1))) come.1.2
+      ∙ (ap (λ b. unless_lost b state1 (allocate from.counts.calls (natural_of come.1.0) state1)) fits ∙ (ap (λ k. allocate from.counts.calls k state1) size_is ∙ both.done)))
       (ap (λ (end : S.State). end.units) both.after_is) there
       (λ register before. kept_write from.counts (R.Call from.counts.calls) (Some both.held) state1.running.registers (omega arith) register before ∙ come.0.kept register (before_more (call_grows from) register before))
       (ap (λ (spot : Spot). spot.at) code.4.1) code.5

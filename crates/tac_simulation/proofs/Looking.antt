@@ -44,7 +44,7 @@ module _ (program : Program) (placement : Placement) (objects : S.Objects) (obje
   pub living_place : (place : Place) (value : Value) → is_dead (objects place.name) ≡ false → ScalarStands program objects placement (PointerValue place) value → Living place value
   living_place place value lives stands =
       let alive = not_dead (objects place.name) lives in
-      let h = when_alive (objects place.name) _ alive stands in
+      let h = when_alive (objects place.name) _ alive stands.1 in
       record {
         object = h.0;
         is_image = h.2.0;
@@ -56,7 +56,7 @@ module _ (program : Program) (placement : Placement) (objects : S.Objects) (obje
   pub living_raw : (number : ℕ) (value : Value) → is_dead (objects (Heap number)) ≡ false → ScalarStands program objects placement (RawPointer number) value → (value ≡ Address (OfHeap number) 0) × (is_there (objects' (OfHeap number)) ≡ true)
   living_raw number value lives stands =
       let alive = not_dead (objects (Heap number)) lives in
-      (when_alive (objects (Heap number)) _ alive stands, is_there_if program objects placement (objects (Heap number)) (objects' (OfHeap number)) alive (memory.contents (Heap number) (OfHeap number) refl))
+      (when_alive (objects (Heap number)) _ alive stands.1, is_there_if program objects placement (objects (Heap number)) (objects' (OfHeap number)) alive (memory.contents (Heap number) (OfHeap number) refl))
 
   -- a pointer that isn't dead may be looked at
   pub looked_at_alive : (scalar : Scalar) (value : Value) → IsPointer scalar → is_dead_pointer objects scalar ≡ false → ScalarStands program objects placement scalar value → is_alive objects' value ≡ true

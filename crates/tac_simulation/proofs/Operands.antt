@@ -34,8 +34,8 @@ use Rattle.tac_simulation.proofs.Going.{keeps_tree}
 use Rattle.tac_simulation.proofs.Paths.{Stand, Passage as Passing, Does, comes, stops, slower, eases, allows}
 use Rattle.tac_simulation.proofs.Constants.{left_most}
 use Rattle.tac_build.proofs.Forms.{value_form}
-use Rattle.tac_simulation.proofs.Named.{value_named}
-use Rattle.tac_simulation.proofs.Naming.{stays, grows_to, grows_then, temporary_grows, behind_grows}
+use Rattle.tac_build.proofs.Named.{value_named}
+use Rattle.tac_build.proofs.Naming.{stays, grows_to, grows_then, temporary_grows, behind_grows}
 use Rattle.tac_simulation.proofs.Unchanged.{keeps_fewer, keeps_then}
 use Rattle.tac_simulation.proofs.Integers.{integer_fits}
 

@@ -86,7 +86,7 @@ module _ (program : Program) (well : IsWellTyped program) (placement : Placement
 
   -- the place stands for a value
   pub stands_at : (place : Place) (object : Object) (offset : ℕ) → image program placement place.name ≡ Some object → offset ≡ offset_of (around_of program) place → ScalarStands program s.objects placement (PointerValue place) (Address object offset)
-  stands_at place object offset is e = always (s.objects place.name) (object, offset, (is, e), refl)
+  stands_at place object offset is e = (tt, always (s.objects place.name) (object, offset, (is, e), refl))
 
   -- a pointer that moves to an element of the same row, or to its end
   pub added_moves : (around : Surroundings) → around.structs ≡ program.structs → (place : Place) (value : Value) (z : ℤ) (idx : ℕ) → Placed program placement s objects' place value

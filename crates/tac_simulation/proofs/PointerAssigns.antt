@@ -35,8 +35,8 @@ use Rattle.tac_simulation.proofs.Spotting.{Runs}
 use Rattle.tac_simulation.proofs.Evaluating.{ValueDoes, FindDoes, AtSpot, ComesToValue, value_units, laid_by, left_for, stood}
 use Rattle.tac_simulation.proofs.Combining.{ticked}
 use Rattle.tac_simulation.proofs.Constants.{left_most}
-use Rattle.tac_simulation.proofs.Named.{value_named, object_named}
-use Rattle.tac_simulation.proofs.Naming.{lowered_later}
+use Rattle.tac_build.proofs.Named.{value_named, object_named}
+use Rattle.tac_build.proofs.Naming.{lowered_later}
 use Rattle.tac_simulation.proofs.Unchanged.{keeps_fewer, keeps_then}
 use Rattle.tac_build.proofs.Forms.{object_form}
 use Rattle.tac_simulation.proofs.Resting.{ValueRests}

@@ -44,8 +44,8 @@ use Rattle.tac_simulation.proofs.Spotting.{Runs, kept_write, written_there, befo
 use Rattle.tac_simulation.proofs.Alive.{LivesBefore}
 use Rattle.tac_simulation.proofs.Changing.{at_changed}
 use Rattle.tac_simulation.proofs.Repointing.{repointed_is}
-use Rattle.tac_simulation.proofs.Named.{gives_integer, value_named}
-use Rattle.tac_simulation.proofs.Naming.{grows_then}
+use Rattle.tac_build.proofs.Named.{gives_integer, value_named}
+use Rattle.tac_build.proofs.Naming.{grows_then}
 use Rattle.tac_build.proofs.Forms.{value_form}
 use Rattle.tac_simulation.proofs.Evaluating.{AtSpot, Came, ComesToValue, ValueDoes, value_units, laid_by, left_for, stood}
 use Rattle.tac_simulation.proofs.Combining.{ticked, then_value}

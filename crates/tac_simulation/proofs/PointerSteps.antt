@@ -36,7 +36,7 @@ use Rattle.tac_simulation.specs.Standing.{Placement, Frame, KeepsBefore, At, Sca
 use Rattle.tac_simulation.proofs.Paths.{Stand, Passage as Passing, Does, stray}
 use Rattle.tac_simulation.proofs.Spotting.{Runs, kept_write, written_there, with_written}
 use Rattle.tac_simulation.proofs.Alive.{value_lasts}
-use Rattle.tac_simulation.proofs.Naming.{lowered_later, behind_grows, expression_grows, grows_then}
+use Rattle.tac_build.proofs.Naming.{lowered_later, behind_grows, expression_grows, grows_then}
 use Rattle.tac_simulation.proofs.Unchanged.{tree_same, keeps_fewer, keeps_then}
 use Rattle.tac_simulation.proofs.Adding.{added_is}
 use Rattle.tac_simulation.proofs.Guarding.{Guards, goes, strays, added_guards}

@@ -35,7 +35,7 @@ use Rattle.tac_build.specs.Forms.{IsBefore, scope_types, context_of, SpotGrows}
 use Rattle.tac_simulation.proofs.Paths.{Stand, Passage as Passing, Passes, Does, eased, stepped}
 use Rattle.tac_simulation.proofs.Spotting.{Runs, kept_write, written_there, before_at, with_written, at_written}
 use Rattle.tac_build.proofs.Forms.{value_form}
-use Rattle.tac_simulation.proofs.Named.{value_named}
+use Rattle.tac_build.proofs.Named.{value_named}
 use Rattle.tac_simulation.proofs.Unchanged.{keeps_fewer, keeps_then}
 use Rattle.tac_simulation.proofs.Lasting.{value_later}
 use Rattle.tac_simulation.proofs.Adding.{added_is}

@@ -33,7 +33,7 @@ use Rattle.tac_ir.specs.Code as O
 use Rattle.tac_ir.specs.Events.{TacEvent, ReadFrom, seen}
 use Rattle.tac_ir.specs.Values as M
 use Rattle.tac_ir.specs.Values.{Number, Address, OfActivation}
-use Rattle.tac_ir.specs.Objects.{leads, stands_at, held_at}
+use Rattle.tac_ir.specs.Objects.{fits, leads, stands_at, held_at}
 use Rattle.tac_ir.specs.Trees.{Registers, integer_in, with_register}
 use Rattle.tac_ir.specs.Costs.{path_cost}
 use Rattle.tac_ir.specs.States as A
@@ -54,10 +54,11 @@ use Rattle.tac_simulation.proofs.Evaluating.{ValueDoes, laid_by, object_units, s
 use Rattle.tac_simulation.proofs.Combining.{puts, has_come}
 use Rattle.tac_build.proofs.Forms.{value_form, object_form}
 use Rattle.tac_simulation.proofs.Accessing.{access_stands, read_stands}
+use Rattle.tac_simulation.proofs.Fitting.{stands_fits}
 use Rattle.tac_simulation.proofs.Placing.{Placed, placed}
 use Rattle.tac_simulation.proofs.Placing as Placing
 use Rattle.tac_simulation.proofs.Leading.{found_home}
-use Rattle.tac_simulation.proofs.Named.{object_named}
+use Rattle.tac_build.proofs.Named.{object_named}
 use Rattle.tac_simulation.proofs.Unchanged.{keeps_fewer, keeps_then}
 use Rattle.tac_simulation.proofs.Finding.{Finds, FoundLocal, finds_local, then_find, unless_does}
 
@@ -279,16 +280,18 @@ module _ (tac : Tac) (program : Program) (calls : Calls) (worth : ℕ) (points :
       let accessible : stands_at program.structs own (offset_of (around_of program) place) (state.objects at.object) ≡ true
       = subst (λ c. stands_at program.structs c (offset_of (around_of program) place) (state.objects at.object) ≡ true) is (access_stands program well placement s state.objects memory t place at.object at.is_image at.typed leaf) in
       let held = read_stands program well placement s state.objects memory t place at.object at.is_image at.typed leaf scalar holds element.is_own in
+      let typed = (read_keeps program well (scope_types scope) s sound here t place scalar_type element).gives scalar (record s { trace = s.trace ++ access Loaded place.name }) (read_is program here place s scalar lives holds) in
+      let fitting : fits own held.0 ≡ true = subst (λ c. fits c held.0 ≡ true) is (stands_fits program s.objects placement (record s { trace = s.trace ++ access Loaded place.name }) t scalar held.0 scalar_type typed.1 held.2) in
       let to_load = loads_to points own path mid to lowered code in
       let does : execute tac (surroundings program frame) (O.Load to_load.register own path) state ≡ write to_load.register held.0 (record state { trace = state.trace ++ A.access ReadFrom at.object })
       = ap (λ reached. A.given reached state (load (surroundings program frame) to_load.register own state)) found
-      ∙ ap (λ (b : Bool). A.unless_lost b state (A.given (held_at (offset_of (around_of program) place) (state.objects at.object)) state (λ value. write to_load.register value (A.emit (A.access ReadFrom at.object) state)))) accessible
-      ∙ ap (λ value. A.given value state (λ value'. write to_load.register value' (A.emit (A.access ReadFrom at.object) state))) held.1 in
+      ∙ ap (λ (b : Bool). A.unless_lost b state (A.given (held_at (offset_of (around_of program) place) (state.objects at.object)) state (λ value. A.unless_lost (fits own value) state (write to_load.register value (A.emit (A.access ReadFrom at.object) state))))) accessible
+      ∙ ap (λ value. A.given value state (λ value'. A.unless_lost (fits own value') state (write to_load.register value' (A.emit (A.access ReadFrom at.object) state)))) held.1
+      ∙ ap (λ (b : Bool). A.unless_lost b state (write to_load.register held.0 (A.emit (A.access ReadFrom at.object) state))) fitting in
       let passes : Passes tac (O.Load to_load.register own path) state (with_written tac program points placement hidden frame scope runs to_load.register held.0 (record state { trace = state.trace ++ A.access ReadFrom at.object })) = record {
         before = before_at tac program points placement hidden frame scope runs mid.at (O.Load to_load.register own path) s state to_load.has h;
         does = ap (λ around. execute tac around (O.Load to_load.register own path) state) (around_is tac program points placement hidden frame scope runs mid.at s state h) ∙ does;
       } in
-      let typed = (read_keeps program well (scope_types scope) s sound here t place scalar_type element).gives scalar (record s { trace = s.trace ++ access Loaded place.name }) (read_is program here place s scalar lives holds) in
       let there = at_written tac program points placement hidden frame scope runs mid.at to_load.register held.0 (record s { trace = s.trace ++ access Loaded place.name }) (record state { trace = state.trace ++ A.access ReadFrom at.object }) to_load.no_local
       (at_emitted mid.at (access Loaded place.name) (A.access ReadFrom at.object) s state (same_access place.name at.object s state h.stands at.is_image) h) in
       let laid = ap laid_by to_load.is in

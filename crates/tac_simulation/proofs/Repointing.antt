@@ -24,7 +24,7 @@ use Rattle.tac_ir.specs.Layouts.{size_of}
 use Rattle.tac_ir.specs.Objects.{Surroundings}
 use Rattle.tac_ir.specs.States.{State, write, store_content, given}
 use Rattle.tac_ir.specs.Pointers.{is_alive, typed_content, repoint}
-use Rattle.tac_simulation.specs.Standing.{Placement, WhereAlive, ScalarStands, ContentStands, IsAlive, MemoryStands}
+use Rattle.tac_simulation.specs.Standing.{Placement, WhereAlive, IsAddress, ScalarStands, ContentStands, IsAlive, MemoryStands}
 use Rattle.tac_simulation.proofs.Alive.{LivesBefore}
 use Rattle.tac_simulation.proofs.Memory.{same_object-true, stored_stands, lives_before}
 use Rattle.tac_simulation.proofs.Looking.{looked_at_alive, not_dead, living_raw}
@@ -118,7 +118,7 @@ module _ (program : Program) (well : IsWellTyped program) (placement : Placement
   fresh_stands size = ((λ offset. None), refl, λ offset own scalar leaf is. absurd (none-some scalar is))
 
   begins : (number count : ℕ) (c_type : CType) (objects : S.Objects) (held : Value) → held ≡ Address (OfHeap number) 0 → ScalarStands program objects placement (PointerValue (first_of_row (Heap number) (whole_row c_type count))) held
-  begins number count c_type objects held is = wherever (objects (Heap number)) (OfHeap number, 0, (refl, at_beginning (size_in program.structs c_type)), is)
+  begins number count c_type objects held is = (subst IsAddress (sym is) tt, wherever (objects (Heap number)) (OfHeap number, 0, (refl, at_beginning (size_in program.structs c_type)), is))
 
   of_allocation_is : (here : Pos) (number : ℕ) (held : Value) (answer : Scalar) (after : S.State) → is_complete program.structs target ≡ true → is_dead_pointer s.objects (RawPointer number) ≡ false
       → ScalarStands program s.objects placement (RawPointer number) held → (own : V.Content) → s.objects (Heap number) ≡ own → of_allocation (around_of program) here target number own s ≡ Then answer after

@@ -42,7 +42,7 @@ use Rattle.tac_simulation.proofs.Computing.{truth_fits, computes_compare}
 use Rattle.tac_build.proofs.Forms.{value_form}
 use Rattle.tac_simulation.proofs.Going.{gone, some_node, branches, jumps, assigns}
 use Rattle.tac_simulation.proofs.Integers.{integer_fits}
-use Rattle.tac_simulation.proofs.Named.{value_named}
+use Rattle.tac_build.proofs.Named.{value_named}
 use Rattle.tac_simulation.proofs.Widening.{Wider, wider_grows, have_before, numbered_behind, stmt_wider, items_wider}
 use Rattle.tac_simulation.proofs.Executing.{label_units, switch_units, stmt_units, left_behind, HaveObjects, item_at, entry_at, Executes, ExecutesItems, Enters, TestsItems}
 use Rattle.tac_simulation.proofs.Statements.{held_type}

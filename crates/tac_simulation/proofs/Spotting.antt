@@ -1,5 +1,6 @@
 -- How code at a spot goes on: a unit is spent, a point is passed, a register is written.
 use Rattle.std.proofs.Common.{◌≡◌, ℕ, suc, ◌≤◌, ◌<◌, ◌==◌, Bool, true, false, List, [], ◌∷◌, ◌++◌, Option, Some, refl, ap, ◌∙◌, ne_eqb, eq-eqb, arith}
+use Rattle.std.specs.Prelude.{slice_get}
 use Rattle.std.proofs.lemmas.Bool.{cond-false, cond-true}
 use Rattle.run_theory.specs.Runs.{To}
 use Rattle.c_typed.specs.Typed.{Program}
@@ -9,26 +10,27 @@ use Rattle.tac_ir.specs.declared.program.Counts.{Counts}
 use Rattle.tac_ir.specs.declared.register.Local.{Local}
 use Rattle.tac_ir.specs.declared.register.Register.{Register}
 use Rattle.tac_ir.specs.declared.register.Register.TheVariants as R
-use Rattle.tac_ir.specs.Code.{Op, Tac}
+use Rattle.tac_ir.specs.Code.{Op, Function, Tac}
 use Rattle.tac_ir.specs.Values.{Value}
 use Rattle.tac_ir.specs.Events.{Crossed}
 use Rattle.tac_ir.specs.Trees.{Registers, with_register, same_register}
 use Rattle.tac_ir.specs.States.{State, function_of, points_of, objects_of, around_of, write}
 use Rattle.tac_ir.proofs.Seen.{seen_crossed}
 use Rattle.tac_build.specs.Homes.{Home, Scope}
-use Rattle.tac_build.specs.Code.{HasOp}
+use Rattle.tac_build.specs.Code.{HasOp, function_number}
 use Rattle.tac_build.specs.Forms.{IsBefore}
 use Rattle.tac_simulation.specs.Standing.{Placement, Frame, HomeStands, HomesStand, At, KeepsBefore, surroundings}
 use Rattle.tac_simulation.proofs.Memory.{same_local-refl}
 use Rattle.tac_simulation.proofs.Paths.{Before, before_op}
 
--- the points and objects are those of the activation's function, and static objects those of the program
+-- the points and objects are those of the activation's function, static objects those of the program, and functions that have a number are there
 pub record Runs (tac : Tac) (program : Program) (points : List Op) (frame : Frame) : Type 0 where
   pub points_are : points_of (function_of tac frame.owner) ≡ points
   pub objects_are : objects_of (function_of tac frame.owner) ≡ frame.objects
   pub structs : tac.structs ≡ program.structs
   pub globals : tac.globals ≡ program.globals
   pub literals : tac.literals ≡ program.literals
+  pub known : (number : ℕ) (name : List ℕ) → function_number 0 program.functions name ≡ Some number → (function : Function) × (slice_get tac.functions number ≡ Some function)
 
 -- ---- registers
 

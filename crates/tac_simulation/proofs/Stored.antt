@@ -46,6 +46,7 @@ use Rattle.tac_simulation.proofs.Alive.{LivesBefore, held_lasts}
 use Rattle.tac_simulation.proofs.Memory.{same_object-true, lives_before}
 use Rattle.tac_simulation.proofs.Placing.{TypedBoth, placed, stands_at}
 use Rattle.tac_simulation.proofs.Accessing.{access_stands, read_stands, write_stands}
+use Rattle.tac_simulation.proofs.Fitting.{stands_fits}
 use Rattle.tac_simulation.proofs.Paths.{Stand, Passage as Passing, Passes, Does, stepped, stray}
 use Rattle.tac_simulation.proofs.Spotting.{Runs, IsNoLocal, no_local, homes_same, before_at, around_is}
 
@@ -243,11 +244,12 @@ module _ (tac : Tac) (program : Program) (worth : ℕ) (points : List Op) (place
           let holds = read_stands program well placement s state.objects h.stands.memory t place a.object a.is_image a.typed a.leaf scalar is element.is_own in
           let read_is : read (around_of program) here place s ≡ Then scalar (was_read place.name s) = rw (lives, is) refl in
           let typed = (read_keeps program well (scope_types scope) s sound here t place is_scalar_type element).gives scalar (was_read place.name s) read_is in
+          let fitting = stands_fits program s.objects placement (was_read place.name s) t scalar holds.0 is_scalar_type typed.1 holds.2 in
           let passes : Passes tac (O.Load register own path) state (with_read register holds.0 a.object state) = record {
             before = before_at tac program points placement hidden frame scope runs at (O.Load register own path) s state has h;
             does = ap (λ around. execute tac around (O.Load register own path) state) (around_is tac program points placement hidden frame scope runs at s state h)
                 ∙ ap (λ c. execute tac (surroundings program frame) (O.Load register c path) state) same
-                ∙ (rw (a.leads_there, stands_there, holds.1) refl);
+                ∙ (rw (a.leads_there, stands_there, holds.1, fitting) refl);
           } in
           rest a.object scalar holds.0 (record {
             passing = stepped p passes (omega arith) less;

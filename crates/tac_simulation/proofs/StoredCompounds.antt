@@ -50,8 +50,8 @@ use Rattle.tac_simulation.proofs.Spotting.{Runs, written_there}
 use Rattle.tac_simulation.proofs.Evaluating.{ValueDoes, FindDoes, AtSpot, ComesToValue, value_units, laid_by, left_for, stood}
 use Rattle.tac_simulation.proofs.Combining.{ticked}
 use Rattle.tac_simulation.proofs.Constants.{left_most}
-use Rattle.tac_simulation.proofs.Named.{value_named, object_named}
-use Rattle.tac_simulation.proofs.Naming.{lowered_later, behind_grows, temporary_grows, grows_then}
+use Rattle.tac_build.proofs.Named.{value_named, object_named}
+use Rattle.tac_build.proofs.Naming.{lowered_later, behind_grows, temporary_grows, grows_then}
 use Rattle.tac_simulation.proofs.Unchanged.{tree_same, keeps_fewer, keeps_then}
 use Rattle.tac_build.proofs.Forms.{value_form, object_form}
 use Rattle.tac_simulation.proofs.Integers.{integer_fits}

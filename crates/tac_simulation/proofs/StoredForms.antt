@@ -44,8 +44,8 @@ use Rattle.tac_simulation.proofs.Evaluating.{ValueDoes, FindDoes, AtSpot, ComesT
 use Rattle.tac_simulation.proofs.Combining.{ticked}
 use Rattle.tac_simulation.proofs.Constants.{left_most}
 use Rattle.tac_simulation.proofs.Alive.{value_lasts}
-use Rattle.tac_simulation.proofs.Named.{value_named, object_named}
-use Rattle.tac_simulation.proofs.Naming.{lowered_later, path_more, before_named}
+use Rattle.tac_build.proofs.Named.{value_named, object_named}
+use Rattle.tac_build.proofs.Naming.{lowered_later, path_more, before_named}
 use Rattle.tac_simulation.proofs.Unchanged.{object_leads, path_same, keeps_fewer, keeps_then}
 use Rattle.tac_build.proofs.Forms.{object_form}
 use Rattle.tac_simulation.proofs.Resting.{ValueRests}

@@ -17,8 +17,8 @@ use Rattle.tac_build.specs.Spots.{Spot, Lowered, AsInteger, AsPointer, AsObject,
 use Rattle.tac_build.specs.Code.{ValueCode, ObjectCode}
 use Rattle.tac_simulation.specs.Standing.{KeepsBefore, Placement, Frame, WhereAlive, surroundings, PathStands, PointedStands, FoundStands, LoweredStands}
 use Rattle.tac_build.specs.Forms.{IsBefore, IsNamed, IsStable, TreeHolds, BaseHolds, StepHolds, StepsHold, PathHolds, TreeNamed, TreeStable, PathNamed, PathStable, LoweredNamed, LoweredStable, SpotGrows}
-use Rattle.tac_simulation.proofs.Naming.{named_before, before_more}
-use Rattle.tac_simulation.proofs.Named.{value_named, object_named}
+use Rattle.tac_build.proofs.Naming.{named_before, before_more}
+use Rattle.tac_build.proofs.Named.{value_named, object_named}
 use Rattle.tac_simulation.proofs.Fixed.{followed_path, value_fixed, object_fixed}
 
 module _ (P : Register → Type 0) (before after : Registers) (same : (register : Register) → P register → after register ≡ before register) where

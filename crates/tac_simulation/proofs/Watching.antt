@@ -4,12 +4,13 @@
 use Rattle.std.proofs.Common.{◌≡◌, ℕ, zero, suc, ◌<◌, ◌≤◌, Bool, true, false, List, [], ◌∷◌, length, Option, Some, None, ap, sym, ◌∙◌, refl, subst, arith}
 use Rattle.std.specs.Prelude.{if◌then◌else◌, neg_ℤ, slice_get}
 use Rattle.run_theory.specs.Runs.{Final, Move, To, Halt, Leads, here, onward}
+use Rattle.c_num.specs.declared.IntType.TheVariants as I
 use Rattle.c_num.specs.Types.{is_value}
 use Rattle.c_typed.specs.Types.{CType}
 use Rattle.tac_ir.specs.declared.register.Register.{Register}
 use Rattle.tac_ir.specs.Values.{OfHeap, OfGlobal, OfLiteral, OfActivation, Object, Value, Number, NoAddress, Code, Address, Content, Absent, Untyped, Typed, Objects, with_content}
 use Rattle.tac_ir.specs.Trees.{computes, is_zero}
-use Rattle.tac_ir.specs.Objects.{Surroundings, Reached, leads, holding, stands_at, held_at, is_place, is_there}
+use Rattle.tac_ir.specs.Objects.{Surroundings, Reached, leads, holding, fits, stands_at, held_at, is_place, is_there}
 use Rattle.tac_ir.specs.Pointers.{is_alive, moved_pointer, difference, compared, typed_content, repoint}
 use Rattle.tac_ir.specs.States.{Activation, State, around_of, lost, given, unless_lost}
 use Rattle.tac_ir.specs.Calls.{opened, closed, all_held, call, called, natural_of, leave, allocate, free}
@@ -85,7 +86,7 @@ module _ (base : List (ℕ × Activation)) (own : ℕ) (Holds : Objects → Type
   of_load : (around : Surroundings) (to : Register) (own_type : CType) (state : State) (reached : Reached) → IsWatched state → Keeps (load around to own_type state reached)
   of_load around to own_type state reached watched =
       of_unless (stands_at around.structs own_type reached.inner.offset (state.objects reached.object)) state _
-      (of_given (held_at reached.inner.offset (state.objects reached.object)) state _ (λ value is. goes_on _ watched))
+      (of_given (held_at reached.inner.offset (state.objects reached.object)) state _ (λ value is. of_unless (fits own_type value) state _ (goes_on _ watched)))
 
   of_store : (around : Surroundings) (own_type : CType) (value : Value) (state : State) (reached : Reached) → IsWatched state → Keeps (store around own_type value state reached)
   of_store around own_type value state reached watched =
@@ -142,7 +143,7 @@ module _ (base : List (ℕ × Activation)) (own : ℕ) (Holds : Objects → Type
       of_given (computes state.running.registers condition) state _ (λ z is. of_unless (is_value int_type z) state _ (of_choice (is_zero z) _ _ (goes_on _ watched) (goes_on _ watched)))
   of_execute tac around (O.Assign to tree) state watched = of_given (computes state.running.registers tree) state _ (λ z is. goes_on _ watched)
   of_execute tac around (O.Null to) state watched = goes_on _ watched
-  of_execute tac around (O.FunctionAddress to function) state watched = goes_on _ watched
+  of_execute tac around (O.FunctionAddress to function) state watched = of_given (slice_get tac.functions function) state _ (λ known is. goes_on _ watched)
   of_execute tac around (O.Copy to from) state watched = of_given (state.running.registers from) state _ (λ value is. goes_on _ watched)
   of_execute tac around (O.Test to pointer) state watched = of_looked_at pointer state _ (λ value. goes_on _ watched)
   of_execute tac around (O.Move to pointer element is_minus number) state watched =
@@ -158,7 +159,7 @@ module _ (base : List (ℕ × Activation)) (own : ℕ) (Holds : Objects → Type
   of_execute tac around (O.Load to scalar path) state watched = of_given (leads around state.running.registers path) state _ (λ reached is. of_load around to scalar state reached watched)
   of_execute tac around (O.Store path scalar value) state watched =
       of_given (value_of state.running.registers value) state _ (λ stored is. of_given (leads around state.running.registers path) state _ (λ reached is. of_store around scalar stored state reached watched))
-  of_execute tac around (O.Allocate site size) state watched = of_given (computes state.running.registers size) state _ (λ z is. of_allocate site (natural_of z) state watched)
+  of_execute tac around (O.Allocate site size) state watched = of_given (computes state.running.registers size) state _ (λ z is. of_unless (is_value I.ULong z) state _ (of_allocate site (natural_of z) state watched))
   of_execute tac around (O.Free site pointer) state watched = of_given (state.running.registers pointer) state _ (λ value is. of_free site value state watched)
   of_execute tac around (O.Call site callee arguments) state watched =
       of_given (called tac around state.running.registers callee) state _ (λ number is. of_given (all_held state.running.registers arguments) state _ (λ values is.

@@ -14,7 +14,7 @@ use Rattle.tac_build.specs.Spots.{Spot, behind, with_variable, with_temporary, L
 use Rattle.tac_build.specs.Code.{Writes, ValueCode}
 use Rattle.tac_build.specs.StatementCode.{Ways, Begins, with_home, FirstCode, LocalCode, LocalsCode, StartCode, BranchCode, TestCode, StepCode, ReturnCode, StmtCode, BlockCode, SwitchCode}
 use Rattle.tac_build.specs.Forms.{SpotGrows}
-use Rattle.tac_simulation.proofs.Named.{value_named}
+use Rattle.tac_build.proofs.Named.{value_named}
 use Rattle.tac_simulation.proofs.Executing.{IsNumbered, AreNumbered, HaveObjects}
 
 -- objects of variables with these numbers, each behind those before it

@@ -2,7 +2,7 @@
 --
 -- Globals, literals and allocations have the same names on both sides. A local of the reference lives in a register, or in an object of its
 -- activation; since the reference makes a local anew at each entry of its block, and an activation has one object for it, only living
--- locals have an object of their own. A pointer into a dead object stands for any value, since nothing but a copy is made of it.
+-- locals have an object of their own. A pointer into a dead object stands for any address, since nothing but a copy is made of it.
 use Rattle.std.specs.Prelude.{◌≡◌, ℕ, ◌<◌, ◌⊎◌, Bool, true, false, List, [], ◌∷◌, Option, Some, None}
 use Rattle.c_typed.specs.Types.{CType}
 use Rattle.c_typed.specs.Typed.{GlobalDef, LiteralDef, Program}
@@ -51,6 +51,10 @@ WhereAlive V.Dead stands = Unit {0}
 WhereAlive (V.Raw size) stands = stands
 WhereAlive (V.Elements is_static c_type count held) stands = stands
 
+abbrev pub IsAddress : Value → Type 0
+IsAddress (Address object offset) = Unit {0}
+IsAddress value = ⊥
+
 abbrev pub IsAmong : ℕ → List ℕ → Type 0
 IsAmong number [] = ⊥
 IsAmong number (first ∷ others) = (first ≡ number) ⊎ IsAmong number others
@@ -85,13 +89,14 @@ module _ (program : Program) where
   abbrev pub PlaceStands : Placement → Place → Object → ℕ → Type 0
   PlaceStands placement place object offset = (image placement place.name ≡ Some object) × (offset ≡ offset_of (around_of program) place)
 
+  -- a pointer into an object stands for an address, and where the object is alive for that of the place
   abbrev pub ScalarStands : S.Objects → Placement → Scalar → Value → Type 0
   ScalarStands objects placement (IntegerValue z) value = value ≡ Number z
   ScalarStands objects placement NullValue value = value ≡ NoAddress
   ScalarStands objects placement (FunctionValue name) value = (number : ℕ) × (function_number 0 program.functions name ≡ Some number) × (value ≡ Code number)
   ScalarStands objects placement (PointerValue place) value =
-      WhereAlive (objects place.name) ((object : Object) × (offset : ℕ) × PlaceStands placement place object offset × (value ≡ Address object offset))
-  ScalarStands objects placement (RawPointer number) value = WhereAlive (objects (Heap number)) (value ≡ Address (OfHeap number) 0)
+      IsAddress value × WhereAlive (objects place.name) ((object : Object) × (offset : ℕ) × PlaceStands placement place object offset × (value ≡ Address object offset))
+  ScalarStands objects placement (RawPointer number) value = IsAddress value × WhereAlive (objects (Heap number)) (value ≡ Address (OfHeap number) 0)
 
   -- a value that is held, if one is held, stands for this one
   abbrev pub HoldsFor : S.Objects → Placement → Scalar → Option Value → Type 0

@@ -18,7 +18,7 @@ use Rattle.tac_build.specs.Homes.{Home, Scope, register_home, is_pure}
 use Rattle.tac_build.specs.Spots.{Spot, behind, with_call, with_argument, with_expression, with_temporary, argument, expression, temporary, Lowered, AsInteger, AsPointer, AsObject, AsNothing, Mode, Kept, Dropped, Behind, Row, is_used, is_followed, is_address, cast_mode, pointed_mode}
 use Rattle.tac_build.specs.Code.{PartCode, compound_tree, step_tree, gives_old, is_up, pointed_by, call_gives, ReadsLocal, Loads, KeepsTree, Writes, WritesLocal, Stores, Joins, JoinsWith, Decays, TakesAddress, Addresses, StepsLocal, StepsObject, Indexes, ReadCode, MovedCode, AssignCode, CompoundCode, PointerCode, OneCode, SteppingCode, LogicalCode, ValueCode, LibraryCode, ArgumentsCode, DesignatorCode, ObjectCode}
 use Rattle.tac_build.specs.Forms.{IsBefore, IsNamed, TreeNamed, PathNamed, LoweredNamed, CalleeNamed, RegistersNamed, SpotGrows, Names}
-use Rattle.tac_simulation.proofs.Naming.{stays, grows_then, behind_grows, call_grows, argument_grows, expression_grows, temporary_grows, path_then, tree_later, lowered_later, grows_to, names_as, names_to, names_after, names_later}
+use Rattle.tac_build.proofs.Naming.{stays, grows_then, behind_grows, call_grows, argument_grows, expression_grows, temporary_grows, path_then, tree_later, lowered_later, grows_to, names_as, names_to, names_after, names_later}
 
 -- ---- one point
 
