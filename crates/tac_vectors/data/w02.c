@@ -1,0 +1,1 @@
+int main(void) { int c; while ((c = getchar()) != EOF) putchar(c); return 7; }

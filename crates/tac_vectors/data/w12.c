@@ -1,0 +1,1 @@
+struct n { int v; struct n *next; }; int main(void) { int i = 0; while (i < 4) { struct n *p = malloc(sizeof(struct n)); p->v = i; p->next = NULL; putchar('0' + p->v); free(p); i = i + 1; } return 0; }

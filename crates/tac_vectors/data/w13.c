@@ -1,0 +1,3 @@
+struct n { int v; struct n *next; };
+struct n *makelist(int k) { struct n *h = NULL; while (k > 0) { struct n *p = malloc(sizeof(struct n)); p->v = k; p->next = h; h = p; k = k - 1; } return h; }
+int sum(struct n *l) { int s = 0; while (l != NULL) { s = s + l->v; l = l->next; } return s; } int main(void) { struct n h; struct n *a = makelist(3); h.v = 1; h.next = makelist(2); putchar('0' + sum(a)); putchar('0' + sum(&h)); return 0; }

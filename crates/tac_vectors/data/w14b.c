@@ -1,0 +1,1 @@
+int f(int k) { if (k == 0) return 0; return f(k - 1); } int main(void) { return f(9999); }

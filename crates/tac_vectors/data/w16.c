@@ -1,0 +1,1 @@
+int main(void) { free(NULL); if (malloc(0) == NULL) putchar('y'); return 0; }

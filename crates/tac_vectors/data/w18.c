@@ -1,0 +1,3 @@
+struct n { int v; struct n *next; };
+struct n *makelist(int k) { struct n *h = NULL; while (k > 0) { struct n *p = malloc(sizeof(struct n)); p->v = k; p->next = h; h = p; k = k - 1; } return h; }
+struct n *one(int k) { return makelist(k); } struct n *none(int k) { return NULL; } struct n *(*tab[2])(int) = { one, none }; int main(void) { struct n *a = tab[0](2); struct n *b = tab[1](2); putchar(a != NULL ? 'a' : '-'); putchar(b == NULL ? 'b' : '-'); return 0; }
