@@ -8,7 +8,7 @@ use Rattle.c_typed.specs.Layouts.{StructDef}
 use Rattle.tac_ir.specs.declared.register.Register.{Register}
 use Rattle.tac_ir.specs.Values.{Object, Value, Number, NoAddress, Code, Address, Content, Typed, Objects}
 use Rattle.tac_ir.specs.Layouts.{leaf_at}
-use Rattle.tac_ir.specs.Objects.{is_there}
+use Rattle.tac_ir.specs.Objects.{is_there, fits}
 use Rattle.tac_ir.specs.Trees.{Registers}
 use Rattle.pool_ir.specs.Code.{Slot}
 use Rattle.pool_ir.specs.Words.{Words}
@@ -43,10 +43,10 @@ WordsStand objects memory registers words = (register : Register) (value : Value
 
 -- ---- objects
 
--- each scalar that an object holds stands in the bytes of its slot
+-- each scalar that an object holds stands in the bytes of its slot, where it fits there; no other is ever loaded
 abbrev pub ContentStands : List StructDef → Objects → MemoryMap → State → Object → Content → Type 0
 ContentStands structs objects memory state object (Typed c_type count held) =
-    (offset : ℕ) (own : CType) (value : Value) → leaf_at structs c_type count offset ≡ Some own → held offset ≡ Some value
+    (offset : ℕ) (own : CType) (value : Value) → leaf_at structs c_type count offset ≡ Some own → held offset ≡ Some value → fits own value ≡ true
     → (address : ℕ) → memory.address object ≡ Some address
     → (number : ℕ) × (number_at state (address + memory.moved object offset) (slot_size (memory.slot object offset own)) ≡ Some number)
     × Stands objects memory value (slot_word state (memory.slot object offset own) number)

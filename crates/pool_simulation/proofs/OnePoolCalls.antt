@@ -1,0 +1,32 @@
+-- The functions of the code with one pool, by their numbers and by their signatures.
+use Rattle.std.proofs.Common.{◌≡◌, ℕ, ◌==◌, true, if◌then◌else◌, List, length, Some, None, refl, ap, ◌∙◌, eq-eqb}
+use Rattle.std.specs.Prelude.{slice_get, nat_lt, option_map}
+use Rattle.run_theory.specs.Runs.{DepthReached, Halt}
+use Rattle.c_typed.specs.Types.{CType, same_type}
+use Rattle.c_typed.proofs.Same.{same_type-true}
+use Rattle.tac_ir.specs.Calls.{greatest_depth}
+use Rattle.tac_ir.specs.Code.{Function, Tac}
+use Rattle.pool_ir.specs.Code as C
+use Rattle.pool_ir.specs.Code.{PoolCode}
+use Rattle.pool_ir.specs.States as P
+use Rattle.pool_ir.specs.Meaning as M
+use Rattle.pool_rewrite.specs.Plan.{one_pool_function}
+use Rattle.pool_rewrite.specs.Rewriting.{signature_of, function_of}
+use Rattle.pool_simulation.proofs.Stepping.{code_of}
+use Rattle.pool_simulation.proofs.OnePool.{function_alike}
+
+-- the function of a number
+pub function_at : (tac : Tac) (number : ℕ) (function : Function) → slice_get tac.functions number ≡ Some function → slice_get (code_of tac).functions number ≡ Some (function_of tac (one_pool_function function) function)
+function_at tac number function is = function_alike tac number ∙ ap (option_map (λ (function : Function). function_of tac (one_pool_function function) function)) is
+
+-- functions of one type have one signature
+pub same_signature : (tac : Tac) (function : Function) (c_type : CType) → same_type (function.c_type) c_type ≡ true → ((function_of tac (one_pool_function function) function).signature == signature_of tac c_type) ≡ true
+same_signature tac function c_type same = eq-eqb (signature_of tac function.c_type) (signature_of tac c_type) (ap (signature_of tac) (same_type-true function.c_type c_type same))
+
+pub of_signature_is : (code : PoolCode) (signature number : ℕ) (function : C.Function) → slice_get code.functions number ≡ Some function → (function.signature == signature) ≡ true → M.of_signature code signature (Some number) ≡ Some number
+of_signature_is code signature number function is same = rw is (ap (λ b. if b then Some number else None) same)
+
+-- what a call comes to
+pub call_is : (code : PoolCode) (site number : ℕ) (function : C.Function) (words pools : List ℕ) (machine : P.State) → slice_get code.functions number ≡ Some function
+    → M.call code site (Some number) words pools machine ≡ (if nat_lt (length machine.callers) greatest_depth then M.enter code site number function words pools machine else Halt DepthReached machine)
+call_is code site number function words pools machine is = rw is refl

@@ -1,0 +1,20 @@
+-- How runs of three-address code and of code with pools are compared: by the events of three-address code; and what a heap of so many slabs
+-- refuses: an allocation that needs more slabs, with all that were made before, than there are.
+use Rattle.std.specs.Prelude.{ℕ, Bool, false, nat_lt, List, [], ◌∷◌}
+use Rattle.run_theory.specs.Runs.{Final, HeapExhausted, Comparison}
+use Rattle.slab_exhaustion.specs.Needs.{needs}
+use Rattle.tac_ir.specs.Events.{TacEvent, Made}
+use Rattle.pool_ir.specs.States.{PoolEvent, same}
+
+-- the sizes of the allocations that were made
+abbrev pub made_in : List TacEvent → List ℕ
+made_in [] = []
+made_in (Made site object size ∷ trace) = size ∷ made_in trace
+made_in (event ∷ trace) = made_in trace
+
+abbrev pub refuses_with : ℕ → Final → List TacEvent → TacEvent → Bool
+refuses_with slabs HeapExhausted trace (Made site object size) = nat_lt slabs (needs (size ∷ made_in trace))
+refuses_with slabs final trace event = false
+
+abbrev pub pool_events : ℕ → Comparison TacEvent PoolEvent TacEvent
+pool_events slabs = record { in_front = λ trace. trace; behind = same; refuses = refuses_with slabs }
