@@ -8,6 +8,7 @@ mod Keys
 mod Lists
 mod Meanings
 mod Members
+mod Numbered
 mod Offsets
 mod Reading
 pub mod Same

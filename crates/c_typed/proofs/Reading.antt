@@ -12,7 +12,7 @@ use Rattle.c_typed.specs.declared.structure.Structure.{Structure}
 use Rattle.c_typed.specs.Types.{CType, Void, Integer, Pointer, Array, Struct, Function, is_array}
 use Rattle.c_typed.specs.Extents.{extent_layout}
 use Rattle.c_typed.specs.Layouts.{StructDef, layout_of, members_by_tag, is_complete}
-use Rattle.c_typed.specs.Table.{Interned, Meaning, AType, AList, Nothing, base_meaning, pointer_to, array_of, struct_of, function_of, parameter_of, meaning_in, meaning_of, numbered, the_tag, the_type, structs_in, IsAType, IsAList, HasShape, tag_in}
+use Rattle.c_typed.specs.Table.{Interned, Meaning, AType, AList, Nothing, base_meaning, pointer_to, array_of, struct_of, function_of, parameter_of, meaning_in, meaning_of, derived_meaning, numbered, the_tag, the_type, structs_in, IsAType, IsAList, HasShape, tag_in}
 use Rattle.c_typed.specs.Inside.{IsSomething, is_sized, HasExtent, struct_entries, completed_index, types_of, tags_of, interned, IsTable, EntryIs, IsStructure}
 use Rattle.c_typed.proofs.Meanings.{entry-means, base_or_entry, IsBase, IsEntry, meaning-below, numbered-below}
 use Rattle.c_typed.proofs.Apart.{type-something, type-is, below_nine}
@@ -163,6 +163,9 @@ module _ {Z : Type 0} (entries : List (Derived × Extent)) (tags : List (Vec ℕ
       let past = none_past_end entries (n - 9) none in
       let long = length-types entries tags structures table in
       nothing_from (meaning_in (tags_of tags) (types_of entries) n) (λ h. let lt = meaning-below (tags_of tags) (types_of entries) n h in absurd (omega arith))
+
+  pub entry_something : (n : ℕ) → 9 ≤ n → (kept : Derived × Extent) → slice_get entries (n - 9) ≡ Some kept → IsSomething (derived_meaning (tags_of tags) (meaning_in (tags_of tags) (types_of entries)) kept.0)
+  entry_something n le kept at = (entry-means (tags_of tags) (types_of entries) (n - 9) kept.0 table.meanings (entry_at (n - 9) kept at)).1
 
   pub array_layout : (n : ℕ) → 9 ≤ n → is_array (the_type (meaning_of (interned entries tags structures) n)) ≡ true → (kept : Derived × Extent) → slice_get entries (n - 9) ≡ Some kept
       → extent_layout kept.1 ≡ layout_of (structs_in (interned entries tags structures)) (the_type (meaning_of (interned entries tags structures) n))

@@ -174,6 +174,17 @@ abbrev pub EntryIs : Interned → ℕ → Option Derived → Type 0
 EntryIs table n (Some entry) = meaning_of table n ≡ derived_meaning table.tags (meaning_of table) entry
 EntryIs table n None = meaning_of table n ≡ Nothing
 
+-- an entry that is a type, not a list
+abbrev pub is_type_entry : Derived → Bool
+is_type_entry D.NoParameters = false
+is_type_entry (D.Parameter first others) = false
+is_type_entry entry = true
+
+-- whether a number stands for a type
+abbrev pub IsTypeNumber : Interned → ℕ → Bool → Type 0
+IsTypeNumber table n true = IsAType (meaning_of table n)
+IsTypeNumber table n false = IsAType (meaning_of table n) → ⊥
+
 -- what is kept of a structure that is completed
 pub record IsStructure (table : Interned) (id : tag.StructId) (structure : Structure) : Type 0 where
   pub members : members_by_tag (structs_in table) (tag_in table id) ≡ Some (member_defs table.tags table.entries (struct_entry structure).members)

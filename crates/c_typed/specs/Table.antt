@@ -131,6 +131,12 @@ Stands table t = IsAType (meaning_of table t.0)
 abbrev pub type_in : Interned → number.CType → CType
 type_in table t = the_type (meaning_of table t.0)
 
+-- the one number that stands for a type
+pub record IsNumberOf (table : Interned) (c_type : CType) (own : number.CType) : Type 0 where
+  pub stands : Stands table own
+  pub means : type_in table own ≡ c_type
+  pub only : (other : number.CType) → Stands table other → type_in table other ≡ c_type → other ≡ own
+
 abbrev pub ListStands : Interned → numbers.Parameters → Type 0
 ListStands table ps = IsAList (meaning_of table ps.0)
 

@@ -2,6 +2,7 @@
 
 ghost use Rattle.std.specs.Prelude.{◌≡◌};
 ghost use Rattle.c_typed.specs.Table.{integer_number};
+ghost use Rattle.c_typed.specs.Inside.{is_type_entry};
 
 use c_num::IntType;
 
@@ -35,6 +36,19 @@ pub enum Derived {
         first: CType,
         others: Parameters,
     },
+}
+
+impl Derived {
+    /// Whether it is a type, not a list of parameters.
+    pub(crate) fn is_type(&self) -> bool
+        ensures { result ≡ is_type_entry self.now }
+    {
+        match self {
+            Derived::NoParameters => false,
+            Derived::Parameter { .. } => false,
+            _ => true,
+        }
+    }
 }
 
 /// What a type is (C17 6.2.5).

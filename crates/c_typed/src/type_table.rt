@@ -5,7 +5,7 @@ ghost use Rattle.c_typed.specs.Types as T;
 ghost use Rattle.c_typed.specs.Types.{same_type, is_array};
 ghost use Rattle.c_typed.specs.Layouts.{is_complete, layouts, layout_of, known_layout, slot_at};
 ghost use Rattle.c_typed.specs.Extents.{extent_layout, IsSmall};
-ghost use Rattle.c_typed.specs.Table.{empty, numbered, derived_meaning, meaning_of, Stands, type_in, ListStands, types_in, TagStands, tag_in, structs_in, members_of, IsMember, IsMemberType, IsMemberPlace, base_meaning, the_type, Interned, KnownStands, known_in, member_entries, IsCompleteMember, AreComplete, MakesType, MakesList, completed, HasShape, IsSplit};
+ghost use Rattle.c_typed.specs.Table.{empty, numbered, derived_meaning, meaning_of, Stands, type_in, IsNumberOf, ListStands, types_in, TagStands, tag_in, structs_in, members_of, IsMember, IsMemberType, IsMemberPlace, base_meaning, the_type, Interned, KnownStands, known_in, member_entries, IsCompleteMember, AreComplete, MakesType, MakesList, completed, HasShape, IsSplit};
 ghost use Rattle.c_typed.specs.Inside.{IsSomething, is_sized, is_known_sized, IsBuilt, HasExtent, MakesEntry, EntryIs, StructureIs, IsStep};
 ghost use Rattle.c_typed.specs.declared.structure.Step.TheVariants as Steps;
 
@@ -186,6 +186,21 @@ impl TypeTable {
         match self.entry(parameters.0) {
             Some(Derived::Parameter { first, others }) => Some((first, others)),
             _ => None,
+        }
+    }
+
+    /// The number of a type, of which each type has one: of any number, that of the type for which it stands, and that of `void` where it
+    /// stands for none.
+    pub fn number_of(&self, t: CType) -> CType
+        ensures { IsNumberOf self.now (type_in self.now t) result }
+    {
+        let entries = &self.entries;
+        if t.0 < FIRST_ENTRY {
+            return t;
+        }
+        match entries.get_index((t.0 - FIRST_ENTRY) as usize) {
+            Some((entry, _)) => { if entry.is_type() { t } else { CType::VOID } }
+            None => CType::VOID,
         }
     }
 

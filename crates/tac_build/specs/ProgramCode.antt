@@ -2,6 +2,7 @@
 use Rattle.std.specs.Prelude.{◌≡◌, ℕ, suc, Bool, true, false, if◌then◌else◌, List, [], ◌∷◌, length, Some, None, pos, bytes_eq, codes}
 use Rattle.c_typed.specs.Types.{CType, Integer}
 use Rattle.c_typed.specs.Typed.{Block, FunctionDef, Program}
+use Rattle.tac_ir.specs.declared.program.Counts.{Counts}
 use Rattle.tac_ir.specs.declared.register.Local.TheVariants as L
 use Rattle.tac_ir.specs.declared.register.Register.TheVariants as R
 use Rattle.tac_ir.specs.Code.{Constant, Held, AtLocal, Operand, IntegerOperand, PointerOperand, Known, Op, Function, Tac}
@@ -71,6 +72,10 @@ FunctionsCode program _ _ = ⊥
 abbrev pub start_points : ℕ → List Op
 start_points main = O.Call 0 (Known main) [] ∷ O.Exit (Held (R.Call 0)) ∷ []
 
+-- it has a register for what that gives, and no other
+abbrev pub start_counts : Counts
+start_counts = record { variables = 0; calls = 1; arguments = 0; expressions = 0; temporaries = 0 }
+
 pub record Code (program : Program) (tac : Tac) : Type 0 where
   pub structs : tac.structs ≡ program.structs
   pub globals : tac.globals ≡ program.globals
@@ -80,3 +85,5 @@ pub record Code (program : Program) (tac : Tac) : Type 0 where
   pub named : function_number 0 program.functions (codes "main") ≡ Some main
   pub start : tac.start.points ≡ start_points main
   pub objects : tac.start.objects ≡ []
+  pub counts : tac.start.counts ≡ start_counts
+  pub parameters : tac.start.parameters ≡ 0

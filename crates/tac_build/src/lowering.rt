@@ -1,12 +1,12 @@
 // The code of a program.
 
 ghost use Rattle.std.specs.Prelude.{◌≡◌, ◌≤◌, [], IfOk};
-ghost use Rattle.c_typed.specs.DefinitionViews.{ProgramStands, program_of};
+ghost use Rattle.c_typed.specs.DefinitionViews.{ProgramStands, LiteralsStand, program_of};
 ghost use Rattle.c_sizes.specs.TypedNodes.{program_nodes, greatest_nodes};
 ghost use Rattle.c_well_typed.specs.Programs.{IsWellTyped};
 ghost use Rattle.c_typed.specs.Table.{Interned};
 ghost use Rattle.tac_ir.specs.Views as tac;
-ghost use Rattle.tac_build.specs.ProgramCode.{Code, start_points};
+ghost use Rattle.tac_build.specs.ProgramCode.{Code, start_points, start_counts};
 ghost use Rattle.tac_build.specs.Lowering.{program_in, IsSource};
 ghost use Rattle.tac_build.specs.LoweringDefinitions.{FunctionsLower};
 
@@ -23,6 +23,7 @@ pub fn lower(alloc: Global, program: Program) -> Result<Tac, AllocError>
     requires well_typed { IsWellTyped (program_of program) }
     requires nodes { program_nodes (program_of program) ≤ greatest_nodes }
     ensures code { IfOk result (λ made. Code (program_of program) (tac.tac_of made)) }
+    ensures literals { IfOk result (λ made. LiteralsStand made.types made.literals.items) }
 {
     let source = Source::new(alloc, program)?;
     let functions = functions(alloc, &source)?;
@@ -55,6 +56,8 @@ fn functions(alloc: Global, source: &Source) -> Result<Vec<Function>, AllocError
 fn start(alloc: Global, main: FunctionId) -> Result<Function, AllocError>
     ensures points { IfOk result (λ start. (table : Interned) → (tac.function_in table start).points ≡ start_points main.0) }
     ensures objects { IfOk result (λ start. (table : Interned) → (tac.function_in table start).objects ≡ []) }
+    ensures counts { IfOk result (λ start. start.counts ≡ start_counts) }
+    ensures parameters { IfOk result (λ start. start.parameters ≡ 0) }
 {
     let mut points = Vec::new(alloc);
     points.push(Op::Call {

@@ -2,7 +2,7 @@ use Rattle.std.proofs.Common.{◌≡◌, ◌≤◌, true, Some, map, sym, ap, �
 use Rattle.std.specs.Prelude.{is_some, codes}
 use Rattle.c_typed.specs.declared.definition.Program as memory_program
 use Rattle.c_typed.specs.Table.{structs_in}
-use Rattle.c_typed.specs.DefinitionViews.{global_in, literal_of, program_of}
+use Rattle.c_typed.specs.DefinitionViews.{LiteralsStand, global_in, literal_of, program_of}
 use Rattle.c_sizes.specs.TypedNodes.{program_nodes, greatest_nodes}
 use Rattle.tac_ir.specs.Views as tac
 use Rattle.tac_build.specs.Code.{function_number}
@@ -35,5 +35,8 @@ returns c =
         named = subst (λ (program : memory_program.Program). function_number 0 (program_of program).functions (codes "main") ≡ Some main) same found;
         start = c.in_ok-start.ensures.points source.program.types;
         objects = c.in_ok-start.ensures.objects source.program.types;
+        counts = c.in_ok-start.ensures.counts;
+        parameters = c.in_ok-start.ensures.parameters;
       };
+      literals = subst (λ (program : memory_program.Program). LiteralsStand program.types program.literals.items) (sym same) c.requires.stand.literals;
     }
