@@ -1,13 +1,13 @@
 -- Objects placed and freed: a new one lies apart from all that live, and all others stay with their bytes.
-use Rattle.std.proofs.Common.{◌≡◌, ℕ, zero, suc, ◌+◌, ◌-◌, ◌^◌, ◌<◌, ◌≤◌, ◌⊎◌, ◌≢◌, true, false, List, [], ◌∷◌, ◌++◌, Option, Some, None, length, map, find, flat_map, refl, sym, ap, subst, ◌∙◌, inl, inr, arith, ne_eqb, eq-eqb}
-use Rattle.std.specs.Prelude.{⊤, ◌==◌, ◌&&◌, nat_le, nat_lt, is_some, slice_index_or, option_map, if◌then◌else◌}
+use Rattle.std.proofs.Common.{◌≡◌, ℕ, zero, suc, ◌+◌, ◌-◌, ◌^◌, ◌<◌, ◌≤◌, ◌⊎◌, ◌≢◌, Bool, true, false, List, [], ◌∷◌, ◌++◌, Option, Some, None, length, map, find, flat_map, refl, sym, ap, subst, ◌∙◌, inl, inr, arith, ne_eqb, eq-eqb}
+use Rattle.std.specs.Prelude.{⊤, ◌==◌, ◌&&◌, ◌||◌, nat_le, nat_lt, is_some, slice_index_or, option_map, if◌then◌else◌}
 use Rattle.std.specs.List.{AllByRecursion}
 use Rattle.std.specs.Option.{IfSome}
 use Rattle.std.proofs.lemmas.Bool.{cases_lt, cases_eq, and_from, le-leb, lt-ltb, eqb-true, eqb-false}
 use Rattle.std.proofs.lemmas.List.{get_or_append_left}
 use Rattle.raw_slab.specs.Words.{zeros, word_at}
 use Rattle.slab_space.specs.declared.kind.PoolKind.{PoolKind}
-use Rattle.slab_space.specs.declared.kind.PoolKind.TheVariants.{Mixed}
+use Rattle.slab_space.specs.declared.kind.PoolKind.TheVariants.{Homogeneous, Mixed}
 use Rattle.slab_space.specs.Runs.{need, lowest_run}
 use Rattle.slab_space.specs.Pool.{Cells, Large, Pool, Object, IsKind, slab_address, no_cells, cell_address, made_in, live_cells, number_at, is_live, has_room, with_freed, large_object, large_at, class_for, objects_in, new_pool}
 use Rattle.slab_space.specs.PoolSteps.{PoolInSlabs, Allocation, placed, index_exhausted, heap_exhausted, at_limit, placed_cell, placed_in_run, placed_in_class, placed_large, placed_as, placed_in, freed_among, freed_large, freed_as, freed_in, covers}
@@ -20,6 +20,7 @@ use Rattle.pool_ir.specs.States.{State, Same}
 use Rattle.pool_ir.specs.Memory.{access}
 use Rattle.tac_ir.specs.Events.{TacEvent}
 use Rattle.pool_simulation.specs.Regions.{AreApart, IsIn, Lives, LivesIn, OfKind, SoundHeap}
+use Rattle.pool_simulation.specs.Serving.{TakesSize, Takes}
 use Rattle.pool_simulation.proofs.WrittenBytes.{zeros_read}
 use Rattle.pool_simulation.proofs.Inserted.{Inserted, found_in, only_found, in_either, same_one, in_total, new_in, old_in, new_or_old, more_total}
 use Rattle.pool_simulation.proofs.LiveCells.{all_push, all_set, length-zeros, SoundCells, covers_is}
@@ -166,40 +167,62 @@ placed_object p q id bytes address heap suits some e =
           | inr behind ↦ inl behind
         ]
 
--- ---- mixed pools
+-- ---- pools that take objects of a size
 
-module _ (p : Pools) (id : ℕ) (mixed : kind_of p id ≡ Some Mixed) where
-  -- any object may be asked for in a mixed pool
-  pub mixed_suits : (bytes : ℕ) → Suits p id bytes
-  mixed_suits bytes = subst (λ (k : Option PoolKind). IfSome k (λ kind. NeedsItsCell kind bytes)) (sym mixed) tt
+pool_by : (found : Option Pool) (kind : PoolKind) → option_map (λ (pool : Pool). pool.kind) found ≡ Some kind → (pool : Pool) × (found ≡ Some pool) × (pool.kind ≡ kind)
+pool_by None kind e = absurd cc
+pool_by (Some pool) kind e = (pool, refl, (let same : pool.kind ≡ kind = cc in same))
 
-  mixed_by : (found : Option Pool) → option_map (λ (pool : Pool). pool.kind) found ≡ Some Mixed → (pool : Pool) × (found ≡ Some pool) × (pool.kind ≡ Mixed)
-  mixed_by None e = absurd cc
-  mixed_by (Some pool) e = (pool, refl, (let same : pool.kind ≡ Mixed = cc in same))
+-- a pool of a kind is there
+pub pool_of_kind : (p : Pools) (id : ℕ) (kind : PoolKind) → kind_of p id ≡ Some kind → (pool : Pool) × (pool_at p id ≡ Some pool) × (pool.kind ≡ kind)
+pool_of_kind p id kind e = pool_by (pool_at p id) kind e
 
-  pub mixed_pool : (pool : Pool) × (pool_at p id ≡ Some pool) × (pool.kind ≡ Mixed)
-  mixed_pool = mixed_by (pool_at p id) mixed
+or_second : (a b : Bool) → b ≡ true → (a || b) ≡ true
+or_second true b is = refl
+or_second false b is = is
 
-  pub mixed_fits : (bytes : ℕ) → fits_pool (pool_at p id) bytes ≡ true
-  mixed_fits bytes = ap (λ found. fits_pool found bytes) mixed_pool.1 ∙ ap (λ kind. fits_kind kind bytes) mixed_pool.2
+kind_fits : (kind : PoolKind) (bytes : ℕ) → (1 ≤ bytes → TakesSize kind bytes) → fits_kind kind bytes ≡ true
+kind_fits (Homogeneous source cell indexed) zero takes = refl
+kind_fits (Homogeneous source cell indexed) (suc bytes) takes = or_second (suc bytes == 0) (suc bytes == source) (eq-eqb (suc bytes) source (takes (omega arith)).0)
+kind_fits Mixed bytes takes = refl
 
-  pub mixed_lives : lives_of p id ≡ true
-  mixed_lives = ap is_some mixed_pool.1
+kind_suits : (kind : PoolKind) (bytes : ℕ) → (1 ≤ bytes → TakesSize kind bytes) → NeedsItsCell kind bytes
+kind_suits (Homogeneous source cell indexed) bytes takes = λ some. (takes some).2
+kind_suits Mixed bytes takes = tt
 
-  -- an object placed in a mixed pool has all the bytes that were asked for
-  pub mixed_enough : (bytes address : ℕ) (q : Pools) (one : PlacedObject p id bytes address q) → bytes ≤ length one.object.bytes
-  mixed_enough bytes address q one = let same : one.kind ≡ Mixed = (let both : Some one.kind ≡ Some Mixed = sym one.of_kind ∙ mixed in cc) in subst (λ kind. HasSize kind bytes (length one.object.bytes)) same one.size
+kind_enough : (kind : PoolKind) (bytes size : ℕ) → TakesSize kind bytes → HasSize kind bytes size → bytes ≤ size
+kind_enough (Homogeneous source cell indexed) bytes size takes has = omega (arith, takes.1, has)
+kind_enough Mixed bytes size takes has = has
 
-  pub mixed_placed : (q : Pools) (bytes address : ℕ) → SoundHeap p → 1 ≤ bytes → alloc_step p id bytes ≡ placed address q → PlacedObject p id bytes address q × (address + bytes ≤ 2 ^ 45)
-  mixed_placed q bytes address heap some e =
-      let one = placed_object p q id bytes address heap (mixed_suits bytes) some e in (one, omega (arith, one.high, mixed_enough bytes address q one))
+kind_unlimited : (index : ℕ) (kind : PoolKind) (bytes : ℕ) (c : Cells) → TakesSize kind bytes → at_limit index kind c ≡ false
+kind_unlimited index (Homogeneous source cell indexed) bytes c takes = ap (λ (b : Bool). at_limit index (Homogeneous source cell b) c) takes.3
+kind_unlimited index Mixed bytes c takes = refl
+
+module _ (p : Pools) (id bytes : ℕ) (takes : Takes p id bytes) where
+  pub takes_suits : Suits p id bytes
+  takes_suits = subst (λ (k : Option PoolKind). IfSome k (λ kind. NeedsItsCell kind bytes)) (sym takes.is) (kind_suits takes.kind bytes takes.size)
+
+  abbrev there : (pool : Pool) × (pool_at p id ≡ Some pool) × (pool.kind ≡ takes.kind)
+  there = pool_of_kind p id takes.kind takes.is
+
+  pub takes_fits : fits_pool (pool_at p id) bytes ≡ true
+  takes_fits = ap (λ found. fits_pool found bytes) there.1 ∙ ap (λ kind. fits_kind kind bytes) there.2 ∙ kind_fits takes.kind bytes takes.size
+
+  pub takes_lives : lives_of p id ≡ true
+  takes_lives = ap is_some there.1
+
+  -- an object that is placed has all the bytes that were asked for
+  pub takes_enough : (address : ℕ) (q : Pools) → 1 ≤ bytes → (one : PlacedObject p id bytes address q) → bytes ≤ length one.object.bytes
+  takes_enough address q some one =
+      let same : one.kind ≡ takes.kind = (let both : Some one.kind ≡ Some takes.kind = sym one.of_kind ∙ takes.is in cc) in
+      kind_enough takes.kind bytes (length one.object.bytes) (takes.size some) (subst (λ kind. HasSize kind bytes (length one.object.bytes)) same one.size)
 
 abbrev NotIndex : {X : Type 0} → Allocation X → Type 0
 NotIndex (placed address x) = ⊤
 NotIndex index_exhausted = ⊥
 NotIndex heap_exhausted = ⊤
 
-module _ (index : ℕ) (owners : List (Option ℕ)) (pool : Pool) (mixed : pool.kind ≡ Mixed) (bytes : ℕ) where
+module _ (index : ℕ) (owners : List (Option ℕ)) (pool : Pool) (unlimited : (c : Cells) → at_limit index pool.kind c ≡ false) (bytes : ℕ) where
   run_not_index : (k : ℕ) (c : Cells) (found : Option ℕ) → NotIndex (placed_in_run owners pool k c found)
   run_not_index k c None = tt
   run_not_index k c (Some first) = tt
@@ -208,7 +231,7 @@ module _ (index : ℕ) (owners : List (Option ℕ)) (pool : Pool) (mixed : pool.
   class_not_index k c =
       let fresh = placed_in_run owners pool k c (lowest_run owners (need c.size)) in
       either NotIndex (at_limit index pool.kind c) index_exhausted (if has_room c then placed_cell owners pool k c else fresh)
-      (λ e. let both : false ≡ true = sym (ap (λ kind. at_limit index kind c) mixed) ∙ e in absurd cc)
+      (λ e. let both : false ≡ true = sym (unlimited c) ∙ e in absurd cc)
       (λ e. either NotIndex (has_room c) (placed_cell owners pool k c) fresh (λ room. tt) (λ room. run_not_index k c (lowest_run owners (need c.size))))
 
   large_not_index : (found : Option ℕ) → NotIndex (placed_large owners pool bytes found)
@@ -224,12 +247,14 @@ allocated_not_index p id (placed address s) is = tt
 allocated_not_index p id index_exhausted is = is
 allocated_not_index p id heap_exhausted is = tt
 
--- no index is exhausted in a mixed pool
-pub mixed_not_index : (p : Pools) (id bytes : ℕ) → kind_of p id ≡ Some Mixed → alloc_step p id bytes ≡ index_exhausted → ⊥
-mixed_not_index p id bytes mixed e =
-    let pool = mixed_pool p id mixed in
+-- no index is exhausted in such a pool
+pub takes_not_index : (p : Pools) (id bytes : ℕ) → Takes p id bytes → 1 ≤ bytes → alloc_step p id bytes ≡ index_exhausted → ⊥
+takes_not_index p id bytes takes some e =
+    let pool = pool_of_kind p id takes.kind takes.is in
+    let unlimited : (c : Cells) → at_limit p.index pool.0.kind c ≡ false = λ c. ap (λ kind. at_limit p.index kind c) pool.2 ∙ kind_unlimited p.index takes.kind bytes c (takes.size some) in
     subst NotIndex e (either NotIndex (bytes == 0) (placed 0 p) (alloc_in p id bytes (pool_at p id)) (λ none. tt)
-    (λ some. subst (λ found. NotIndex (alloc_in p id bytes found)) (sym pool.1) (allocated_not_index p id (placed_in p.index p.owners pool.0 bytes) (as_not_index p.index p.owners pool.0 pool.2 bytes (class_for pool.0.kind pool.0.classes bytes)))))
+    (λ more. subst (λ found. NotIndex (alloc_in p id bytes found)) (sym pool.1) (allocated_not_index p id (placed_in p.index p.owners pool.0 bytes)
+    (as_not_index p.index p.owners pool.0 unlimited bytes (class_for pool.0.kind pool.0.classes bytes)))))
 
 -- 0 bytes take nothing
 pub none_placed : (p : Pools) (id : ℕ) → alloc_step p id 0 ≡ placed 0 p

@@ -1,5 +1,5 @@
 -- A call: both sides enter the same function, or end at the greatest depth.
-use Rattle.std.proofs.Common.{◌≡◌, ℕ, zero, suc, ◌+◌, ◌*◌, ◌/◌, ◌^◌, ◌<◌, ◌≤◌, ◌⊎◌, inl, inr, ◌==◌, Bool, true, false, ◌&&◌, if◌then◌else◌, List, [], ◌∷◌, ◌++◌, length, map, replicate, Option, Some, None, refl, sym, ap, subst, ◌∙◌, arith, eqb-true, eq-eqb, ne_eqb, ltb-true}
+use Rattle.std.proofs.Common.{◌≡◌, ℕ, zero, suc, ◌+◌, ◌*◌, ◌/◌, ◌^◌, ◌<◌, ◌≤◌, ◌⊎◌, inl, inr, ◌==◌, Bool, true, false, ◌&&◌, if◌then◌else◌, List, [], ◌∷◌, ◌++◌, length, map, Option, Some, None, refl, sym, ap, subst, ◌∙◌, arith, eqb-true, eq-eqb, ne_eqb, ltb-true}
 use Rattle.std.specs.Prelude.{slice_get, nat_lt}
 use Rattle.std.proofs.lemmas.Bool.{false≢true}
 use Rattle.std.proofs.lemmas.List.{length-replicate}
@@ -31,18 +31,19 @@ use Rattle.pool_ir.specs.States as P
 use Rattle.pool_ir.specs.States.{Same}
 use Rattle.pool_ir.specs.Meaning as M
 use Rattle.pool_ir.specs.Memory.{activations_of}
-use Rattle.pool_rewrite.specs.Plan.{one_pool_function}
+use Rattle.pool_rewrite.specs.Plan.{Plan}
 use Rattle.pool_rewrite.specs.Rewriting.{function_of, signature_of, callee_of}
 use Rattle.pool_rewrite.specs.Standing.{MemoryMap, Stands, WordsStand, ContentStands}
 use Rattle.pool_simulation.specs.Regions.{Regions, frame_end}
 use Rattle.pool_simulation.specs.Placed.{IsInside}
-use Rattle.pool_simulation.specs.InStep.{frame_for, running_in, address_in, memory_in, IsOld, ActivationStands, CallersStand, IsOwned, IsOf, AllocationStands, greatest_frame, Fits, InStep}
-use Rattle.pool_simulation.proofs.Stepping.{code_of, op_for, Ready, Does, goes, ends, wrong, PointDoes}
+use Rattle.pool_simulation.specs.InStep.{plan_for, frame_for, running_in, address_in, memory_in, IsOld, ActivationStands, CallersStand, IsOwned, IsOf, AllocationStands, greatest_frame, Fits, InStep}
+use Rattle.pool_simulation.specs.Serving.{code_of, StandsAt, passed_for, entered}
+use Rattle.pool_simulation.proofs.Stepping.{op_for, Ready, Does, enters, ends, wrong, PointDoes}
 use Rattle.pool_simulation.proofs.PointWords.{named_stands, AllStand, none, more, arguments_stand}
 use Rattle.pool_simulation.proofs.PushedFrames.{number_frame, pushed_number, pushed_local, owned_made}
 use Rattle.pool_simulation.proofs.StayingObjects.{nothing_stands, held_there, Stays, PlaceStays, old_stays, stands_stays, inside_stays, activation_stays, callers_stay, content_stays}
-use Rattle.pool_simulation.proofs.OnePool.{does_given, does_unless, passes_one, same_more, made_more}
-use Rattle.pool_simulation.proofs.OnePoolCalls.{function_at, same_signature, of_signature_is, call_is}
+use Rattle.pool_simulation.proofs.PlannedCode.{function_at, does_given, does_unless, same_more, made_more}
+use Rattle.pool_simulation.proofs.PlannedCalls.{same_signature, of_signature_is, call_is}
 
 -- ---- the objects of a new activation
 
@@ -135,27 +136,28 @@ typed_function : (tac : Tac) (around : Surroundings) (c_type : CType) (found : O
 typed_function tac around c_type None is = absurd (false≢true is)
 typed_function tac around c_type (Some function) is = (function, refl, is)
 
-called_same : (tac : Tac) (around : Surroundings) (objects : Objects) (memory : MemoryMap) (registers : Registers) (words : Words) (callee : Callee) (number : ℕ) → WordsStand objects memory registers words
-    → K.called tac around registers callee ≡ Some number → M.called (code_of tac) words (callee_of tac callee) ≡ Some number
-called_same tac around objects memory registers words (Known function) number stand is = is
-called_same tac around objects memory registers words (Through pointer c_type) number stand is = by (registers pointer) refl is
+called_same : (tac : Tac) (plan : Plan) (planned : length plan.functions ≡ length tac.functions) (around : Surroundings) (objects : Objects) (memory : MemoryMap) (registers : Registers) (words : Words) (callee : Callee) (number : ℕ) → WordsStand objects memory registers words
+    → K.called tac around registers callee ≡ Some number → M.called (code_of tac plan) words (callee_of tac callee) ≡ Some number
+called_same tac plan planned around objects memory registers words (Known function) number stand is = is
+called_same tac plan planned around objects memory registers words (Through pointer c_type) number stand is = by (registers pointer) refl is
   where
     named : Option Value → Option ℕ
     named (Some (Code number)) = if has_type c_type around (slice_get tac.functions number) then Some number else None
     named _ = None
 
     typed : (other : ℕ) → registers pointer ≡ Some (Code other) → (b : Bool) → has_type c_type around (slice_get tac.functions other) ≡ b → (if b then Some other else None) ≡ Some number
-        → M.of_signature (code_of tac) (signature_of tac c_type) (M.named_by (words pointer)) ≡ Some number
+        → M.of_signature (code_of tac plan) (signature_of tac c_type) (M.named_by (words pointer)) ≡ Some number
     typed other held true is e =
         let function = typed_function tac around c_type (slice_get tac.functions other) is in
         let word : words pointer ≡ M.function_word other = stand pointer (Code other) held in
-        ap (λ n. M.of_signature (code_of tac) (signature_of tac c_type) (M.named_by n)) word
-        ∙ ap (M.of_signature (code_of tac) (signature_of tac c_type)) (named_stands other)
-        ∙ of_signature_is (code_of tac) (signature_of tac c_type) other (function_of tac (one_pool_function function.0) function.0) (function_at tac other function.0 function.1) (same_signature tac function.0 c_type function.2)
+        ap (λ n. M.of_signature (code_of tac plan) (signature_of tac c_type) (M.named_by n)) word
+        ∙ ap (M.of_signature (code_of tac plan) (signature_of tac c_type)) (named_stands other)
+        ∙ of_signature_is (code_of tac plan) (signature_of tac c_type) other (function_of tac (plan_for plan (InFunction other)) function.0) (function_at tac plan planned other function.0 function.1)
+        (same_signature tac (plan_for plan (InFunction other)) function.0 c_type function.2)
         ∙ e
     typed other held false is e = absurd (cc)
 
-    by : (held : Option Value) → registers pointer ≡ held → named held ≡ Some number → M.of_signature (code_of tac) (signature_of tac c_type) (M.named_by (words pointer)) ≡ Some number
+    by : (held : Option Value) → registers pointer ≡ held → named held ≡ Some number → M.of_signature (code_of tac plan) (signature_of tac c_type) (M.named_by (words pointer)) ≡ Some number
     by (Some (Code other)) held e = typed other held (has_type c_type around (slice_get tac.functions other)) refl e
     by (Some (Number z)) held e = absurd (cc)
     by (Some NoAddress) held e = absurd (cc)
@@ -168,20 +170,20 @@ depth_is : greatest_depth ≡ 10000
 unfolding greatest_depth
 depth_is = refl
 
-callers_long : (tac : Tac) (state : T.State) (memory : MemoryMap) (callers : List (ℕ × T.Activation)) (others : List (ℕ × P.Activation)) → CallersStand tac state memory callers others → length others ≡ length callers
-callers_long tac state memory [] [] stand = refl
-callers_long tac state memory [] (own ∷ others) stand = absurd stand
-callers_long tac state memory (waiting ∷ callers) [] stand = absurd stand
-callers_long tac state memory (waiting ∷ callers) (own ∷ others) stand = ap suc (callers_long tac state memory callers others stand.2)
+callers_long : (tac : Tac) (plan : Plan) (state : T.State) (memory : MemoryMap) (callers : List (ℕ × T.Activation)) (others : List (ℕ × P.Activation)) → CallersStand tac plan state memory callers others → length others ≡ length callers
+callers_long tac plan state memory [] [] stand = refl
+callers_long tac plan state memory [] (own ∷ others) stand = absurd stand
+callers_long tac plan state memory (waiting ∷ callers) [] stand = absurd stand
+callers_long tac plan state memory (waiting ∷ callers) (own ∷ others) stand = ap suc (callers_long tac plan state memory callers others stand.2)
 
 -- a frame more has its room
 room_behind : (start long count size : ℕ) → start ≤ 2 ^ 40 + count * greatest_frame → long ≤ greatest_frame → size ≤ greatest_frame → count < 10000
     → (start + (long + 15) / 16 * 16 ≤ 2 ^ 40 + suc count * greatest_frame) × (start + (long + 15) / 16 * 16 + size ≤ 2 ^ 44)
 room_behind start long count size low most most' few = (omega (arith, low, most), omega (arith, low, most, most', few))
 
-module _ (tac : Tac) (slabs : ℕ) (state : T.State) (machine : P.State) (fits : Fits tac) (stacked : IsStacked tac state) (step : InStep tac slabs state machine)
+module _ (tac : Tac) (plan : Plan) (slabs : ℕ) (state : T.State) (machine : P.State) (fits : Fits tac plan) (stacked : IsStacked tac state) (step : InStep tac plan slabs state machine)
     (site number : ℕ) (function : Function) (values : List Value) (words : List ℕ) (found : slice_get tac.functions number ≡ Some function) (less : length machine.callers < 10000)
-    (stand : AllStand state.objects (memory_in tac state machine) values words) (old : Each (IsOld state) values) (inside : Each (IsInside tac.structs state.objects) values) where
+    (stand : AllStand state.objects (memory_in tac plan state machine) values words) (old : Each (IsOld state) values) (inside : Each (IsInside tac.structs state.objects) values) where
   abbrev new : ℕ
   new = state.next_activation
 
@@ -192,26 +194,14 @@ module _ (tac : Tac) (slabs : ℕ) (state : T.State) (machine : P.State) (fits :
   next = K.enter around site number function values state
 
   abbrev own : C.Function
-  own = function_of tac (one_pool_function function) function
+  own = function_of tac (plan_for plan (InFunction number)) function
 
   abbrev later : P.State
-  later = record machine {
-    running = record {
-      owner = InFunction number;
-      words = M.parameters_from 0 words;
-      descriptors = M.descriptors_from (map (M.pool_of machine) (0 ∷ []));
-      start = M.next_start machine.running;
-      bytes = replicate own.frame.size 0;
-      at = 0;
-    };
-    callers = (site, machine.running) ∷ machine.callers;
-    trace = machine.trace ++ Same (Entered site number) ∷ [];
-    paid = 0;
-  }
+  later = entered site number own words (passed_for plan state machine site) machine
 
   -- its frame
-  size_is : own.frame.size ≡ (frame_for tac (InFunction number)).size
-  size_is = sym (ap (λ (frame : FrameLayout). frame.size) (number_frame tac number function found))
+  size_is : own.frame.size ≡ (frame_for tac plan (InFunction number)).size
+  size_is = sym (ap (λ (frame : FrameLayout). frame.size) (number_frame tac plan number function found))
 
   long : length later.running.bytes ≡ own.frame.size
   long = length-replicate {A = ℕ} own.frame.size 0
@@ -227,17 +217,17 @@ module _ (tac : Tac) (slabs : ℕ) (state : T.State) (machine : P.State) (fits :
   regions = record { globals = step.regions.globals; frames = (refl, step.regions.frames); below = below; heap = step.regions.heap }
 
   -- where objects lie
-  same_address : (object : V.Object) → NotOf new object → address_in tac next later object ≡ address_in tac state machine object
+  same_address : (object : V.Object) → NotOf new object → address_in tac plan next later object ≡ address_in tac plan state machine object
   same_address (OfHeap zero) apart = refl
   same_address (OfHeap (suc number)) apart = refl
   same_address (OfGlobal number) apart = refl
   same_address (OfLiteral number) apart = refl
-  same_address (OfActivation activation local) apart = pushed_local tac next.running later.running (running_in state) (activations_of machine) activation local apart
+  same_address (OfActivation activation local) apart = pushed_local tac plan next.running later.running (running_in state) (activations_of machine) activation local apart
 
-  stays : (object : V.Object) → NotOf new object → Stays tac state next machine later object
+  stays : (object : V.Object) → NotOf new object → Stays tac plan state next machine later object
   stays object apart = λ there. (opened_other around new function.objects state.objects object apart, same_address object apart)
 
-  place_stays : (value : Value) → IsOld state value → PlaceStays tac state next machine later value
+  place_stays : (value : Value) → IsOld state value → PlaceStays tac plan state next machine later value
   place_stays (Address (OfHeap number) offset) is_old = stays (OfHeap number) tt
   place_stays (Address (OfGlobal number) offset) is_old = stays (OfGlobal number) tt
   place_stays (Address (OfLiteral number) offset) is_old = stays (OfLiteral number) tt
@@ -272,23 +262,23 @@ module _ (tac : Tac) (slabs : ℕ) (state : T.State) (machine : P.State) (fits :
   held : (object : V.Object) (offset : ℕ) (value : Value) → held_at offset (next.objects object) ≡ Some value → held_at offset (state.objects object) ≡ Some value
   held object offset value is = opened_held around new function.objects state.objects object offset value is
 
-  content_of : (object : V.Object) → NotOf new object → ContentStands tac.structs next.objects (memory_in tac next later) later object (next.objects object)
-  content_of object apart = content_stays tac state next machine later place_stays heap_more made_more_by object (stays object apart) (step.old object)
+  content_of : (object : V.Object) → NotOf new object → ContentStands tac.structs next.objects (memory_in tac plan next later) later object (next.objects object)
+  content_of object apart = content_stays tac plan state next machine later place_stays heap_more made_more_by object (stays object apart) (step.old object)
       (λ address offset width number there is within some e. pushed_number machine later site refl refl refl refl below step.regions (address + offset) width number some e) (step.contents object)
 
-  contents : (object : V.Object) → ContentStands tac.structs next.objects (memory_in tac next later) later object (next.objects object)
+  contents : (object : V.Object) → ContentStands tac.structs next.objects (memory_in tac plan next later) later object (next.objects object)
   contents (OfHeap number) = content_of (OfHeap number) tt
   contents (OfGlobal number) = content_of (OfGlobal number) tt
   contents (OfLiteral number) = content_of (OfLiteral number) tt
   contents (OfActivation activation local) = by (new == activation) refl
     where
-      by : (b : Bool) → (new == activation) ≡ b → ContentStands tac.structs next.objects (memory_in tac next later) later (OfActivation activation local) (next.objects (OfActivation activation local))
-      by true e = nothing_stands tac.structs next.objects (memory_in tac next later) later (OfActivation activation local) (next.objects (OfActivation activation local))
+      by : (b : Bool) → (new == activation) ≡ b → ContentStands tac.structs next.objects (memory_in tac plan next later) later (OfActivation activation local) (next.objects (OfActivation activation local))
+      by true e = nothing_stands tac.structs next.objects (memory_in tac plan next later) later (OfActivation activation local) (next.objects (OfActivation activation local))
           (λ offset value is. none_there local (held_there (state.objects (OfActivation new local)) offset value
           (subst (λ n. held_at offset (state.objects (OfActivation n local)) ≡ Some value) (sym (eqb-true new activation e)) (held (OfActivation activation local) offset value is))))
       by false apart = content_of (OfActivation activation local) apart
 
-  allocations : (number : ℕ) → is_there (next.objects (OfHeap number)) ≡ true → AllocationStands tac next later number
+  allocations : (number : ℕ) → is_there (next.objects (OfHeap number)) ≡ true → AllocationStands tac plan next later number
   allocations number there =
       let same = opened_other around new function.objects state.objects (OfHeap number) tt in
       let was = step.allocations number (ap is_there (sym same) ∙ there) in
@@ -302,29 +292,28 @@ module _ (tac : Tac) (slabs : ℕ) (state : T.State) (machine : P.State) (fits :
         told = was.told;
       }
 
-  running : ActivationStands tac next (memory_in tac next later) next.running later.running
+  running : ActivationStands tac plan next (memory_in tac plan next later) next.running later.running
   running = record {
     owner = refl;
     at = refl;
     words = λ register value is.
-        stands_stays tac state next machine later place_stays heap_more made_more_by value (M.parameters_from 0 words register) (parameters_each (IsOld state) 0 values old register value is)
-        (parameters_stand state.objects (memory_in tac state machine) 0 values words stand register value is);
+        stands_stays tac plan state next machine later place_stays heap_more made_more_by value (M.parameters_from 0 words register) (parameters_each (IsOld state) 0 values old register value is)
+        (parameters_stand state.objects (memory_in tac plan state machine) 0 values words stand register value is);
     inside = λ register value is.
-        inside_stays tac state next machine later place_stays heap_more made_more_by value (parameters_each (IsOld state) 0 values old register value is)
+        inside_stays tac plan state next machine later place_stays heap_more made_more_by value (parameters_each (IsOld state) 0 values old register value is)
         (parameters_each (IsInside tac.structs state.objects) 0 values inside register value is);
-    old = λ register value is. old_stays tac state next machine later place_stays heap_more made_more_by value (parameters_each (IsOld state) 0 values old register value is);
-    pool = step.running.pool;
+    old = λ register value is. old_stays tac plan state next machine later place_stays heap_more made_more_by value (parameters_each (IsOld state) 0 values old register value is);
     long = long ∙ size_is;
   }
 
-  pub entered : InStep tac slabs next later
+  pub entered_in_step : InStep tac plan slabs next later
   unfolding regions
-  entered = record {
+  entered_in_step = record {
     running = running;
     callers = (
       refl,
-      activation_stays tac state next machine later place_stays heap_more made_more_by state.running machine.running step.running,
-      callers_stay tac state next machine later place_stays heap_more made_more_by state.callers machine.callers step.callers,
+      activation_stays tac plan state next machine later place_stays heap_more made_more_by state.running machine.running step.running,
+      callers_stay tac plan state next machine later place_stays heap_more made_more_by state.callers machine.callers step.callers,
     );
     owned = owned;
     globals = λ number. subst (IsOf _) (sym (opened_other around new function.objects state.objects (OfGlobal number) tt)) (step.globals number);
@@ -333,13 +322,12 @@ module _ (tac : Tac) (slabs : ℕ) (state : T.State) (machine : P.State) (fits :
     contents = contents;
     inside = λ object offset value is.
         let was = held object offset value is in
-        inside_stays tac state next machine later place_stays heap_more made_more_by value (step.old object offset value was) (step.inside object offset value was);
-    old = λ object offset value is. old_stays tac state next machine later place_stays heap_more made_more_by value (step.old object offset value (held object offset value is));
+        inside_stays tac plan state next machine later place_stays heap_more made_more_by value (step.old object offset value was) (step.inside object offset value was);
+    old = λ object offset value is. old_stays tac plan state next machine later place_stays heap_more made_more_by value (step.old object offset value (held object offset value is));
     regions = regions;
     low = room.0;
     slabs_are = step.slabs_are;
     needed = step.needed ∙ ap needs (sym (made_more state.trace (Entered site number) refl));
-    pool = step.pool;
     statics = step.statics;
     next = step.next;
     input = step.input;
@@ -349,56 +337,62 @@ module _ (tac : Tac) (slabs : ℕ) (state : T.State) (machine : P.State) (fits :
 
 -- ---- the point
 
-module _ (tac : Tac) (slabs : ℕ) (state : T.State) (machine : P.State) (ready : Ready tac slabs state machine) (site : ℕ) (callee : Callee) (arguments : List Register) where
+module _ (tac : Tac) (plan : Plan) (slabs : ℕ) (state : T.State) (machine : P.State) (ready : Ready tac plan slabs state machine) (site : ℕ) (callee : Callee) (arguments : List Register)
+    (at : StandsAt tac state (O.Call site callee arguments)) where
   abbrev surroundings : Surroundings
   surroundings = T.around_of tac state.running
 
   abbrev given_words : List ℕ
   given_words = map machine.running.words arguments
 
+  abbrev given_pools : List ℕ
+  given_pools = passed_for plan state machine site
+
+  abbrev own_of : ℕ → Function → C.Function
+  own_of number function = function_of tac (plan_for plan (InFunction number)) function
+
   -- what the code with pools does
   machine_does : (number : ℕ) (function : Function) → slice_get tac.functions number ≡ Some function → K.called tac surroundings state.running.registers callee ≡ Some number
-      → M.execute (code_of tac) (op_for tac state.running.owner (O.Call site callee arguments)) machine
-      ≡ (if nat_lt (length machine.callers) greatest_depth
-      then M.enter (code_of tac) site number (function_of tac (one_pool_function function) function) given_words (map (M.pool_of machine) (0 ∷ [])) machine else Halt DepthReached machine)
+      → M.execute (code_of tac plan) (op_for tac plan state.running.owner (O.Call site callee arguments)) machine
+      ≡ (if nat_lt (length machine.callers) greatest_depth then M.enter (code_of tac plan) site number (own_of number function) given_words given_pools machine else Halt DepthReached machine)
   machine_does number function found called =
-      let same = called_same tac surroundings state.objects (memory_in tac state machine) state.running.registers machine.running.words callee number ready.in_step.running.words called in
-      let passes = passes_one tac state.running.owner site in
-      (λ i. M.call (code_of tac) site (same i) given_words (map (M.pool_of machine) (passes i)) machine)
-      ∙ call_is (code_of tac) site number (function_of tac (one_pool_function function) function) given_words (map (M.pool_of machine) (0 ∷ [])) machine (function_at tac number function found)
+      let same = called_same tac plan ready.planned surroundings state.objects (memory_in tac plan state machine) state.running.registers machine.running.words callee number ready.in_step.running.words called in
+      ap (λ (number : Option ℕ). M.call (code_of tac plan) site number given_words given_pools machine) same
+      ∙ call_is (code_of tac plan) site number (own_of number function) given_words given_pools machine (function_at tac plan ready.planned number function found)
 
   depth : (number : ℕ) (function : Function) (values : List Value) → slice_get tac.functions number ≡ Some function → all_held state.running.registers arguments ≡ Some values
       → (b : Bool) → nat_lt (length state.callers) greatest_depth ≡ b
-      → Does tac slabs (if b then To (K.enter surroundings site number function values state) else Halt DepthReached state)
-      (if b then M.enter (code_of tac) site number (function_of tac (one_pool_function function) function) given_words (map (M.pool_of machine) (0 ∷ [])) machine else Halt DepthReached machine)
+      → Does tac plan slabs state machine (if b then To (K.enter surroundings site number function values state) else Halt DepthReached state)
+      (if b then M.enter (code_of tac plan) site number (own_of number function) given_words given_pools machine else Halt DepthReached machine)
   depth number function values found held true less =
-      goes _ _ (entered tac slabs state machine ready.fits ready.stacked ready.in_step site number function values given_words found
-      (omega (arith, callers_long tac state (memory_in tac state machine) state.callers machine.callers ready.in_step.callers, depth_is, ltb-true (length state.callers) greatest_depth less))
-      (arguments_stand state.objects (memory_in tac state machine) state.running.registers machine.running.words arguments values ready.in_step.running.words held)
+      enters site number callee arguments (own_of number function) given_words (K.enter surroundings site number function values state) at (function_at tac plan ready.planned number function found)
+      (entered_in_step tac plan slabs state machine ready.fits ready.stacked ready.in_step site number function values given_words found
+      (omega (arith, callers_long tac plan state (memory_in tac plan state machine) state.callers machine.callers ready.in_step.callers, depth_is, ltb-true (length state.callers) greatest_depth less))
+      (arguments_stand state.objects (memory_in tac plan state machine) state.running.registers machine.running.words arguments values ready.in_step.running.words held)
       (held_each (IsOld state) state.running.registers arguments values ready.in_step.running.old held)
       (held_each (IsInside tac.structs state.objects) state.running.registers arguments values ready.in_step.running.inside held))
   depth number function values found held false deep = ends DepthReached state machine ready.in_step.trace tt
 
-  pub call_does : PointDoes tac slabs state machine (O.Call site callee arguments)
+  pub call_does : PointDoes tac plan slabs state machine (O.Call site callee arguments)
   call_does =
-      does_given tac slabs (K.called tac surroundings state.running.registers callee) state
+      does_given tac plan slabs machine (K.called tac surroundings state.running.registers callee) state
       (λ number. T.given (all_held state.running.registers arguments) state (λ values. K.call surroundings site number (slice_get tac.functions number) values state)) does
-      (λ number called. does_given tac slabs (all_held state.running.registers arguments) state (λ values. K.call surroundings site number (slice_get tac.functions number) values state) does
+      (λ number called. does_given tac plan slabs machine (all_held state.running.registers arguments) state (λ values. K.call surroundings site number (slice_get tac.functions number) values state) does
       (λ values held. by number values (slice_get tac.functions number) refl called held))
     where
       does : Move P.State
-      does = M.execute (code_of tac) (op_for tac state.running.owner (O.Call site callee arguments)) machine
+      does = M.execute (code_of tac plan) (op_for tac plan state.running.owner (O.Call site callee arguments)) machine
 
       same_depth : nat_lt (length machine.callers) greatest_depth ≡ nat_lt (length state.callers) greatest_depth
-      same_depth = ap (λ n. nat_lt n greatest_depth) (callers_long tac state (memory_in tac state machine) state.callers machine.callers ready.in_step.callers)
+      same_depth = ap (λ n. nat_lt n greatest_depth) (callers_long tac plan state (memory_in tac plan state machine) state.callers machine.callers ready.in_step.callers)
 
       by : (number : ℕ) (values : List Value) (found : Option Function) → slice_get tac.functions number ≡ found → K.called tac surroundings state.running.registers callee ≡ Some number
-          → all_held state.running.registers arguments ≡ Some values → Does tac slabs (K.call surroundings site number found values state) does
+          → all_held state.running.registers arguments ≡ Some values → Does tac plan slabs state machine (K.call surroundings site number found values state) does
       by number values None found called held = wrong _ state does tt
       by number values (Some function) found called held =
-          does_unless tac slabs (length values == function.parameters) state
+          does_unless tac plan slabs machine (length values == function.parameters) state
           (if nat_lt (length state.callers) greatest_depth then To (K.enter surroundings site number function values state) else Halt DepthReached state) does
-          (λ enough. subst (Does tac slabs (if nat_lt (length state.callers) greatest_depth then To (K.enter surroundings site number function values state) else Halt DepthReached state))
+          (λ enough. subst (Does tac plan slabs state machine (if nat_lt (length state.callers) greatest_depth then To (K.enter surroundings site number function values state) else Halt DepthReached state))
           (sym (machine_does number function found called
-          ∙ ap (λ b. if b then M.enter (code_of tac) site number (function_of tac (one_pool_function function) function) given_words (map (M.pool_of machine) (0 ∷ [])) machine else Halt DepthReached machine) same_depth))
+          ∙ ap (λ b. if b then M.enter (code_of tac plan) site number (own_of number function) given_words given_pools machine else Halt DepthReached machine) same_depth))
           (depth number function values found held (nat_lt (length state.callers) greatest_depth) refl))

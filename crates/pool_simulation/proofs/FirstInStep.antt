@@ -1,6 +1,6 @@
--- The first states are in step: the objects that live as long as the program stand in the globals, the one pool is made, and nothing else
--- is there yet.
-use Rattle.std.proofs.Common.{◌≡◌, ℕ, ◌+◌, ◌-◌, ◌^◌, ◌<◌, ◌≤◌, true, List, [], ◌∷◌, ◌++◌, length, replicate, Option, Some, None, refl, sym, ap, subst, ◌∙◌, arith, append-nil}
+-- The first states are in step: the objects that live as long as the program stand in the globals, and nothing else is there yet; and so are
+-- those after the actions at the entry of `start`.
+use Rattle.std.proofs.Common.{◌≡◌, ℕ, ◌+◌, ◌-◌, ◌^◌, ◌<◌, ◌≤◌, true, List, [], ◌++◌, length, replicate, Option, Some, None, refl, ap, ◌∙◌, arith, append-nil}
 use Rattle.std.specs.Prelude.{slice_get, option_map}
 use Rattle.std.proofs.lemmas.Bool.{false≢true}
 use Rattle.std.proofs.lemmas.List.{length-replicate}
@@ -8,10 +8,7 @@ use Rattle.std.proofs.lemmas.Option.{none-some}
 use Rattle.run_theory.specs.Runs.{To}
 use Rattle.c_typed.specs.Types.{literal_type}
 use Rattle.c_typed.specs.Typed.{GlobalDef, LiteralDef}
-use Rattle.slab_space.specs.declared.kind.PoolKind.TheVariants.{Mixed}
-use Rattle.slab_space.specs.Pool.{new_pool}
-use Rattle.slab_space.specs.Pools.{new_pools, init_step}
-use Rattle.slab_exhaustion.specs.Needs.{at_start, after_init}
+use Rattle.slab_exhaustion.specs.Needs.{at_start}
 use Rattle.tac_ir.specs.Values as V
 use Rattle.tac_ir.specs.Values.{OfHeap, OfGlobal, OfLiteral, OfActivation, Value, Number, NoAddress, Code, Address}
 use Rattle.tac_ir.specs.Objects.{is_there}
@@ -22,9 +19,9 @@ use Rattle.tac_ir.specs.Code.{Tac}
 use Rattle.tac_ir.proofs.Activations.{stacked_first}
 use Rattle.pool_isa.specs.Machine.{globals_start}
 use Rattle.pool_ir.specs.States as P
-use Rattle.pool_ir.specs.States.{Opened, with_descriptor}
 use Rattle.pool_ir.specs.Memory.{number_at}
 use Rattle.pool_ir.specs.Meaning as M
+use Rattle.pool_rewrite.specs.Plan.{Plan}
 use Rattle.pool_rewrite.specs.Placing.{statics_size}
 use Rattle.pool_rewrite.specs.Rewriting.{static_address, first_contents}
 use Rattle.pool_simulation.specs.FirstValues.{IsInFirst, HasFirstValues, MapsStatics}
@@ -34,24 +31,9 @@ use Rattle.pool_simulation.proofs.FirstBytes.{read_at}
 use Rattle.pool_simulation.proofs.LiteralBytes.{length-first_contents}
 use Rattle.pool_simulation.proofs.FirstObjects.{IsStatic, IsNumbered, exact_by_fit, first_inside, first_static, first_numbered, contents_stand, globals_number}
 use Rattle.pool_simulation.proofs.FrameRanges.{none_before}
-use Rattle.pool_simulation.proofs.Stepping.{code_of}
+use Rattle.pool_simulation.specs.Serving.{code_of, Serves}
 use Rattle.pool_simulation.proofs.Locking.{Related}
-
--- ---- where the code with pools begins
-
--- the first state, and the one pool
-abbrev pub first_machine : Tac → ℕ → ℕ → List ℕ → P.State
-first_machine tac slabs index input =
-    let fresh = M.initial (code_of tac) slabs index input in
-    record fresh {
-      running = record (M.first_activation (code_of tac)) { descriptors = with_descriptor 0 1 (M.descriptors_from []) };
-      pools = init_step (new_pools slabs index) Mixed;
-      trace = Opened 1 0 ∷ [];
-    }
-
--- `start` makes it before its first point
-pub first_begins : (tac : Tac) (slabs index : ℕ) (input : List ℕ) → M.from_start (code_of tac) (M.initial (code_of tac) slabs index input) ≡ To (first_machine tac slabs index input)
-first_begins tac slabs index input = refl
+use Rattle.pool_simulation.proofs.Actions.{with_pools, actions_done}
 
 -- ---- what is there
 
@@ -84,12 +66,12 @@ frame_below long size same most = omega (arith, same, most)
 
 -- ---- the first states
 
-module _ (tac : Tac) (keeps : Fits tac) (slabs index : ℕ) (input : List ℕ) where
+module _ (tac : Tac) (plan : Plan) (keeps : Fits tac plan) (slabs index : ℕ) (input : List ℕ) where
   abbrev state : T.State
   state = initial tac input
 
   abbrev machine : P.State
-  machine = first_machine tac slabs index input
+  machine = M.initial (code_of tac plan) slabs index input
 
   contents_long : length (first_contents tac) ≡ statics_size tac
   contents_long = length-first_contents tac (exact_by_fit tac keeps.statics)
@@ -103,13 +85,13 @@ module _ (tac : Tac) (keeps : Fits tac) (slabs index : ℕ) (input : List ℕ) w
   globals_long : length machine.globals ≡ statics_size tac
   globals_long = ap (λ (bytes : List ℕ). length bytes) globals_are ∙ contents_long
 
-  frame_long : length machine.running.bytes ≡ (frame_for tac InStart).size
-  frame_long = length-replicate {A = ℕ} (frame_for tac InStart).size 0
+  frame_long : length machine.running.bytes ≡ (frame_for tac plan InStart).size
+  frame_long = length-replicate {A = ℕ} (frame_for tac plan InStart).size 0
 
-  maps : MapsStatics tac (memory_in tac state machine)
+  maps : MapsStatics tac (memory_in tac plan state machine)
   maps = record { address = mapped; moved = λ object offset there. refl; slot = λ object offset own there. refl }
     where
-      mapped : (object : V.Object) → is_there (first_objects tac object) ≡ true → address_in tac state machine object ≡ Some (static_address tac object)
+      mapped : (object : V.Object) → is_there (first_objects tac object) ≡ true → address_in tac plan state machine object ≡ Some (static_address tac object)
       mapped (OfHeap number) there = absurd (false≢true there)
       mapped (OfGlobal number) there = refl
       mapped (OfLiteral number) there = refl
@@ -127,7 +109,7 @@ module _ (tac : Tac) (keeps : Fits tac) (slabs index : ℕ) (input : List ℕ) w
       high long all same le = omega (arith, same, le)
 
   module _ (values : HasFirstValues tac) (few : slabs ≤ 2 ^ 32) where
-    starts_in_step : InStep tac slabs state machine
+    starts_in_step : InStep tac plan slabs state machine
     starts_in_step =
         record {
           running = record {
@@ -136,7 +118,6 @@ module _ (tac : Tac) (keeps : Fits tac) (slabs index : ℕ) (input : List ℕ) w
             words = λ register value is. absurd (none-some value is);
             inside = λ register value is. absurd (none-some value is);
             old = λ register value is. absurd (none-some value is);
-            pool = refl;
             long = frame_long;
           };
           callers = tt;
@@ -144,19 +125,18 @@ module _ (tac : Tac) (keeps : Fits tac) (slabs index : ℕ) (input : List ℕ) w
           globals = λ number. global_is_of tac (slice_get tac.globals number);
           literals = λ number. literal_is_of (slice_get tac.literals number);
           allocations = λ number there. absurd (false≢true there);
-          contents = contents_stand tac keeps.statics keeps.functions (memory_in tac state machine) maps machine values reads;
+          contents = contents_stand tac keeps.statics keeps.functions (memory_in tac plan state machine) maps machine values reads;
           inside = λ object offset value is. inside_first tac keeps.functions value (first_inside tac values object offset value is) (first_numbered tac object offset value is);
           old = λ object offset value is. static_old state value (first_static tac object offset value is);
           regions = record {
             globals = omega (arith, keeps.statics, globals_long);
             frames = refl;
-            below = frame_below (length machine.running.bytes) (frame_for tac InStart).size frame_long (keeps.frames InStart);
-            heap = record { slabs = slabs; sizes = []; few = few; placed = after_init (new_pools slabs index) [] Mixed (at_start index); kinds = (tt, tt) };
+            below = frame_below (length machine.running.bytes) (frame_for tac plan InStart).size frame_long (keeps.frames InStart);
+            heap = record { slabs = slabs; sizes = []; few = few; placed = at_start index; kinds = tt };
           };
           low = omega arith;
           slabs_are = refl;
           needed = refl;
-          pool = (new_pool Mixed, refl, refl);
           statics = globals_long;
           next = refl;
           input = refl;
@@ -164,15 +144,19 @@ module _ (tac : Tac) (keeps : Fits tac) (slabs index : ℕ) (input : List ℕ) w
           paid = refl;
         }
 
--- what `start` begins with is in step with where three-address code begins
-pub first_in_step : (tac : Tac) → Fits tac → HasFirstValues tac → (slabs index : ℕ) → slabs ≤ 2 ^ 32 → (input : List ℕ) (first : P.State)
-    → M.from_start (code_of tac) (M.initial (code_of tac) slabs index input) ≡ To first → InStep tac slabs (initial tac input) first
-first_in_step tac keeps values slabs index few input first begins =
-    let both : To (first_machine tac slabs index input) ≡ To first = sym (first_begins tac slabs index input) ∙ begins in
-    let same : first_machine tac slabs index input ≡ first = cc in
-    subst (InStep tac slabs (initial tac input)) same (starts_in_step tac keeps slabs index input values few)
+-- ---- where runs begin
 
--- they are related as at every later step
-pub first_related : (tac : Tac) → Fits tac → HasFirstValues tac → tac.start.objects ≡ [] → (slabs index : ℕ) → slabs ≤ 2 ^ 32 → (input : List ℕ) (first : P.State)
-    → M.from_start (code_of tac) (M.initial (code_of tac) slabs index input) ≡ To first → Related tac slabs (initial tac input) first
-first_related tac keeps values none slabs index few input first begins = (stacked_first tac input none, first_in_step tac keeps values slabs index few input first begins)
+-- Where the code with pools begins, once the actions at entry are done.
+pub record Begins (tac : Tac) (plan : Plan) (slabs : ℕ) (serves : Serves tac plan slabs) (index : ℕ) (input : List ℕ) : Type 0 where
+  pub first : P.State
+  pub begins : M.from_start (code_of tac plan) (M.initial (code_of tac plan) slabs index input) ≡ To first
+  pub related : Related tac plan slabs serves (initial tac input) first
+
+pub run_begins : (tac : Tac) (plan : Plan) (slabs : ℕ) (serves : Serves tac plan slabs) → HasFirstValues tac → tac.start.objects ≡ [] → (index : ℕ) → slabs ≤ 2 ^ 32 → (input : List ℕ)
+    → Begins tac plan slabs serves index input
+run_begins tac plan slabs serves values none index few input =
+    let fresh = M.initial (code_of tac plan) slabs index input in
+    let stacked = stacked_first tac input none in
+    let acted = actions_done tac plan slabs serves.kinds (initial tac input) stacked plan.start.entering fresh (starts_in_step tac plan serves.fits slabs index input values few) (serves.starts index input) in
+    let first = with_pools acted.descriptors acted.pools acted.trace fresh in
+    record { first = first; begins = acted.goes To; related = (stacked, acted.in_step, serves.first index input first (acted.goes To) acted.in_step) }

@@ -5,6 +5,7 @@ use Rattle.tac_ir.specs.States as T
 use Rattle.tac_ir.specs.Code.{Tac}
 use Rattle.pool_ir.specs.Words.{Words}
 use Rattle.pool_ir.specs.States as P
+use Rattle.pool_rewrite.specs.Plan.{Plan}
 use Rattle.pool_rewrite.specs.Placing.{offset_of_local}
 use Rattle.pool_rewrite.specs.Standing.{MemoryMap, WordsStand}
 use Rattle.pool_simulation.specs.Regions.{SameActivation, SameCallers}
@@ -15,9 +16,9 @@ use Rattle.pool_simulation.proofs.InStepWords.{old_rises}
 
 -- ---- activations
 
-module _ (tac : Tac) (state next : T.State) (memory : MemoryMap) (lasts : Lasts tac.structs state.objects next.objects) (heap : state.next_heap ≤ next.next_heap)
+module _ (tac : Tac) (plan : Plan) (state next : T.State) (memory : MemoryMap) (lasts : Lasts tac.structs state.objects next.objects) (heap : state.next_heap ≤ next.next_heap)
     (activations : state.next_activation ≤ next.next_activation) where
-  pub activation_kept : (activation : T.Activation) (own after : P.Activation) → SameActivation own after → ActivationStands tac state memory activation own → ActivationStands tac next memory activation after
+  pub activation_kept : (activation : T.Activation) (own after : P.Activation) → SameActivation own after → ActivationStands tac plan state memory activation own → ActivationStands tac plan next memory activation after
   activation_kept activation own after same stands = record {
     owner = same.owner ∙ stands.owner;
     at = same.at ∙ stands.at;
@@ -25,11 +26,10 @@ module _ (tac : Tac) (state next : T.State) (memory : MemoryMap) (lasts : Lasts 
         (words_last tac.structs state.objects next.objects lasts memory activation.registers own.words stands.words);
     inside = all_inside_last tac.structs state.objects next.objects lasts activation.registers stands.inside;
     old = λ register value is. old_rises state next heap activations value (stands.old register value is);
-    pool = ap (λ (descriptors : ℕ → ℕ). descriptors 0) same.descriptors ∙ stands.pool;
     long = same.long ∙ stands.long;
   }
 
-  pub callers_kept : (waiting : List (ℕ × T.Activation)) (callers others : List (ℕ × P.Activation)) → SameCallers callers others → CallersStand tac state memory waiting callers → CallersStand tac next memory waiting others
+  pub callers_kept : (waiting : List (ℕ × T.Activation)) (callers others : List (ℕ × P.Activation)) → SameCallers callers others → CallersStand tac plan state memory waiting callers → CallersStand tac plan next memory waiting others
   callers_kept [] [] [] same stand = tt
   callers_kept [] [] (other ∷ others) same stand = absurd same
   callers_kept [] (own ∷ callers) others same stand = absurd stand
@@ -41,17 +41,17 @@ module _ (tac : Tac) (state next : T.State) (memory : MemoryMap) (lasts : Lasts 
 -- ---- where locals lie
 
 -- frames begin where they did
-pub locals_same : (tac : Tac) (running : List T.Activation) (own after : P.Activation) (callers others : List (ℕ × P.Activation)) (activation : ℕ) (local : Local) → SameActivation own after → SameCallers callers others
-    → local_address tac running (after ∷ map (λ (waiting : ℕ × P.Activation). waiting.1) others) activation local ≡ local_address tac running (own ∷ map (λ (waiting : ℕ × P.Activation). waiting.1) callers) activation local
-locals_same tac [] own after callers others activation local same rest = refl
-locals_same tac (first ∷ running) own after [] [] activation local same rest =
-    ap (λ (start : ℕ). if first.number == activation then Some (start + offset_of_local (frame_for tac first.owner).objects local) else local_address tac running [] activation local) same.start
-locals_same tac (first ∷ running) own after [] (other ∷ others) activation local same rest = absurd rest
-locals_same tac (first ∷ running) own after ((site, caller) ∷ callers) [] activation local same rest = absurd rest
-locals_same tac (first ∷ running) own after ((site, caller) ∷ callers) ((site_after, other) ∷ others) activation local same rest =
+pub locals_same : (tac : Tac) (plan : Plan) (running : List T.Activation) (own after : P.Activation) (callers others : List (ℕ × P.Activation)) (activation : ℕ) (local : Local) → SameActivation own after → SameCallers callers others
+    → local_address tac plan running (after ∷ map (λ (waiting : ℕ × P.Activation). waiting.1) others) activation local ≡ local_address tac plan running (own ∷ map (λ (waiting : ℕ × P.Activation). waiting.1) callers) activation local
+locals_same tac plan [] own after callers others activation local same rest = refl
+locals_same tac plan (first ∷ running) own after [] [] activation local same rest =
+    ap (λ (start : ℕ). if first.number == activation then Some (start + offset_of_local (frame_for tac plan first.owner).objects local) else local_address tac plan running [] activation local) same.start
+locals_same tac plan (first ∷ running) own after [] (other ∷ others) activation local same rest = absurd rest
+locals_same tac plan (first ∷ running) own after ((site, caller) ∷ callers) [] activation local same rest = absurd rest
+locals_same tac plan (first ∷ running) own after ((site, caller) ∷ callers) ((site_after, other) ∷ others) activation local same rest =
     let start = same.start in
-    let behind = locals_same tac running caller other callers others activation local rest.1 rest.2 in
-    (λ i. if first.number == activation then Some (start i + offset_of_local (frame_for tac first.owner).objects local) else behind i)
+    let behind = locals_same tac plan running caller other callers others activation local rest.1 rest.2 in
+    (λ i. if first.number == activation then Some (start i + offset_of_local (frame_for tac plan first.owner).objects local) else behind i)
 
 -- as many wait
 pub callers_same : (callers others : List (ℕ × P.Activation)) → SameCallers callers others → length others ≡ length callers

@@ -13,6 +13,7 @@ use Rattle.tac_ir.specs.States as T
 use Rattle.tac_ir.specs.Code.{Tac}
 use Rattle.pool_ir.specs.States as P
 use Rattle.pool_ir.specs.Memory.{number_at, slot_size, slot_word}
+use Rattle.pool_rewrite.specs.Plan.{Plan}
 use Rattle.pool_rewrite.specs.Rewriting.{slot_of}
 use Rattle.pool_rewrite.specs.Standing.{Stands, ContentStands}
 use Rattle.pool_simulation.specs.Placed.{IsInside, HoldInside, addresses_end}
@@ -58,15 +59,15 @@ leaf_inside structs c_type count offset own most is = leaf_within structs c_type
 -- ---- objects
 
 -- What was made before and is there is as it was and where it was, and nothing is held that was not held before.
-pub record Keeps (tac : Tac) (state : T.State) (machine : P.State) (next : T.State) (later : P.State) : Type 0 where
+pub record Keeps (tac : Tac) (plan : Plan) (state : T.State) (machine : P.State) (next : T.State) (later : P.State) : Type 0 where
   pub heap : state.next_heap ≤ next.next_heap
   pub activations : state.next_activation ≤ next.next_activation
   pub same : (object : V.Object) (offset : ℕ) → IsOld state (Address object offset) → is_there (next.objects object) ≡ true → next.objects object ≡ state.objects object
-  pub address : (object : V.Object) (address : ℕ) → address_in tac state machine object ≡ Some address → address_in tac next later object ≡ Some address
+  pub address : (object : V.Object) (address : ℕ) → address_in tac plan state machine object ≡ Some address → address_in tac plan next later object ≡ Some address
   pub holds : (object : V.Object) (offset : ℕ) (value : Value) → held_at offset (next.objects object) ≡ Some value → held_at offset (state.objects object) ≡ Some value
 
-module _ (tac : Tac) (state : T.State) (machine : P.State) (next : T.State) (later : P.State) (keeps : Keeps tac state machine next later) where
-  pub kept_stands : (value : Value) (word : ℕ) → IsOld state value → Stands state.objects (memory_in tac state machine) value word → Stands next.objects (memory_in tac next later) value word
+module _ (tac : Tac) (plan : Plan) (state : T.State) (machine : P.State) (next : T.State) (later : P.State) (keeps : Keeps tac plan state machine next later) where
+  pub kept_stands : (value : Value) (word : ℕ) → IsOld state value → Stands state.objects (memory_in tac plan state machine) value word → Stands next.objects (memory_in tac plan next later) value word
   kept_stands (Number z) word old stands = stands
   kept_stands NoAddress word old stands = stands
   kept_stands (Code function) word old stands = stands
@@ -85,7 +86,7 @@ module _ (tac : Tac) (state : T.State) (machine : P.State) (next : T.State) (lat
   pub kept_old : (value : Value) → IsOld state value → IsOld next value
   kept_old value old = old_rises state next keeps.heap keeps.activations value old
 
-  pub kept_still : StillStands tac state next (memory_in tac state machine) (memory_in tac next later)
+  pub kept_still : StillStands tac state next (memory_in tac plan state machine) (memory_in tac plan next later)
   kept_still = record { words = kept_stands; inside = kept_inside; old = kept_old }
 
   -- what objects hold
@@ -99,19 +100,19 @@ module _ (tac : Tac) (state : T.State) (machine : P.State) (next : T.State) (lat
 
   -- an object's scalars stand where they stood, if its bytes are read as before
   pub kept_content : (object : V.Object) (content : Content)
-      → (is_there content ≡ true → (address : ℕ) × (address_in tac state machine object ≡ Some address))
+      → (is_there content ≡ true → (address : ℕ) × (address_in tac plan state machine object ≡ Some address))
       → ((offset : ℕ) (value : Value) → held_at offset content ≡ Some value → IsOld state value)
       → ((c_type : CType) (count : ℕ) (held : ℕ → Option Value) (offset : ℕ) (own : CType) (address number : ℕ) → content ≡ Typed c_type count held → leaf_at tac.structs c_type count offset ≡ Some own
-      → address_in tac state machine object ≡ Some address → number_at machine (address + offset) (slot_size (slot_of own)) ≡ Some number → number_at later (address + offset) (slot_size (slot_of own)) ≡ Some number)
-      → ContentStands tac.structs state.objects (memory_in tac state machine) machine object content → ContentStands tac.structs next.objects (memory_in tac next later) later object content
+      → address_in tac plan state machine object ≡ Some address → number_at machine (address + offset) (slot_size (slot_of own)) ≡ Some number → number_at later (address + offset) (slot_size (slot_of own)) ≡ Some number)
+      → ContentStands tac.structs state.objects (memory_in tac plan state machine) machine object content → ContentStands tac.structs next.objects (memory_in tac plan next later) later object content
   kept_content object Absent there old reads stands = tt
   kept_content object (Untyped size) there old reads stands = tt
   kept_content object (Typed c_type count held) there old reads stands = λ offset own value leaf is fit address at.
       let first = there refl in
-      let was : address_in tac state machine object ≡ Some address = first.1 ∙ sym (keeps.address object first.0 first.1) ∙ at in
+      let was : address_in tac plan state machine object ≡ Some address = first.1 ∙ sym (keeps.address object first.0 first.1) ∙ at in
       let read = stands offset own value leaf is fit address was in (
         read.0,
         reads c_type count held offset own address read.0 refl leaf was read.1,
-        subst (λ word. Stands next.objects (memory_in tac next later) value word) (sym (slot_word-same machine later own read.0))
+        subst (λ word. Stands next.objects (memory_in tac plan next later) value word) (sym (slot_word-same machine later own read.0))
             (kept_stands value (slot_word machine (slot_of own) read.0) (old offset value is) read.2),
       )

@@ -1,4 +1,5 @@
 -- What is proved of code with pools and three-address code.
+pub mod Actions
 pub mod AlignedLayouts
 pub mod AllocatePoints
 pub mod Allocations
@@ -11,6 +12,7 @@ pub mod FirstWords
 pub mod FrameRanges
 pub mod FreePoints
 pub mod HeapRanges
+pub mod HeapSteps
 pub mod InStepWords
 pub mod Inserted
 pub mod KeptActivations
@@ -24,11 +26,13 @@ pub mod LoadPoints
 pub mod Locking
 pub mod ObjectPlaces
 pub mod ObjectSizes
-pub mod OnePool
-pub mod OnePoolCalls
+pub mod LyingObjects
+pub mod MadeObjects
 pub mod OnlyPool
 pub mod PathWords
 pub mod Placed
+pub mod PlannedCalls
+pub mod PlannedCode
 pub mod PointWords
 pub mod PointerWords
 pub mod PoolObjects
@@ -56,4 +60,6 @@ pub mod WordValues
 pub mod WrittenBytes
 pub mod AllSteps
 pub mod FirstInStep
+pub mod OnePoolServes
+pub mod OwnPoolsServe
 pub mod Simulated

@@ -18,12 +18,14 @@ use Rattle.pool_ir.specs.States as P
 use Rattle.pool_ir.specs.States.{Same}
 use Rattle.pool_ir.specs.Memory.{number_at, access, slot_size, slot_word, path_address}
 use Rattle.pool_ir.specs.Meaning.{loads}
+use Rattle.pool_rewrite.specs.Plan.{Plan}
 use Rattle.pool_rewrite.specs.Rewriting.{slot_of, path_of}
 use Rattle.pool_rewrite.specs.Standing.{Stands, ContentStands}
 use Rattle.pool_simulation.specs.Placed.{Placed}
 use Rattle.pool_simulation.specs.Comparing.{made_in}
 use Rattle.pool_simulation.specs.InStep.{plan_for, address_in, memory_in, frame_for, InStep}
-use Rattle.pool_simulation.proofs.Stepping.{code_of, Ready, Does, wrong, PointDoes}
+use Rattle.pool_simulation.specs.Serving.{code_of, nothing}
+use Rattle.pool_simulation.proofs.Stepping.{Ready, Does, wrong, PointDoes}
 use Rattle.pool_simulation.proofs.LeavesApart.{StandsIn, stands_in, leaf_within}
 use Rattle.pool_simulation.proofs.PointWords.{load_found}
 use Rattle.pool_simulation.proofs.InStepWords.{emits_in_step, write_does}
@@ -47,13 +49,13 @@ unless_goes true state next all = all
 unless_goes false state next all = tt
 
 -- such a point has to be looked at only where it goes on
-pub where_goes : (tac : Tac) (slabs : ℕ) (move : Move T.State) (does : Move P.State) → GoesOrLost move → ((next : T.State) → move ≡ To next → Does tac slabs (To next) does) → Does tac slabs move does
-where_goes tac slabs (To next) does is goes_on = goes_on next refl
-where_goes tac slabs (Halt final last) does is goes_on = wrong final last does is
+pub where_goes : (tac : Tac) (plan : Plan) (slabs : ℕ) (state : T.State) (machine : P.State) (move : Move T.State) (does : Move P.State) → GoesOrLost move → ((next : T.State) → move ≡ To next → Does tac plan slabs state machine (To next) does) → Does tac plan slabs state machine move does
+where_goes tac plan slabs state machine (To next) does is goes_on = goes_on next refl
+where_goes tac plan slabs state machine (Halt final last) does is goes_on = wrong final last does is
 
 -- the same by other names
-pub does_as : (tac : Tac) (slabs : ℕ) (move other : Move T.State) (does done : Move P.State) → move ≡ other → does ≡ done → Does tac slabs move done → Does tac slabs other does
-does_as tac slabs move other does done same also went = subst (λ (m : Move T.State). Does tac slabs m does) same (subst (Does tac slabs move) (sym also) went)
+pub does_as : (tac : Tac) (plan : Plan) (slabs : ℕ) (state : T.State) (machine : P.State) (move other : Move T.State) (does done : Move P.State) → move ≡ other → does ≡ done → Does tac plan slabs state machine move done → Does tac plan slabs state machine other does
+does_as tac plan slabs state machine move other does done same also went = subst (λ (m : Move T.State). Does tac plan slabs state machine m does) same (subst (Does tac plan slabs state machine move) (sym also) went)
 
 -- ---- what is told of accesses
 
@@ -76,19 +78,19 @@ made_write (OfActivation activation local) = refl
 -- ---- scalars in objects that are there
 
 -- a scalar that stands in an object ends within it
-pub scalar_within : (tac : Tac) (slabs : ℕ) (state : T.State) (machine : P.State) → Placed tac.structs (memory_in tac state machine) state.objects → (object : V.Object) (scalar : CType) (offset : ℕ)
+pub scalar_within : (tac : Tac) (plan : Plan) (slabs : ℕ) (state : T.State) (machine : P.State) → Placed tac.structs (memory_in tac plan state machine) state.objects → (object : V.Object) (scalar : CType) (offset : ℕ)
     → StandsIn tac.structs scalar offset (state.objects object) → offset + slot_size (slot_of scalar) ≤ extent_of tac.structs (state.objects object)
-scalar_within tac slabs state machine placed object scalar offset at =
+scalar_within tac plan slabs state machine placed object scalar offset at =
     let there = placed.there object (ap is_there at.is) in
     let exact = exact_there tac at.c_type scalar at.count offset there.0 at.leaf (subst (λ (n : ℕ). there.0 + n ≤ 2 ^ 46) (ap (extent_of tac.structs) at.is) there.3) in
     subst (λ (n : ℕ). offset + slot_size (slot_of scalar) ≤ n) (sym (ap (extent_of tac.structs) at.is)) (leaf_within tac.structs at.c_type at.count offset scalar exact at.leaf)
 
 -- what stands in the bytes of a scalar that an object holds
-pub scalar_stands : (tac : Tac) (slabs : ℕ) (state : T.State) (machine : P.State) → InStep tac slabs state machine → (object : V.Object) (scalar : CType) (offset address : ℕ) (value : Value)
-    → address_in tac state machine object ≡ Some address → StandsIn tac.structs scalar offset (state.objects object) → held_at offset (state.objects object) ≡ Some value → fits scalar value ≡ true
-    → (number : ℕ) × (number_at machine (address + offset) (slot_size (slot_of scalar)) ≡ Some number) × Stands state.objects (memory_in tac state machine) value (slot_word machine (slot_of scalar) number)
-scalar_stands tac slabs state machine in_step object scalar offset address value is at held fit =
-    let stand = subst (ContentStands tac.structs state.objects (memory_in tac state machine) machine object) at.is (in_step.contents object) in
+pub scalar_stands : (tac : Tac) (plan : Plan) (slabs : ℕ) (state : T.State) (machine : P.State) → InStep tac plan slabs state machine → (object : V.Object) (scalar : CType) (offset address : ℕ) (value : Value)
+    → address_in tac plan state machine object ≡ Some address → StandsIn tac.structs scalar offset (state.objects object) → held_at offset (state.objects object) ≡ Some value → fits scalar value ≡ true
+    → (number : ℕ) × (number_at machine (address + offset) (slot_size (slot_of scalar)) ≡ Some number) × Stands state.objects (memory_in tac plan state machine) value (slot_word machine (slot_of scalar) number)
+scalar_stands tac plan slabs state machine in_step object scalar offset address value is at held fit =
+    let stand = subst (ContentStands tac.structs state.objects (memory_in tac plan state machine) machine object) at.is (in_step.contents object) in
     stand offset scalar value at.leaf (ap (held_at offset) (sym at.is) ∙ held) fit address is
 
 -- ---- loads
@@ -109,41 +111,42 @@ load_goes tac state to scalar path =
     (given_goes (held_at reached.inner.offset content) state (λ value. unless_lost (fits scalar value) state (T.write to value after))
     (λ (value : Value). unless_goes (fits scalar value) state (T.write to value after) tt)))
 
-module _ (tac : Tac) (slabs : ℕ) (state : T.State) (machine : P.State) (ready : Ready tac slabs state machine) (to : Register) (scalar : CType) (path : Path) where
+module _ (tac : Tac) (plan : Plan) (slabs : ℕ) (state : T.State) (machine : P.State) (ready : Ready tac plan slabs state machine) (to : Register) (scalar : CType) (path : Path) where
   abbrev own : List O.LocalObject
   own = T.objects_of (T.function_of tac state.running.owner)
 
   abbrev at_path : ℕ
-  at_path = path_address machine.running (path_of tac own (frame_for tac state.running.owner) path)
+  at_path = path_address machine.running (path_of tac own (frame_for tac plan state.running.owner) path)
 
   abbrev does : Move P.State
-  does = loads (code_of tac) to (slot_of scalar) at_path machine
+  does = loads (code_of tac plan) to (slot_of scalar) at_path machine
 
-  loaded : (next : T.State) → execute tac (T.around_of tac state.running) (O.Load to scalar path) state ≡ To next → Does tac slabs (To next) does
+  loaded : (next : T.State) → execute tac (T.around_of tac state.running) (O.Load to scalar path) state ≡ To next → Does tac plan slabs state machine (To next) does
   loaded next e =
       let step = ready.in_step in
-      let found = load_found tac (plan_for tac state.running.owner) own (frame_for tac state.running.owner) state.running.number (memory_in tac state machine) (λ object offset. refl) (code_of tac) state next machine ready.placed
+      let found = load_found tac (plan_for plan state.running.owner) own (frame_for tac plan state.running.owner) state.running.number (memory_in tac plan state machine) (λ object offset. refl) (code_of tac plan) state next machine ready.placed
       step.running.words step.running.inside ready.bases to scalar path e in
       let reached = found.0 in
       let value = found.1 in
       let at = stands_in tac.structs scalar reached.inner.offset (state.objects reached.object) found.3 in
-      let lies = place tac slabs state machine ready.stacked step reached.object found.2.there in
-      let read = scalar_stands tac slabs state machine step reached.object scalar reached.inner.offset lies.address value lies.is at found.4 found.5 in
-      let within = scalar_within tac slabs state machine ready.placed reached.object scalar reached.inner.offset at in
+      let lies = place tac plan slabs state machine ready.stacked step reached.object found.2.there in
+      let read = scalar_stands tac plan slabs state machine step reached.object scalar reached.inner.offset lies.address value lies.is at found.4 found.5 in
+      let within = scalar_within tac plan slabs state machine ready.placed reached.object scalar reached.inner.offset at in
       let size = slot_size (slot_of scalar) in
       let told = lies.tells ReadFrom reached.inner.offset size (slot_some scalar) within in
       let events = T.access ReadFrom reached.object in
       let word = slot_word machine (slot_of scalar) read.0 in
       let same_place : found.2.address ≡ lies.address = cc (sym found.2.address_is ∙ lies.is) in
       let here : at_path ≡ lies.address + reached.inner.offset = found.2.path_is ∙ ap (λ (n : ℕ). n + reached.inner.offset) same_place in
-      let done : does ≡ P.write (code_of tac) to word (P.emit (map Same events) machine) =
-      ap (λ (n : ℕ). loads (code_of tac) to (slot_of scalar) n machine) here
-      ∙ loads_is (code_of tac) to (slot_of scalar) (lies.address + reached.inner.offset) read.0 machine read.1
-      ∙ ap (λ (happened : List P.PoolEvent). P.write (code_of tac) to word (P.emit happened machine)) told in
-      let after = emits_in_step tac slabs state machine step events (map Same events) (same_mapped events) (made_read reached.object) in
-      let wrote = write_does tac slabs (T.emit events state) (P.emit (map Same events) machine) after to value word read.2 (step.inside reached.object reached.inner.offset value found.4)
+      let done : does ≡ P.write (code_of tac plan) to word (P.emit (map Same events) machine) =
+      ap (λ (n : ℕ). loads (code_of tac plan) to (slot_of scalar) n machine) here
+      ∙ loads_is (code_of tac plan) to (slot_of scalar) (lies.address + reached.inner.offset) read.0 machine read.1
+      ∙ ap (λ (happened : List P.PoolEvent). P.write (code_of tac plan) to word (P.emit happened machine)) told in
+      let after = emits_in_step tac plan slabs state machine step events (map Same events) (same_mapped events) (made_read reached.object) in
+      let wrote = write_does tac plan slabs state machine (T.emit events state) (P.emit (map Same events) machine)
+      (nothing _ (record { owner = refl; descriptors = refl; at = refl; callers = refl; pools = refl; placed = refl })) after to value word read.2 (step.inside reached.object reached.inner.offset value found.4)
       (step.old reached.object reached.inner.offset value found.4) in
-      does_as tac slabs (T.write to value (T.emit events state)) (To next) does (P.write (code_of tac) to word (P.emit (map Same events) machine)) found.6 done wrote
+      does_as tac plan slabs state machine (T.write to value (T.emit events state)) (To next) does (P.write (code_of tac plan) to word (P.emit (map Same events) machine)) found.6 done wrote
 
-  pub load_does : PointDoes tac slabs state machine (O.Load to scalar path)
-  load_does = where_goes tac slabs (execute tac (T.around_of tac state.running) (O.Load to scalar path) state) does (load_goes tac state to scalar path) loaded
+  pub load_does : PointDoes tac plan slabs state machine (O.Load to scalar path)
+  load_does = where_goes tac plan slabs state machine (execute tac (T.around_of tac state.running) (O.Load to scalar path) state) does (load_goes tac state to scalar path) loaded

@@ -14,7 +14,7 @@ use Rattle.pool_simulation.proofs.LiveCells.{SoundCells}
 use Rattle.pool_simulation.proofs.SoundPools.{SoundPool}
 use Rattle.pool_simulation.proofs.PoolObjects.{SomeSound, sound_at}
 use Rattle.pool_simulation.proofs.LiveObjects.{cell_is, in_flat, in_map, one_in}
-use Rattle.pool_simulation.proofs.Allocations.{heap_sound, mixed_pool}
+use Rattle.pool_simulation.proofs.Allocations.{heap_sound, pool_of_kind}
 
 -- ---- pools of one kind of cells
 
@@ -61,7 +61,7 @@ cell_aligned size place run at even e =
 -- objects of mixed pools begin at multiples of 16
 pub mixed_aligned : (p : Pools) (id : ℕ) (o : Object) → SoundHeap p → kind_of p id ≡ Some Mixed → LivesIn p id o → o.start % 16 ≡ 0
 mixed_aligned p id o heap mixed lives =
-    let pool = mixed_pool p id mixed in
+    let pool = pool_of_kind p id Mixed mixed in
     let sound = subst (SomeSound heap.slabs) pool.1 (sound_at heap.slabs p (heap_sound p heap) id) in
     by pool.0 pool.2 sound (in_either o (flat_map live_cells pool.0.classes) (map large_object pool.0.large) (subst (λ f. IsIn o (objects_of f)) pool.1 lives))
   where

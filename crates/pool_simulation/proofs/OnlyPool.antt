@@ -1,18 +1,16 @@
 -- The one pool: it serves all allocations, and stays the one pool while objects are placed and freed.
-use Rattle.std.proofs.Common.{◌≡◌, ℕ, zero, suc, ◌-◌, ◌⊎◌, List, [], ◌∷◌, ◌++◌, Option, Some, None, length, flat_map, refl, sym, ap, subst, ◌∙◌, inl, inr, arith}
-use Rattle.std.specs.Prelude.{⊤, ◌==◌, slice_index_or, slice_get, option_map, reverse}
-use Rattle.std.proofs.lemmas.List.{length-set, length-reverse, reverse-append}
+use Rattle.std.proofs.Common.{◌≡◌, ℕ, ◌-◌, ◌⊎◌, List, [], ◌∷◌, Option, Some, None, length, flat_map, refl, sym, ap, subst, ◌∙◌, inl, inr, arith}
+use Rattle.std.specs.Prelude.{⊤, ◌==◌, slice_index_or, option_map}
+use Rattle.std.proofs.lemmas.List.{length-set}
 use Rattle.std.proofs.lemmas.Option.{none-some}
 use Rattle.slab_space.specs.declared.kind.PoolKind.TheVariants.{Mixed}
 use Rattle.slab_space.specs.Pool.{Pool, Object, objects_in}
 use Rattle.slab_space.specs.PoolSteps.{PoolInSlabs, Allocation, placed, index_exhausted, heap_exhausted, placed_in, freed_in}
 use Rattle.slab_space.specs.Pools.{Pools, pool_at, with_change, allocated, alloc_in, alloc_step, free_in, free_step, objects_of, kind_of}
 use Rattle.slab_space.proofs.Peaks.{either}
-use Rattle.tac_ir.specs.Events.{TacEvent, Made}
 use Rattle.pool_ir.specs.States as P
 use Rattle.pool_simulation.specs.Regions.{IsIn, Lives, LivesIn}
-use Rattle.pool_simulation.specs.Comparing.{made_in}
-use Rattle.pool_simulation.specs.InStep.{HasOnePool}
+use Rattle.pool_simulation.specs.OnePool.{HasOnePool}
 use Rattle.pool_simulation.proofs.Inserted.{in_either}
 
 -- ---- the one pool
@@ -79,33 +77,3 @@ freed_made p q id address e = by (pool_at p id) e
     by : (found : Option Pool) → free_in p id address found ≡ Some q → length q.pools ≡ length p.pools
     by None e = absurd (none-some q e)
     by (Some pool) e = freed_with p q id (freed_in p.owners pool address) e
-
--- ---- where objects were placed, the first one first
-
-get_in_front : (xs ys : List ℕ) (number x : ℕ) → slice_get xs number ≡ Some x → slice_get (xs ++ ys) number ≡ Some x
-get_in_front [] ys number x there = absurd (none-some x there)
-get_in_front (first ∷ xs) ys zero x there = there
-get_in_front (first ∷ xs) ys (suc number) x there = get_in_front xs ys number x there
-
-get_behind : (xs : List ℕ) (x : ℕ) → slice_get (xs ++ x ∷ []) (length xs) ≡ Some x
-get_behind [] x = refl
-get_behind (first ∷ xs) x = get_behind xs x
-
-one_more : (starts : List ℕ) (start : ℕ) → reverse (start ∷ starts) ≡ reverse starts ++ start ∷ []
-one_more starts start = reverse-append (start ∷ []) starts
-
--- those placed before keep their numbers
-pub older_start : (starts : List ℕ) (start number address : ℕ) → slice_get (reverse starts) number ≡ Some address → slice_get (reverse (start ∷ starts)) number ≡ Some address
-older_start starts start number address is = ap (λ xs. slice_get xs number) (one_more starts start) ∙ get_in_front (reverse starts) (start ∷ []) number address is
-
-pub newest_start : (starts : List ℕ) (start : ℕ) → slice_get (reverse (start ∷ starts)) (length starts) ≡ Some start
-newest_start starts start =
-    ap (λ xs. slice_get xs (length starts)) (one_more starts start) ∙ ap (λ n. slice_get (reverse starts ++ start ∷ []) n) (sym (length-reverse starts)) ∙ get_behind (reverse starts) start
-
--- ---- events
-
--- one more object was made
-pub made_one : (trace : List TacEvent) (site object size : ℕ) → made_in (trace ++ Made site object size ∷ []) ≡ made_in trace ++ size ∷ []
-made_one [] site object size = refl
-made_one (Made other_site other other_size ∷ trace) site object size = ap (λ (rest : List ℕ). other_size ∷ rest) (made_one trace site object size)
-made_one (first ∷ trace) site object size = made_one trace site object size

@@ -23,7 +23,7 @@ use Rattle.pool_ir.specs.Code.{FrameLayout}
 use Rattle.pool_ir.specs.States as P
 use Rattle.pool_ir.specs.Memory.{covers, frame_number, activations_of, number_at}
 use Rattle.pool_ir.specs.Meaning.{next_start}
-use Rattle.pool_rewrite.specs.Plan.{one_pool_function}
+use Rattle.pool_rewrite.specs.Plan.{Plan}
 use Rattle.pool_rewrite.specs.Placing.{global_offset, literal_offset, offset_of_local, frame_of}
 use Rattle.pool_rewrite.specs.Standing.{MemoryMap}
 use Rattle.pool_simulation.specs.Regions.{frame_end, Stacked, Regions}
@@ -31,7 +31,7 @@ use Rattle.pool_simulation.specs.InStep.{plan_for, frame_for, running_in, local_
 use Rattle.pool_simulation.proofs.FrameRanges.{not_before, not_behind, frames_start, next_behind, none_behind}
 use Rattle.pool_simulation.proofs.Ranges.{number_by, number_is}
 use Rattle.pool_simulation.proofs.Allocations.{live_inside, found_lives}
-use Rattle.pool_simulation.proofs.OnePool.{plan_is, frame_is}
+use Rattle.pool_simulation.proofs.PlannedCode.{frame_is}
 use Rattle.pool_simulation.proofs.Placed.{global_within, literal_within, local_lies}
 
 -- ---- what memory reads
@@ -98,30 +98,30 @@ module _ (state later : P.State) (site : ℕ) (caller : P.Activation) (waiting :
 -- ---- frames of activations
 
 -- the frame of a function of the program
-pub number_frame : (tac : Tac) (number : ℕ) (function : Function) → slice_get tac.functions number ≡ Some function → frame_for tac (InFunction number) ≡ frame_of tac.structs (one_pool_function function) function
-number_frame tac number function is = frame_is tac (InFunction number) function is ∙ ap (λ plan. frame_of tac.structs plan function) (plan_is tac number function is)
+pub number_frame : (tac : Tac) (plan : Plan) (number : ℕ) (function : Function) → slice_get tac.functions number ≡ Some function → frame_for tac plan (InFunction number) ≡ frame_of tac.structs (plan_for plan (InFunction number)) function
+number_frame tac plan number function is = frame_is tac plan (InFunction number) function is
 
 -- a local lies in its frame
-pub local_in_frame : (tac : Tac) (owner : Owner) (local : Local) (inner : Inner) → own_type (T.objects_of (T.function_of tac owner)) local ≡ Some inner
-    → offset_of_local (frame_for tac owner).objects local + size_of tac.structs inner.c_type ≤ (frame_for tac owner).size
-local_in_frame tac InStart local inner is = (local_lies tac.structs (plan_for tac InStart) tac.start local inner is).within
-local_in_frame tac (InFunction number) local inner is = by (slice_get tac.functions number) refl is
+pub local_in_frame : (tac : Tac) (plan : Plan) (owner : Owner) (local : Local) (inner : Inner) → own_type (T.objects_of (T.function_of tac owner)) local ≡ Some inner
+    → offset_of_local (frame_for tac plan owner).objects local + size_of tac.structs inner.c_type ≤ (frame_for tac plan owner).size
+local_in_frame tac plan InStart local inner is = (local_lies tac.structs (plan_for plan InStart) tac.start local inner is).within
+local_in_frame tac plan (InFunction number) local inner is = by (slice_get tac.functions number) refl is
   where
     by : (found : Option Function) → slice_get tac.functions number ≡ found → own_type (T.objects_of found) local ≡ Some inner
-        → offset_of_local (frame_for tac (InFunction number)).objects local + size_of tac.structs inner.c_type ≤ (frame_for tac (InFunction number)).size
+        → offset_of_local (frame_for tac plan (InFunction number)).objects local + size_of tac.structs inner.c_type ≤ (frame_for tac plan (InFunction number)).size
     by None e is = absurd (cc)
     by (Some function) e is =
-        subst (λ (frame : FrameLayout). offset_of_local frame.objects local + size_of tac.structs inner.c_type ≤ frame.size) (sym (number_frame tac number function e))
-        ((local_lies tac.structs (one_pool_function function) function local inner is).within)
+        subst (λ (frame : FrameLayout). offset_of_local frame.objects local + size_of tac.structs inner.c_type ≤ frame.size) (sym (number_frame tac plan number function e))
+        ((local_lies tac.structs (plan_for plan (InFunction number)) function local inner is).within)
 
 -- the frames of waiting activations leave room
-pub frames_low : (tac : Tac) (state : T.State) (memory : MemoryMap) (callers : List (ℕ × T.Activation)) (running : P.Activation) (others : List (ℕ × P.Activation)) → Fits tac → CallersStand tac state memory callers others
+pub frames_low : (tac : Tac) (plan : Plan) (state : T.State) (memory : MemoryMap) (callers : List (ℕ × T.Activation)) (running : P.Activation) (others : List (ℕ × P.Activation)) → Fits tac plan → CallersStand tac plan state memory callers others
     → Stacked running others → running.start ≤ 2 ^ 40 + length others * greatest_frame
-frames_low tac state memory [] running [] fits stand stacked = omega (arith, stacked)
-frames_low tac state memory [] running (own ∷ others) fits stand stacked = absurd stand
-frames_low tac state memory (waiting ∷ callers) running [] fits stand stacked = absurd stand
-frames_low tac state memory (waiting ∷ callers) running ((site, own) ∷ others) fits stand stacked =
-    let rest = frames_low tac state memory callers own others fits stand.2 stacked.1 in
+frames_low tac plan state memory [] running [] fits stand stacked = omega (arith, stacked)
+frames_low tac plan state memory [] running (own ∷ others) fits stand stacked = absurd stand
+frames_low tac plan state memory (waiting ∷ callers) running [] fits stand stacked = absurd stand
+frames_low tac plan state memory (waiting ∷ callers) running ((site, own) ∷ others) fits stand stacked =
+    let rest = frames_low tac plan state memory callers own others fits stand.2 stacked.1 in
     behind own.start (length own.bytes) (length others) running.start rest (omega (arith, stand.1.long, fits.frames waiting.1.owner)) stacked.0
   where
     behind : (start long count next : ℕ) → start ≤ 2 ^ 40 + count * greatest_frame → long ≤ greatest_frame → next ≡ start + (long + 15) / 16 * 16 → next ≤ 2 ^ 40 + suc count * greatest_frame
@@ -130,10 +130,10 @@ frames_low tac state memory (waiting ∷ callers) running ((site, own) ∷ other
 -- ---- where objects of activations lie
 
 -- those of the activations before lie where they lay
-pub pushed_local : (tac : Tac) (first : T.Activation) (own : P.Activation) (others : List T.Activation) (more : List P.Activation) (activation : ℕ) (local : Local) → (first.number == activation) ≡ false
-    → local_address tac (first ∷ others) (own ∷ more) activation local ≡ local_address tac others more activation local
-pushed_local tac first own others more activation local apart =
-    ap (λ b. if b then Some (own.start + offset_of_local (frame_for tac first.owner).objects local) else local_address tac others more activation local) apart
+pub pushed_local : (tac : Tac) (plan : Plan) (first : T.Activation) (own : P.Activation) (others : List T.Activation) (more : List P.Activation) (activation : ℕ) (local : Local) → (first.number == activation) ≡ false
+    → local_address tac plan (first ∷ others) (own ∷ more) activation local ≡ local_address tac plan others more activation local
+pushed_local tac plan first own others more activation local apart =
+    ap (λ b. if b then Some (own.start + offset_of_local (frame_for tac plan first.owner).objects local) else local_address tac plan others more activation local) apart
 
 -- those that wait have numbers below
 pub owned_below : (tac : Tac) (objects : Objects) (above : ℕ) (callers : List (ℕ × T.Activation)) (activation : ℕ) (local : Local) → AreStacked tac above callers objects
@@ -148,38 +148,38 @@ owned_made tac state activation local stacked (inl own) = omega (arith, stacked.
 owned_made tac state activation local stacked (inr more) = omega (arith, stacked.0, owned_below tac state.objects state.running.number state.callers activation local stacked.2 more)
 
 -- an object of an activation that waits ends where the frame begins that runs, or before
-pub waiting_lies : (tac : Tac) (state : T.State) (memory : MemoryMap) (objects : Objects) (activation : ℕ) (local : Local) (address above : ℕ) (callers : List (ℕ × T.Activation)) (running : P.Activation) (others : List (ℕ × P.Activation))
-    → CallersStand tac state memory callers others → AreStacked tac above callers objects → Stacked running others → IsOwned tac (map (λ (waiting : ℕ × T.Activation). waiting.1) callers) activation local
-    → local_address tac (map (λ (waiting : ℕ × T.Activation). waiting.1) callers) (map (λ (waiting : ℕ × P.Activation). waiting.1) others) activation local ≡ Some address
+pub waiting_lies : (tac : Tac) (plan : Plan) (state : T.State) (memory : MemoryMap) (objects : Objects) (activation : ℕ) (local : Local) (address above : ℕ) (callers : List (ℕ × T.Activation)) (running : P.Activation) (others : List (ℕ × P.Activation))
+    → CallersStand tac plan state memory callers others → AreStacked tac above callers objects → Stacked running others → IsOwned tac (map (λ (waiting : ℕ × T.Activation). waiting.1) callers) activation local
+    → local_address tac plan (map (λ (waiting : ℕ × T.Activation). waiting.1) callers) (map (λ (waiting : ℕ × P.Activation). waiting.1) others) activation local ≡ Some address
     → address + extent_of tac.structs (objects (OfActivation activation local)) ≤ running.start
-waiting_lies tac state memory objects activation local address above [] running others stand are stacked owned is = absurd owned
-waiting_lies tac state memory objects activation local address above (waiting ∷ callers) running [] stand are stacked owned is = absurd stand
-waiting_lies tac state memory objects activation local address above (waiting ∷ callers) running ((site, own) ∷ others) stand are stacked owned is =
-    by (waiting.1.number == activation) refl owned is (waiting_lies tac state memory objects activation local address waiting.1.number callers own others stand.2 are.2 stacked.1)
+waiting_lies tac plan state memory objects activation local address above [] running others stand are stacked owned is = absurd owned
+waiting_lies tac plan state memory objects activation local address above (waiting ∷ callers) running [] stand are stacked owned is = absurd stand
+waiting_lies tac plan state memory objects activation local address above (waiting ∷ callers) running ((site, own) ∷ others) stand are stacked owned is =
+    by (waiting.1.number == activation) refl owned is (waiting_lies tac plan state memory objects activation local address waiting.1.number callers own others stand.2 are.2 stacked.1)
   where
     by : (b : Bool) → (waiting.1.number == activation) ≡ b → IsOwned tac (map (λ (waiting : ℕ × T.Activation). waiting.1) (waiting ∷ callers)) activation local
-        → (if b then Some (own.start + offset_of_local (frame_for tac waiting.1.owner).objects local)
-        else local_address tac (map (λ (waiting : ℕ × T.Activation). waiting.1) callers) (map (λ (waiting : ℕ × P.Activation). waiting.1) others) activation local) ≡ Some address
+        → (if b then Some (own.start + offset_of_local (frame_for tac plan waiting.1.owner).objects local)
+        else local_address tac plan (map (λ (waiting : ℕ × T.Activation). waiting.1) callers) (map (λ (waiting : ℕ × P.Activation). waiting.1) others) activation local) ≡ Some address
         → (IsOwned tac (map (λ (waiting : ℕ × T.Activation). waiting.1) callers) activation local
-        → local_address tac (map (λ (waiting : ℕ × T.Activation). waiting.1) callers) (map (λ (waiting : ℕ × P.Activation). waiting.1) others) activation local ≡ Some address
+        → local_address tac plan (map (λ (waiting : ℕ × T.Activation). waiting.1) callers) (map (λ (waiting : ℕ × P.Activation). waiting.1) others) activation local ≡ Some address
         → address + extent_of tac.structs (objects (OfActivation activation local)) ≤ own.start)
         → address + extent_of tac.structs (objects (OfActivation activation local)) ≤ running.start
     by true same (inl here) is rest =
         let inner : Inner = here.1.0 in
-        let place : own.start + offset_of_local (frame_for tac waiting.1.owner).objects local ≡ address = same_Some (own.start + offset_of_local (frame_for tac waiting.1.owner).objects local) address is in
+        let place : own.start + offset_of_local (frame_for tac plan waiting.1.owner).objects local ≡ address = same_Some (own.start + offset_of_local (frame_for tac plan waiting.1.owner).objects local) address is in
         let content = are.1 local inner here.1.1 in
         let long : extent_of tac.structs (objects (OfActivation activation local)) ≡ 1 * size_of tac.structs inner.c_type =
         ap (λ n. extent_of tac.structs (objects (OfActivation n local))) (sym here.0) ∙ ap (extent_of tac.structs) content.1 in
-        omega (arith, place, long, local_in_frame tac waiting.1.owner local inner here.1.1, stand.1.long, next_behind own, stacked.0)
+        omega (arith, place, long, local_in_frame tac plan waiting.1.owner local inner here.1.1, stand.1.long, next_behind own, stacked.0)
     by true same (inr more) is rest = absurd (omega (arith, eqb-true waiting.1.number activation same, owned_below tac objects waiting.1.number callers activation local are.2 more))
     by false apart (inl here) is rest = absurd (true≢false (sym (eq-eqb waiting.1.number activation here.0) ∙ apart))
     by false apart (inr more) is rest = omega (arith, rest more is, next_behind own, stacked.0)
 
 -- ---- what stays when the running activation ends
 
-module _ (tac : Tac) (slabs : ℕ) (state : T.State) (machine : P.State) (stacked : IsStacked tac state) (step : InStep tac slabs state machine) where
+module _ (tac : Tac) (plan : Plan) (slabs : ℕ) (state : T.State) (machine : P.State) (stacked : IsStacked tac state) (step : InStep tac plan slabs state machine) where
   -- no byte of it is one of the frame that is popped
-  pub stays_apart : (object : V.Object) (address offset : ℕ) → is_there (closed state.running.number state.objects object) ≡ true → address_in tac state machine object ≡ Some address
+  pub stays_apart : (object : V.Object) (address offset : ℕ) → is_there (closed state.running.number state.objects object) ≡ true → address_in tac plan state machine object ≡ Some address
       → offset < extent_of tac.structs (state.objects object) → (address + offset < machine.running.start) ⊎ (frame_end machine.running ≤ address + offset)
   stays_apart (OfHeap number) address offset there is less =
       let own = step.allocations number there in
@@ -209,9 +209,9 @@ module _ (tac : Tac) (slabs : ℕ) (state : T.State) (machine : P.State) (stacke
       owned_by : (activation == state.running.number) ≡ false → IsOwned tac (running_in state) activation local → (address + offset < machine.running.start) ⊎ (frame_end machine.running ≤ address + offset)
       owned_by apart (inl here) = absurd (true≢false (sym (eq-eqb activation state.running.number (sym here.0)) ∙ apart))
       owned_by apart (inr more) =
-          let further = pushed_local tac state.running machine.running (map (λ (waiting : ℕ × T.Activation). waiting.1) state.callers) (map (λ (waiting : ℕ × P.Activation). waiting.1) machine.callers) activation local
+          let further = pushed_local tac plan state.running machine.running (map (λ (waiting : ℕ × T.Activation). waiting.1) state.callers) (map (λ (waiting : ℕ × P.Activation). waiting.1) machine.callers) activation local
           (ne_eqb state.running.number activation (λ e. true≢false (sym (eq-eqb activation state.running.number (sym e)) ∙ apart))) in
-          let ends = waiting_lies tac state _ state.objects activation local address state.running.number state.callers machine.running machine.callers step.callers stacked.2 step.regions.frames more (sym further ∙ is) in
+          let ends = waiting_lies tac plan state _ state.objects activation local address state.running.number state.callers machine.running machine.callers step.callers stacked.2 step.regions.frames more (sym further ∙ is) in
           inl (omega (arith, ends, less))
 
       by : (b : Bool) → (activation == state.running.number) ≡ b → is_there (if b then Absent else state.objects (OfActivation activation local)) ≡ true

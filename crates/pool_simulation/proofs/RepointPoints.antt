@@ -15,14 +15,16 @@ use Rattle.tac_ir.specs.Pointers.{gives_type, typed_content, repoint}
 use Rattle.tac_ir.specs.Code.{Tac}
 use Rattle.tac_ir.specs.Code as O
 use Rattle.pool_ir.specs.States as P
+use Rattle.pool_rewrite.specs.Plan.{Plan}
 use Rattle.pool_rewrite.specs.Standing.{MemoryMap, Stands, ContentStands}
 use Rattle.pool_simulation.specs.Placed.{IsInside, Lasts}
 use Rattle.pool_simulation.specs.InStep.{address_in, memory_in, IsOld, IsOf, AllocationStands, InStep}
 use Rattle.pool_simulation.proofs.SameObjects.{same_object-true}
 use Rattle.pool_simulation.proofs.LastingWords.{typed_lasts, lasts_typed, stands_lasts, inside_lasts, hold_typed}
-use Rattle.pool_simulation.proofs.Stepping.{code_of, Ready, Does, PointDoes}
-use Rattle.pool_simulation.proofs.OnePool.{does_given}
-use Rattle.pool_simulation.proofs.InStepWords.{StillStands, activation_still, callers_still, same_memory, write_does}
+use Rattle.pool_simulation.specs.Serving.{code_of}
+use Rattle.pool_simulation.proofs.Stepping.{Ready, Does, PointDoes}
+use Rattle.pool_simulation.proofs.PlannedCode.{does_given}
+use Rattle.pool_simulation.proofs.InStepWords.{StillStands, activation_still, callers_still, same_memory, no_effect, write_does}
 use Rattle.pool_simulation.proofs.RegisterPoints.{does_looked}
 
 -- ---- what gets a type
@@ -68,7 +70,7 @@ content_lasts structs before after lasts memory machine object (Typed c_type cou
 
 -- ---- in step with it
 
-module _ (tac : Tac) (slabs : ℕ) (state : T.State) (machine : P.State) (step : InStep tac slabs state machine) (target : CType) (object : V.Object) (typed : Content)
+module _ (tac : Tac) (plan : Plan) (slabs : ℕ) (state : T.State) (machine : P.State) (step : InStep tac plan slabs state machine) (target : CType) (object : V.Object) (typed : Content)
     (e : typed_content (T.around_of tac state.running) target (state.objects object) ≡ Some typed) where
   abbrev around : Surroundings
   around = T.around_of tac state.running
@@ -112,15 +114,15 @@ module _ (tac : Tac) (slabs : ℕ) (state : T.State) (machine : P.State) (step :
           subst (ContentStands tac.structs objects memory machine other) fresh.3
           (λ offset own value leaf is fit address at. absurd (cc))
 
-  addresses_alike : (other : V.Object) → address_in tac next machine other ≡ address_in tac state machine other
+  addresses_alike : (other : V.Object) → address_in tac plan next machine other ≡ address_in tac plan state machine other
   addresses_alike (OfHeap zero) = refl
   addresses_alike (OfHeap (suc number)) = refl
   addresses_alike (OfGlobal number) = refl
   addresses_alike (OfLiteral number) = refl
   addresses_alike (OfActivation activation local) = refl
 
-  alike : memory_in tac next machine ≡ memory_in tac state machine
-  alike = same_memory tac state next machine machine addresses_alike (λ other. extent_by other (same_object object other) refl)
+  alike : memory_in tac plan next machine ≡ memory_in tac plan state machine
+  alike = same_memory tac plan state next machine machine addresses_alike (λ other. extent_by other (same_object object other) refl)
 
   pub stays_old : (value : Value) → IsOld state value → IsOld (store_content object typed state) value
   stays_old (Address (OfHeap number) offset) old = old
@@ -131,14 +133,14 @@ module _ (tac : Tac) (slabs : ℕ) (state : T.State) (machine : P.State) (step :
   stays_old NoAddress old = old
   stays_old (Code function) old = old
 
-  still : StillStands tac state next (memory_in tac state machine) (memory_in tac next machine)
+  still : StillStands tac state next (memory_in tac plan state machine) (memory_in tac plan next machine)
   still = record {
-    words = λ value word old stands. subst (λ memory. Stands objects memory value word) (sym alike) (stands_lasts tac.structs state.objects objects retyped_lasts (memory_in tac state machine) value word stands);
+    words = λ value word old stands. subst (λ memory. Stands objects memory value word) (sym alike) (stands_lasts tac.structs state.objects objects retyped_lasts (memory_in tac plan state machine) value word stands);
     inside = λ value old inside. inside_lasts tac.structs state.objects objects retyped_lasts value inside;
     old = stays_old;
   }
 
-  allocation_alike : (number : ℕ) → AllocationStands tac state machine number → AllocationStands tac next machine number
+  allocation_alike : (number : ℕ) → AllocationStands tac plan state machine number → AllocationStands tac plan next machine number
   allocation_alike number stands = record {
     address = stands.address;
     is = addresses_alike (OfHeap number) ∙ stands.is;
@@ -149,23 +151,22 @@ module _ (tac : Tac) (slabs : ℕ) (state : T.State) (machine : P.State) (step :
     told = stands.told;
   }
 
-  pub retyped_in_step : InStep tac slabs (store_content object typed state) machine
+  pub retyped_in_step : InStep tac plan slabs (store_content object typed state) machine
   retyped_in_step = record {
-    running = activation_still tac state next (memory_in tac state machine) (memory_in tac next machine) still state.running machine.running step.running;
-    callers = callers_still tac state next (memory_in tac state machine) (memory_in tac next machine) still state.callers machine.callers step.callers;
+    running = activation_still tac plan state next (memory_in tac plan state machine) (memory_in tac plan next machine) still state.running machine.running step.running;
+    callers = callers_still tac plan state next (memory_in tac plan state machine) (memory_in tac plan next machine) still state.callers machine.callers step.callers;
     owned = λ activation local there. step.owned activation local (retyped_lasts.there (OfActivation activation local) there);
     globals = λ number. of_by (option_map (λ (global : GlobalDef). global.c_type) (slice_get tac.globals number)) (OfGlobal number) (same_object object (OfGlobal number)) refl (step.globals number);
     literals = λ number. of_by (option_map (λ (literal : LiteralDef). literal_type literal.bytes) (slice_get tac.literals number)) (OfLiteral number) (same_object object (OfLiteral number)) refl (step.literals number);
     allocations = λ number there. allocation_alike number (step.allocations number (retyped_lasts.there (OfHeap number) there));
     contents = λ other. subst (λ memory. ContentStands tac.structs objects memory machine other (objects other)) (sym alike)
-        (content_by (memory_in tac state machine) other (same_object object other) refl (step.contents other));
+        (content_by (memory_in tac plan state machine) other (same_object object other) refl (step.contents other));
     inside = hold_typed around state.objects target object typed e step.inside;
     old = λ other offset value is. stays_old value (step.old other offset value (held_by other offset value (same_object object other) refl is));
     regions = step.regions;
     low = step.low;
     slabs_are = step.slabs_are;
     needed = step.needed;
-    pool = step.pool;
     statics = step.statics;
     next = step.next;
     input = step.input;
@@ -174,30 +175,30 @@ module _ (tac : Tac) (slabs : ℕ) (state : T.State) (machine : P.State) (step :
   }
 
   -- what stood for a value stands for it still
-  pub retyped_stands : (value : Value) (word : ℕ) → Stands state.objects (memory_in tac state machine) value word → Stands objects (memory_in tac (store_content object typed state) machine) value word
+  pub retyped_stands : (value : Value) (word : ℕ) → Stands state.objects (memory_in tac plan state machine) value word → Stands objects (memory_in tac plan (store_content object typed state) machine) value word
   retyped_stands value word stands =
-      subst (λ memory. Stands objects memory value word) (sym alike) (stands_lasts tac.structs state.objects objects retyped_lasts (memory_in tac state machine) value word stands)
+      subst (λ memory. Stands objects memory value word) (sym alike) (stands_lasts tac.structs state.objects objects retyped_lasts (memory_in tac plan state machine) value word stands)
 
 -- ---- the point
 
-module _ (tac : Tac) (slabs : ℕ) (state : T.State) (machine : P.State) (ready : Ready tac slabs state machine) where
+module _ (tac : Tac) (plan : Plan) (slabs : ℕ) (state : T.State) (machine : P.State) (ready : Ready tac plan slabs state machine) where
   abbrev here : Surroundings
   here = T.around_of tac state.running
 
-  repoint_by : (to : Register) (target : CType) (word : ℕ) (value : Value) → Stands state.objects (memory_in tac state machine) value word → IsInside tac.structs state.objects value → IsOld state value
-      → Does tac slabs (repoint here target to value state) (P.write (code_of tac) to word machine)
+  repoint_by : (to : Register) (target : CType) (word : ℕ) (value : Value) → Stands state.objects (memory_in tac plan state machine) value word → IsInside tac.structs state.objects value → IsOld state value
+      → Does tac plan slabs state machine (repoint here target to value state) (P.write (code_of tac plan) to word machine)
   repoint_by to target word (Address object offset) stands inside old =
-      does_given tac slabs (typed_content here target (state.objects object)) state (λ content. T.write to (Address object offset) (store_content object content state)) (P.write (code_of tac) to word machine) (λ content e.
-      write_does tac slabs (store_content object content state) machine (retyped_in_step tac slabs state machine ready.in_step target object content e) to (Address object offset) word
-      (retyped_stands tac slabs state machine ready.in_step target object content e (Address object offset) word stands)
-      (inside_lasts tac.structs state.objects (with_content object content state.objects) (retyped_lasts tac slabs state machine ready.in_step target object content e) (Address object offset) inside)
-      (stays_old tac slabs state machine ready.in_step target object content e (Address object offset) old))
-  repoint_by to target word (Number z) stands inside old = write_does tac slabs state machine ready.in_step to (Number z) word stands inside old
-  repoint_by to target word NoAddress stands inside old = write_does tac slabs state machine ready.in_step to NoAddress word stands inside old
-  repoint_by to target word (Code function) stands inside old = write_does tac slabs state machine ready.in_step to (Code function) word stands inside old
+      does_given tac plan slabs machine (typed_content here target (state.objects object)) state (λ content. T.write to (Address object offset) (store_content object content state)) (P.write (code_of tac plan) to word machine) (λ content e.
+      write_does tac plan slabs state machine (store_content object content state) machine (no_effect tac plan state machine) (retyped_in_step tac plan slabs state machine ready.in_step target object content e) to (Address object offset) word
+      (retyped_stands tac plan slabs state machine ready.in_step target object content e (Address object offset) word stands)
+      (inside_lasts tac.structs state.objects (with_content object content state.objects) (retyped_lasts tac plan slabs state machine ready.in_step target object content e) (Address object offset) inside)
+      (stays_old tac plan slabs state machine ready.in_step target object content e (Address object offset) old))
+  repoint_by to target word (Number z) stands inside old = write_does tac plan slabs state machine state machine (no_effect tac plan state machine) ready.in_step to (Number z) word stands inside old
+  repoint_by to target word NoAddress stands inside old = write_does tac plan slabs state machine state machine (no_effect tac plan state machine) ready.in_step to NoAddress word stands inside old
+  repoint_by to target word (Code function) stands inside old = write_does tac plan slabs state machine state machine (no_effect tac plan state machine) ready.in_step to (Code function) word stands inside old
 
-  pub repoint_does : (to : Register) (target : CType) (from : Register) → PointDoes tac slabs state machine (O.Repoint to target from)
+  pub repoint_does : (to : Register) (target : CType) (from : Register) → PointDoes tac plan slabs state machine (O.Repoint to target from)
   repoint_does to target from =
       let word = machine.running.words from in
-      does_looked tac slabs from state (λ value. repoint here target to value state) (P.write (code_of tac) to word machine) (λ value is alive.
+      does_looked tac plan slabs machine from state (λ value. repoint here target to value state) (P.write (code_of tac plan) to word machine) (λ value is alive.
       repoint_by to target word value (ready.in_step.running.words from value is) (ready.in_step.running.inside from value is) (ready.in_step.running.old from value is))

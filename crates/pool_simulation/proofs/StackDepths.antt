@@ -14,6 +14,7 @@ use Rattle.tac_ir.proofs.Activations.{HasObjects, AreStacked}
 use Rattle.pool_ir.specs.Code.{FrameLayout}
 use Rattle.pool_ir.specs.States.{Activation}
 use Rattle.pool_ir.specs.Memory.{frame_number}
+use Rattle.pool_rewrite.specs.Plan.{Plan}
 use Rattle.pool_rewrite.specs.Placing.{frame_of, offset_of_local}
 use Rattle.pool_rewrite.specs.Standing.{MemoryMap}
 use Rattle.pool_simulation.specs.Regions.{AreApart, frame_end, Stacked}
@@ -74,25 +75,25 @@ abbrev pub activations_from : T.Activation → List (ℕ × T.Activation) → Li
 activations_from running callers = running ∷ map (λ (waiting : ℕ × T.Activation). waiting.1) callers
 
 -- the activation of the machine at a depth stands for that of three-address code
-pub record Paired (tac : Tac) (state : T.State) (memory : MemoryMap) (running : Activation) (callers : List (ℕ × Activation)) (depth : ℕ) (owner : T.Activation) : Type 0 where
+pub record Paired (tac : Tac) (plan : Plan) (state : T.State) (memory : MemoryMap) (running : Activation) (callers : List (ℕ × Activation)) (depth : ℕ) (owner : T.Activation) : Type 0 where
   pub own : Activation
   pub there : slice_get (frames_from running callers) depth ≡ Some own
-  pub stands : ActivationStands tac state memory owner own
+  pub stands : ActivationStands tac plan state memory owner own
 
-module _ (tac : Tac) (state : T.State) (memory : MemoryMap) where
+module _ (tac : Tac) (plan : Plan) (state : T.State) (memory : MemoryMap) where
   pub paired : (running : T.Activation) (callers : List (ℕ × T.Activation)) (first : Activation) (others : List (ℕ × Activation)) (depth : ℕ) (owner : T.Activation)
-      → ActivationStands tac state memory running first → CallersStand tac state memory callers others → slice_get (activations_from running callers) depth ≡ Some owner → Paired tac state memory first others depth owner
+      → ActivationStands tac plan state memory running first → CallersStand tac plan state memory callers others → slice_get (activations_from running callers) depth ≡ Some owner → Paired tac plan state memory first others depth owner
   paired running [] first others zero owner stands waiting is =
-      record { own = first; there = refl; stands = subst (λ (a : T.Activation). ActivationStands tac state memory a first) (same_Some running owner is) stands }
+      record { own = first; there = refl; stands = subst (λ (a : T.Activation). ActivationStands tac plan state memory a first) (same_Some running owner is) stands }
   paired running [] first others (suc depth) owner stands waiting is = absurd (none-some owner is)
   paired running (next ∷ callers) first others zero owner stands waiting is =
-      record { own = first; there = refl; stands = subst (λ (a : T.Activation). ActivationStands tac state memory a first) (same_Some running owner is) stands }
+      record { own = first; there = refl; stands = subst (λ (a : T.Activation). ActivationStands tac plan state memory a first) (same_Some running owner is) stands }
   paired running (next ∷ callers) first [] (suc depth) owner stands waiting is = absurd waiting
   paired running (next ∷ callers) first (own ∷ others) (suc depth) owner stands waiting is =
       let rest = paired next.1 callers own.1 others depth owner waiting.1 waiting.2 is in
       record { own = rest.own; there = rest.there; stands = rest.stands }
 
-module _ (tac : Tac) (objects : Objects) where
+module _ (tac : Tac) (plan : Plan) (objects : Objects) where
   -- each activation has its objects
   pub has_at : (running : T.Activation) (callers : List (ℕ × T.Activation)) (depth : ℕ) (owner : T.Activation) → HasObjects tac running objects → AreStacked tac running.number callers objects
       → slice_get (activations_from running callers) depth ≡ Some owner → HasObjects tac owner objects
@@ -109,23 +110,23 @@ module _ (tac : Tac) (objects : Objects) where
   number_below above (next ∷ callers) (suc depth) owner stacked is = omega (arith, stacked.0, number_below next.1.number callers depth owner stacked.2 is)
 
   first_address : (running : T.Activation) (waiting : List T.Activation) (first : Activation) (others : List Activation) (owner : T.Activation) (own : Activation) (local : Local) → running ≡ owner → first ≡ own
-      → local_address tac (running ∷ waiting) (first ∷ others) owner.number local ≡ Some (own.start + offset_of_local (frame_for tac owner.owner).objects local)
+      → local_address tac plan (running ∷ waiting) (first ∷ others) owner.number local ≡ Some (own.start + offset_of_local (frame_for tac plan owner.owner).objects local)
   first_address running waiting first others owner own local same too =
-      subst (λ (a : T.Activation). local_address tac (running ∷ waiting) (first ∷ others) a.number local ≡ Some (own.start + offset_of_local (frame_for tac a.owner).objects local)) same
-      (subst (λ (m : Activation). local_address tac (running ∷ waiting) (first ∷ others) running.number local ≡ Some (m.start + offset_of_local (frame_for tac running.owner).objects local)) too
-      (ap (λ b. if b then Some (first.start + offset_of_local (frame_for tac running.owner).objects local) else local_address tac waiting others running.number local) (eq-eqb running.number running.number refl)))
+      subst (λ (a : T.Activation). local_address tac plan (running ∷ waiting) (first ∷ others) a.number local ≡ Some (own.start + offset_of_local (frame_for tac plan a.owner).objects local)) same
+      (subst (λ (m : Activation). local_address tac plan (running ∷ waiting) (first ∷ others) running.number local ≡ Some (m.start + offset_of_local (frame_for tac plan running.owner).objects local)) too
+      (ap (λ b. if b then Some (first.start + offset_of_local (frame_for tac plan running.owner).objects local) else local_address tac plan waiting others running.number local) (eq-eqb running.number running.number refl)))
 
   -- where a local of the activation at a depth lies
   pub address_at : (running : T.Activation) (callers : List (ℕ × T.Activation)) (first : Activation) (others : List (ℕ × Activation)) (depth : ℕ) (owner : T.Activation) (own : Activation) (local : Local)
       → AreStacked tac running.number callers objects → slice_get (activations_from running callers) depth ≡ Some owner → slice_get (frames_from first others) depth ≡ Some own
-      → local_address tac (activations_from running callers) (frames_from first others) owner.number local ≡ Some (own.start + offset_of_local (frame_for tac owner.owner).objects local)
+      → local_address tac plan (activations_from running callers) (frames_from first others) owner.number local ≡ Some (own.start + offset_of_local (frame_for tac plan owner.owner).objects local)
   address_at running callers first others zero owner own local stacked is own_is =
       first_address running (map (λ (waiting : ℕ × T.Activation). waiting.1) callers) first (map (λ (waiting : ℕ × Activation). waiting.1) others) owner own local (same_Some running owner is) (same_Some first own own_is)
   address_at running [] first others (suc depth) owner own local stacked is own_is = absurd (none-some owner is)
   address_at running (next ∷ callers) first [] (suc depth) owner own local stacked is own_is = absurd (none-some own own_is)
   address_at running (next ∷ callers) first (waiting ∷ others) (suc depth) owner own local stacked is own_is =
       let below = number_below running.number (next ∷ callers) depth owner stacked is in
-      ap (λ b. if b then Some (first.start + offset_of_local (frame_for tac running.owner).objects local) else local_address tac (activations_from next.1 callers) (frames_from waiting.1 others) owner.number local)
+      ap (λ b. if b then Some (first.start + offset_of_local (frame_for tac plan running.owner).objects local) else local_address tac plan (activations_from next.1 callers) (frames_from waiting.1 others) owner.number local)
       (ne_eqb running.number owner.number (λ same. omega (arith, same, below)))
       ∙ address_at next.1 callers waiting.1 others depth owner own local stacked.2 is own_is
 
@@ -147,32 +148,32 @@ owned_at tac (first ∷ others) activation local (inr is) =
 
 -- ---- locals in frames
 
-module _ (tac : Tac) (owner : Owner) where
-  pub frame_is : (function : Function) → T.function_of tac owner ≡ Some function → frame_for tac owner ≡ frame_of tac.structs (plan_for tac owner) function
+module _ (tac : Tac) (plan : Plan) (owner : Owner) where
+  pub frame_is : (function : Function) → T.function_of tac owner ≡ Some function → frame_for tac plan owner ≡ frame_of tac.structs (plan_for plan owner) function
   frame_is function e = rw e refl
 
   -- a local in memory lies within its frame
   pub local_within : (local : Local) (inner : Inner) → own_type (T.objects_of (T.function_of tac owner)) local ≡ Some inner
-      → offset_of_local (frame_for tac owner).objects local + size_of tac.structs inner.c_type ≤ (frame_for tac owner).size
+      → offset_of_local (frame_for tac plan owner).objects local + size_of tac.structs inner.c_type ≤ (frame_for tac plan owner).size
   local_within local inner typed = by (T.function_of tac owner) refl typed
     where
       by : (found : Option Function) → T.function_of tac owner ≡ found → own_type (T.objects_of found) local ≡ Some inner
-          → offset_of_local (frame_for tac owner).objects local + size_of tac.structs inner.c_type ≤ (frame_for tac owner).size
+          → offset_of_local (frame_for tac plan owner).objects local + size_of tac.structs inner.c_type ≤ (frame_for tac plan owner).size
       by None e typed = absurd (none-some inner typed)
       by (Some function) e typed =
           subst (λ (frame : FrameLayout). offset_of_local frame.objects local + size_of tac.structs inner.c_type ≤ frame.size) (sym (frame_is function e))
-          (local_lies tac.structs (plan_for tac owner) function local inner typed).within
+          (local_lies tac.structs (plan_for plan owner) function local inner typed).within
 
   -- two locals of one frame lie apart
   pub frame_apart : (local other : Local) (inner other_inner : Inner) → own_type (T.objects_of (T.function_of tac owner)) local ≡ Some inner → own_type (T.objects_of (T.function_of tac owner)) other ≡ Some other_inner
       → (local ≡ other)
-      ⊎ AreApart (offset_of_local (frame_for tac owner).objects local) (size_of tac.structs inner.c_type) (offset_of_local (frame_for tac owner).objects other) (size_of tac.structs other_inner.c_type)
+      ⊎ AreApart (offset_of_local (frame_for tac plan owner).objects local) (size_of tac.structs inner.c_type) (offset_of_local (frame_for tac plan owner).objects other) (size_of tac.structs other_inner.c_type)
   frame_apart local other inner other_inner typed other_typed = by (T.function_of tac owner) refl typed other_typed
     where
       by : (found : Option Function) → T.function_of tac owner ≡ found → own_type (T.objects_of found) local ≡ Some inner → own_type (T.objects_of found) other ≡ Some other_inner
           → (local ≡ other)
-          ⊎ AreApart (offset_of_local (frame_for tac owner).objects local) (size_of tac.structs inner.c_type) (offset_of_local (frame_for tac owner).objects other) (size_of tac.structs other_inner.c_type)
+          ⊎ AreApart (offset_of_local (frame_for tac plan owner).objects local) (size_of tac.structs inner.c_type) (offset_of_local (frame_for tac plan owner).objects other) (size_of tac.structs other_inner.c_type)
       by None e typed other_typed = absurd (none-some inner typed)
       by (Some function) e typed other_typed =
           subst (λ (frame : FrameLayout). (local ≡ other) ⊎ AreApart (offset_of_local frame.objects local) (size_of tac.structs inner.c_type) (offset_of_local frame.objects other) (size_of tac.structs other_inner.c_type))
-          (sym (frame_is function e)) (locals_apart tac.structs (plan_for tac owner) function local other inner other_inner typed other_typed)
+          (sym (frame_is function e)) (locals_apart tac.structs (plan_for plan owner) function local other inner other_inner typed other_typed)

@@ -16,6 +16,7 @@ use Rattle.tac_ir.specs.Code.{Tac}
 use Rattle.pool_isa.specs.Machine as M
 use Rattle.pool_ir.specs.States as P
 use Rattle.pool_ir.specs.Memory.{number_at, slot_size, slot_word}
+use Rattle.pool_rewrite.specs.Plan.{Plan}
 use Rattle.pool_rewrite.specs.Rewriting.{slot_of}
 use Rattle.pool_rewrite.specs.Standing.{MemoryMap, Stands, ContentStands}
 use Rattle.pool_simulation.specs.Placed.{IsInside}
@@ -67,10 +68,10 @@ slot_same own machine later number = refl
 
 -- ---- objects that stay
 
-module _ (tac : Tac) (state next : T.State) (machine later : P.State) where
+module _ (tac : Tac) (plan : Plan) (state next : T.State) (machine later : P.State) where
   -- it has what it had, where it was, if it is there
   abbrev pub Stays : V.Object → Type 0
-  Stays object = is_there (next.objects object) ≡ true → (next.objects object ≡ state.objects object) × (address_in tac next later object ≡ address_in tac state machine object)
+  Stays object = is_there (next.objects object) ≡ true → (next.objects object ≡ state.objects object) × (address_in tac plan next later object ≡ address_in tac plan state machine object)
 
   abbrev pub PlaceStays : Value → Type 0
   PlaceStays (Address object offset) = Stays object
@@ -89,7 +90,7 @@ module _ (tac : Tac) (state next : T.State) (machine later : P.State) where
     old_stays NoAddress old = tt
     old_stays (Code function) old = tt
 
-    pub stands_stays : (value : Value) (word : ℕ) → IsOld state value → Stands state.objects (memory_in tac state machine) value word → Stands next.objects (memory_in tac next later) value word
+    pub stands_stays : (value : Value) (word : ℕ) → IsOld state value → Stands state.objects (memory_in tac plan state machine) value word → Stands next.objects (memory_in tac plan next later) value word
     stands_stays (Number z) word old stands = stands
     stands_stays NoAddress word old stands = stands
     stands_stays (Code function) word old stands = stands
@@ -106,50 +107,49 @@ module _ (tac : Tac) (state next : T.State) (machine later : P.State) where
         let same = stay (Address object offset) old there in
         subst (λ content. offset ≤ extent_of tac.structs content) (sym same.0) (inside (ap is_there (sym same.0) ∙ there))
 
-    pub activation_stays : (activation : T.Activation) (own : P.Activation) → ActivationStands tac state (memory_in tac state machine) activation own → ActivationStands tac next (memory_in tac next later) activation own
+    pub activation_stays : (activation : T.Activation) (own : P.Activation) → ActivationStands tac plan state (memory_in tac plan state machine) activation own → ActivationStands tac plan next (memory_in tac plan next later) activation own
     activation_stays activation own stand = record {
       owner = stand.owner;
       at = stand.at;
       words = λ register value is. stands_stays value (own.words register) (stand.old register value is) (stand.words register value is);
       inside = λ register value is. inside_stays value (stand.old register value is) (stand.inside register value is);
       old = λ register value is. old_stays value (stand.old register value is);
-      pool = stand.pool;
       long = stand.long;
     }
 
-    pub callers_stay : (callers : List (ℕ × T.Activation)) (others : List (ℕ × P.Activation)) → CallersStand tac state (memory_in tac state machine) callers others → CallersStand tac next (memory_in tac next later) callers others
+    pub callers_stay : (callers : List (ℕ × T.Activation)) (others : List (ℕ × P.Activation)) → CallersStand tac plan state (memory_in tac plan state machine) callers others → CallersStand tac plan next (memory_in tac plan next later) callers others
     callers_stay [] [] stand = tt
     callers_stay [] (own ∷ others) stand = absurd stand
     callers_stay (waiting ∷ callers) [] stand = absurd stand
     callers_stay (waiting ∷ callers) (own ∷ others) stand = (stand.0, activation_stays waiting.1 own.1 stand.1, callers_stay callers others stand.2)
 
     -- what an object holds, where its bytes read as before
-    content_by : (object : V.Object) (content : Content) → address_in tac next later object ≡ address_in tac state machine object
+    content_by : (object : V.Object) (content : Content) → address_in tac plan next later object ≡ address_in tac plan state machine object
         → ((offset : ℕ) (value : Value) → held_at offset content ≡ Some value → IsOld state value)
-        → ((address offset width number : ℕ) → address_in tac state machine object ≡ Some address → offset < extent_of tac.structs content → 1 ≤ width
+        → ((address offset width number : ℕ) → address_in tac plan state machine object ≡ Some address → offset < extent_of tac.structs content → 1 ≤ width
         → number_at machine (address + offset) width ≡ Some number → number_at later (address + offset) width ≡ Some number)
-        → ContentStands tac.structs state.objects (memory_in tac state machine) machine object content → ContentStands tac.structs next.objects (memory_in tac next later) later object content
+        → ContentStands tac.structs state.objects (memory_in tac plan state machine) machine object content → ContentStands tac.structs next.objects (memory_in tac plan next later) later object content
     content_by object Absent same olds reads stand = tt
     content_by object (Untyped size) same olds reads stand = tt
     content_by object (Typed c_type count held) same olds reads stand = λ offset own value leaf is fit address at.
         let was = stand offset own value leaf is fit address (sym same ∙ at) in (
           was.0,
           reads address offset (slot_size (slot_of own)) was.0 (sym same ∙ at) (leaf_inside tac.structs c_type count offset own leaf) (slot_some own) was.1,
-          subst (λ word. Stands next.objects (memory_in tac next later) value word) (slot_same own machine later was.0)
+          subst (λ word. Stands next.objects (memory_in tac plan next later) value word) (slot_same own machine later was.0)
               (stands_stays value (slot_word machine (slot_of own) was.0) (olds offset value is) was.2),
         )
 
     pub content_stays : (object : V.Object) → Stays object → ((offset : ℕ) (value : Value) → held_at offset (state.objects object) ≡ Some value → IsOld state value)
-        → ((address offset width number : ℕ) → is_there (next.objects object) ≡ true → address_in tac state machine object ≡ Some address → offset < extent_of tac.structs (state.objects object) → 1 ≤ width
+        → ((address offset width number : ℕ) → is_there (next.objects object) ≡ true → address_in tac plan state machine object ≡ Some address → offset < extent_of tac.structs (state.objects object) → 1 ≤ width
         → number_at machine (address + offset) width ≡ Some number → number_at later (address + offset) width ≡ Some number)
-        → ContentStands tac.structs state.objects (memory_in tac state machine) machine object (state.objects object)
-        → ContentStands tac.structs next.objects (memory_in tac next later) later object (next.objects object)
+        → ContentStands tac.structs state.objects (memory_in tac plan state machine) machine object (state.objects object)
+        → ContentStands tac.structs next.objects (memory_in tac plan next later) later object (next.objects object)
     content_stays object stays olds reads stand = by (is_there (next.objects object)) refl
       where
-        by : (b : Bool) → is_there (next.objects object) ≡ b → ContentStands tac.structs next.objects (memory_in tac next later) later object (next.objects object)
+        by : (b : Bool) → is_there (next.objects object) ≡ b → ContentStands tac.structs next.objects (memory_in tac plan next later) later object (next.objects object)
         by true there =
             let same = stays there in
-            subst (λ content. ContentStands tac.structs next.objects (memory_in tac next later) later object content) (sym same.0)
+            subst (λ content. ContentStands tac.structs next.objects (memory_in tac plan next later) later object content) (sym same.0)
             (content_by object (state.objects object) same.1 olds (λ address offset width number. reads address offset width number there) stand)
-        by false gone = nothing_stands tac.structs next.objects (memory_in tac next later) later object (next.objects object)
+        by false gone = nothing_stands tac.structs next.objects (memory_in tac plan next later) later object (next.objects object)
             (λ offset value is. false≢true (sym gone ∙ held_there (next.objects object) offset value is))

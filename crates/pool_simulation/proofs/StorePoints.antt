@@ -18,10 +18,12 @@ use Rattle.pool_ir.specs.States as P
 use Rattle.pool_ir.specs.States.{Same}
 use Rattle.pool_ir.specs.Memory.{with_number, access, slot_size, slot_number, path_address}
 use Rattle.pool_ir.specs.Meaning.{stores}
+use Rattle.pool_rewrite.specs.Plan.{Plan}
 use Rattle.pool_rewrite.specs.Rewriting.{slot_of, path_of}
 use Rattle.pool_simulation.specs.Placed.{IsInside}
 use Rattle.pool_simulation.specs.InStep.{plan_for, memory_in, frame_for, IsOld}
-use Rattle.pool_simulation.proofs.Stepping.{code_of, Ready, Does, PointDoes}
+use Rattle.pool_simulation.specs.Serving.{code_of, word_stored}
+use Rattle.pool_simulation.proofs.Stepping.{Ready, Does, PointDoes}
 use Rattle.pool_simulation.proofs.LeavesApart.{stands_in}
 use Rattle.pool_simulation.proofs.Ranges.{can_write}
 use Rattle.pool_simulation.proofs.PointWords.{store_found}
@@ -69,30 +71,30 @@ store_goes tac state path scalar operand =
     unless_goes (stands_at tac.structs scalar reached.inner.offset (state.objects reached.object)) state
     (T.go_on (T.emit (T.access WroteTo reached.object) (store_content reached.object (holding reached.inner.offset value (state.objects reached.object)) state))) tt))
 
-module _ (tac : Tac) (slabs : ℕ) (state : T.State) (machine : P.State) (ready : Ready tac slabs state machine) (path : Path) (scalar : CType) (operand : Operand) where
+module _ (tac : Tac) (plan : Plan) (slabs : ℕ) (state : T.State) (machine : P.State) (ready : Ready tac plan slabs state machine) (path : Path) (scalar : CType) (operand : Operand) where
   abbrev own : List O.LocalObject
   own = T.objects_of (T.function_of tac state.running.owner)
 
   abbrev at_path : ℕ
-  at_path = path_address machine.running (path_of tac own (frame_for tac state.running.owner) path)
+  at_path = path_address machine.running (path_of tac own (frame_for tac plan state.running.owner) path)
 
   abbrev word : ℕ
   word = operand_word machine.running.words operand
 
   abbrev does : Move P.State
-  does = stores (code_of tac) (slot_of scalar) at_path word machine
+  does = stores (code_of tac plan) (slot_of scalar) at_path word machine
 
-  went_on : (next : T.State) → execute tac (T.around_of tac state.running) (O.Store path scalar operand) state ≡ To next → Does tac slabs (To next) does
+  went_on : (next : T.State) → execute tac (T.around_of tac state.running) (O.Store path scalar operand) state ≡ To next → Does tac plan slabs state machine (To next) does
   went_on next e =
       let step = ready.in_step in
-      let found = store_found tac (plan_for tac state.running.owner) own (frame_for tac state.running.owner) state.running.number (memory_in tac state machine) (λ object offset. refl) (code_of tac) state next machine ready.placed
+      let found = store_found tac (plan_for plan state.running.owner) own (frame_for tac plan state.running.owner) state.running.number (memory_in tac plan state machine) (λ object offset. refl) (code_of tac plan) state next machine ready.placed
       step.running.words step.running.inside ready.bases path scalar operand e in
       let reached = found.0 in
       let value = found.1 in
       let at = stands_in tac.structs scalar reached.inner.offset (state.objects reached.object) found.3 in
-      let lies = place tac slabs state machine ready.stacked step reached.object found.2.there in
+      let lies = place tac plan slabs state machine ready.stacked step reached.object found.2.there in
       let size = slot_size (slot_of scalar) in
-      let within = scalar_within tac slabs state machine ready.placed reached.object scalar reached.inner.offset at in
+      let within = scalar_within tac plan slabs state machine ready.placed reached.object scalar reached.inner.offset at in
       let address = lies.address + reached.inner.offset in
       let read = lies.reads reached.inner.offset size (slot_some scalar) within in
       let written = can_write machine address size word read.0 read.1 in
@@ -101,14 +103,15 @@ module _ (tac : Tac) (slabs : ℕ) (state : T.State) (machine : P.State) (ready 
       let events = T.access WroteTo reached.object in
       let same_place : found.2.address ≡ lies.address = cc (sym found.2.address_is ∙ lies.is) in
       let here : at_path ≡ address = found.2.path_is ∙ ap (λ (n : ℕ). n + reached.inner.offset) same_place in
-      let done = stores_as (code_of tac) scalar at_path address word machine later (map Same events) here written.1 told in
+      let done = stores_as (code_of tac plan) scalar at_path address word machine later (map Same events) here written.1 told in
       let inside = operand_has (IsInside tac.structs state.objects) state.running.registers (λ z. tt) step.running.inside operand value found.4 in
       let old = operand_has (IsOld state) state.running.registers (λ z. tt) step.running.old operand value found.4 in
-      let stored = stored_in_step tac slabs state machine later step ready.placed reached.object scalar reached.inner.offset lies.address word value lies.is at found.5 inside old written.1 in
+      let stored = stored_in_step tac plan slabs state machine later step ready.placed reached.object scalar reached.inner.offset lies.address word value lies.is at found.5 inside old written.1 in
       let next_state = store_content reached.object (holding reached.inner.offset value (state.objects reached.object)) state in
-      let after = emits_in_step tac slabs next_state later stored events (map Same events) (same_mapped events) (made_write reached.object) in
-      let went = go_on_does tac slabs (T.emit events next_state) (P.emit (map Same events) later) after in
-      does_as tac slabs (T.go_on (T.emit events next_state)) (To next) does (P.go_on (code_of tac) (P.emit (map Same events) later)) found.6 done went
+      let after = emits_in_step tac plan slabs next_state later stored events (map Same events) (same_mapped events) (made_write reached.object) in
+      let effect = word_stored address size word later (P.emit (map Same events) later) written.1 (record { owner = refl; descriptors = refl; at = refl; callers = refl; pools = refl; placed = refl }) in
+      let went = go_on_does tac plan slabs state machine (T.emit events next_state) (P.emit (map Same events) later) effect after in
+      does_as tac plan slabs state machine (T.go_on (T.emit events next_state)) (To next) does (P.go_on (code_of tac plan) (P.emit (map Same events) later)) found.6 done went
 
-  pub store_does : PointDoes tac slabs state machine (O.Store path scalar operand)
-  store_does = where_goes tac slabs (execute tac (T.around_of tac state.running) (O.Store path scalar operand) state) does (store_goes tac state path scalar operand) went_on
+  pub store_does : PointDoes tac plan slabs state machine (O.Store path scalar operand)
+  store_does = where_goes tac plan slabs state machine (execute tac (T.around_of tac state.running) (O.Store path scalar operand) state) does (store_goes tac state path scalar operand) went_on

@@ -7,7 +7,6 @@ use Rattle.c_typed.specs.Types.{CType, literal_type}
 use Rattle.c_typed.specs.Layouts.{layouts}
 use Rattle.c_typed.specs.Typed.{GlobalDef, LiteralDef}
 use Rattle.slab_space.specs.Pool.{Object}
-use Rattle.slab_space.specs.PoolSteps.{written_in}
 use Rattle.slab_space.specs.Pools.{Pools, store_step, objects}
 use Rattle.slab_exhaustion.specs.Needs.{HavePlaced, after_store}
 use Rattle.tac_ir.specs.Values as V
@@ -20,11 +19,12 @@ use Rattle.tac_ir.specs.Code.{Tac}
 use Rattle.pool_isa.specs.Machine.{number_of}
 use Rattle.pool_ir.specs.States as P
 use Rattle.pool_ir.specs.Memory.{number_at, with_number, slot_size, slot_word}
+use Rattle.pool_rewrite.specs.Plan.{Plan}
 use Rattle.pool_rewrite.specs.Rewriting.{slot_of}
 use Rattle.pool_rewrite.specs.Standing.{MemoryMap, Stands, ContentStands}
 use Rattle.pool_simulation.specs.Regions.{AreApart, IsIn, Lives, Regions}
 use Rattle.pool_simulation.specs.Placed.{Placed, IsInside, Lasts}
-use Rattle.pool_simulation.specs.InStep.{address_in, memory_in, IsOld, ActivationStands, CallersStand, IsOf, AllocationStands, HasOnePool, InStep}
+use Rattle.pool_simulation.specs.InStep.{address_in, memory_in, IsOld, ActivationStands, CallersStand, IsOf, AllocationStands, InStep}
 use Rattle.pool_simulation.proofs.SameObjects.{same_object-true, same_object-refl}
 use Rattle.pool_simulation.proofs.LastingWords.{lasts_holding, stands_lasts, hold_holding}
 use Rattle.pool_simulation.proofs.LiveCells.{long_written}
@@ -59,18 +59,6 @@ module _ (machine later : P.State) (address size word : ℕ) (stored : with_numb
           let lives_there : Lives (with_written address size word machine.pools) new =
           subst (IsIn new) (sym (objects_written address size word machine.pools.pools)) (in_written address size word o (objects machine.pools) lives) in
           (new, subst (λ (p : Pools). Lives p new) (sym (store_is address size word machine.pools later.pools done)) lives_there, refl, long_written address size word o)
-
-  -- the one pool lives
-  pub still_one_pool : HasOnePool machine → HasOnePool later
-  still_one_pool one = by all.pools
-    where
-      by : (later.pools ≡ machine.pools) ⊎ (store_step machine.pools address size word ≡ Some later.pools) → HasOnePool later
-      by (inl same) = (one.0, ap (λ (p : Pools). p.pools) same ∙ one.1, one.2)
-      by (inr done) = (
-        written_in address size word one.0,
-        ap (λ (p : Pools). p.pools) (store_is address size word machine.pools later.pools done) ∙ ap (map (option_map (written_in address size word))) one.1,
-        one.2,
-      )
 
   -- the same objects were placed, in as many slabs
   pub still_placed : (slabs : ℕ) (sizes : List ℕ) → HavePlaced slabs machine.pools sizes → HavePlaced slabs later.pools sizes
@@ -136,9 +124,9 @@ behind_apart address offset part other_offset other_part (inr behind) = inr (ome
 
 -- ---- a store
 
-module _ (tac : Tac) (slabs : ℕ) (state : T.State) (machine later : P.State) (in_step : InStep tac slabs state machine) (placed : Placed tac.structs (memory_in tac state machine) state.objects)
-    (object : V.Object) (scalar : CType) (offset address word : ℕ) (value : Value) (is : address_in tac state machine object ≡ Some address) (at : StandsIn tac.structs scalar offset (state.objects object))
-    (stands : Stands state.objects (memory_in tac state machine) value word) (inside : IsInside tac.structs state.objects value) (old : IsOld state value)
+module _ (tac : Tac) (plan : Plan) (slabs : ℕ) (state : T.State) (machine later : P.State) (in_step : InStep tac plan slabs state machine) (placed : Placed tac.structs (memory_in tac plan state machine) state.objects)
+    (object : V.Object) (scalar : CType) (offset address word : ℕ) (value : Value) (is : address_in tac plan state machine object ≡ Some address) (at : StandsIn tac.structs scalar offset (state.objects object))
+    (stands : Stands state.objects (memory_in tac plan state machine) value word) (inside : IsInside tac.structs state.objects value) (old : IsOld state value)
     (stored : with_number machine (address + offset) (slot_size (slot_of scalar)) word ≡ Some later) where
   abbrev size : ℕ
   size = slot_size (slot_of scalar)
@@ -150,7 +138,7 @@ module _ (tac : Tac) (slabs : ℕ) (state : T.State) (machine later : P.State) (
   next = store_content object new state
 
   abbrev memory : MemoryMap
-  memory = memory_in tac state machine
+  memory = memory_in tac plan state machine
 
   all_done : Wrote machine (address + offset) size word later
   all_done = wrote machine (address + offset) size word later stored
@@ -166,13 +154,13 @@ module _ (tac : Tac) (slabs : ℕ) (state : T.State) (machine later : P.State) (
 
   -- ---- memory
 
-  address_after : (other : V.Object) → address_in tac next later other ≡ address_in tac state machine other
+  address_after : (other : V.Object) → address_in tac plan next later other ≡ address_in tac plan state machine other
   address_after (OfHeap zero) = refl
   address_after (OfHeap (suc number)) = ap (λ (starts : List ℕ). slice_get (reverse starts) number) all_done.same.placed
   address_after (OfGlobal number) = refl
   address_after (OfLiteral number) = refl
   address_after (OfActivation activation local) =
-      locals_same tac (state.running ∷ map (λ (waiting : ℕ × T.Activation). waiting.1) state.callers) machine.running later.running machine.callers later.callers activation local all_done.same.running all_done.same.callers
+      locals_same tac plan (state.running ∷ map (λ (waiting : ℕ × T.Activation). waiting.1) state.callers) machine.running later.running machine.callers later.callers activation local all_done.same.running all_done.same.callers
 
   extent_by : (other : V.Object) (b : Bool) → same_object object other ≡ b → extent_of tac.structs (if b then new else state.objects other) ≡ extent_of tac.structs (state.objects other)
   extent_by other true same = holding_extent tac offset value (state.objects object) ∙ ap (λ o. extent_of tac.structs (state.objects o)) (same_object-true object other same)
@@ -181,8 +169,8 @@ module _ (tac : Tac) (slabs : ℕ) (state : T.State) (machine later : P.State) (
   extent_after : (other : V.Object) → extent_of tac.structs (next.objects other) ≡ extent_of tac.structs (state.objects other)
   extent_after other = extent_by other (same_object object other) refl
 
-  memory_after : memory_in tac next later ≡ memory
-  memory_after = same_memory tac state next machine later address_after extent_after
+  memory_after : memory_in tac plan next later ≡ memory
+  memory_after = same_memory tac plan state next machine later address_after extent_after
 
   -- ---- contents
 
@@ -279,7 +267,7 @@ module _ (tac : Tac) (slabs : ℕ) (state : T.State) (machine later : P.State) (
       by (inr was) = in_step.old object distance found was
   old_by other distance found false is_held = in_step.old other distance found is_held
 
-  allocation_after : (number : ℕ) → AllocationStands tac state machine number → AllocationStands tac next later number
+  allocation_after : (number : ℕ) → AllocationStands tac plan state machine number → AllocationStands tac plan next later number
   allocation_after number stood =
       let lives = still_lives machine later (address + offset) size word stored stood.object stood.lives in
       record {
@@ -296,15 +284,15 @@ module _ (tac : Tac) (slabs : ℕ) (state : T.State) (machine later : P.State) (
       long after before bytes bytes_before e e' le = omega (arith, e, e', le)
 
   -- the states after a store are in step
-  pub stored_in_step : InStep tac slabs next later
+  pub stored_in_step : InStep tac plan slabs next later
   stored_in_step =
       let same = all_done.same in
       let regions = still_regions machine later (address + offset) size word stored in_step.regions in
       record {
-        running = subst (λ (m : MemoryMap). ActivationStands tac next m state.running later.running) (sym memory_after)
-            (activation_kept tac state next memory lasts heap_same activations_same state.running machine.running later.running same.running in_step.running);
-        callers = subst (λ (m : MemoryMap). CallersStand tac next m state.callers later.callers) (sym memory_after)
-            (callers_kept tac state next memory lasts heap_same activations_same state.callers machine.callers later.callers same.callers in_step.callers);
+        running = subst (λ (m : MemoryMap). ActivationStands tac plan next m state.running later.running) (sym memory_after)
+            (activation_kept tac plan state next memory lasts heap_same activations_same state.running machine.running later.running same.running in_step.running);
+        callers = subst (λ (m : MemoryMap). CallersStand tac plan next m state.callers later.callers) (sym memory_after)
+            (callers_kept tac plan state next memory lasts heap_same activations_same state.callers machine.callers later.callers same.callers in_step.callers);
         owned = λ activation local there. in_step.owned activation local (lasts.there (OfActivation activation local) there);
         globals = λ number.
             of_stored (option_map (λ (global : GlobalDef). global.c_type) (slice_get tac.globals number)) offset value (state.objects object) (state.objects (OfGlobal number)) (same_object object (OfGlobal number)) (λ e. ap state.objects (same_object-true object (OfGlobal number) e)) (in_step.globals number);
@@ -329,7 +317,6 @@ module _ (tac : Tac) (slabs : ℕ) (state : T.State) (machine later : P.State) (
         low = low later.running.start machine.running.start (length later.callers) (length machine.callers) same.running.start (callers_same machine.callers later.callers same.callers) in_step.low;
         slabs_are = in_step.slabs_are;
         needed = in_step.needed;
-        pool = still_one_pool machine later (address + offset) size word stored in_step.pool;
         statics = same.globals ∙ in_step.statics;
         next = in_step.next ∙ ap (λ (starts : List ℕ). suc (length starts)) (sym same.placed);
         input = same.input ∙ in_step.input;

@@ -2,5 +2,8 @@ pub mod Comparing
 pub mod ExactTypes
 pub mod FirstValues
 pub mod InStep
+pub mod OnePool
+pub mod OwnPools
 pub mod Placed
 pub mod Regions
+pub mod Serving

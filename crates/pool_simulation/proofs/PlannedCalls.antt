@@ -1,6 +1,6 @@
--- The functions of the code with one pool, by their numbers and by their signatures.
-use Rattle.std.proofs.Common.{◌≡◌, ℕ, ◌==◌, true, if◌then◌else◌, List, length, Some, None, refl, ap, ◌∙◌, eq-eqb}
-use Rattle.std.specs.Prelude.{slice_get, nat_lt, option_map}
+-- The functions of the code with pools, by their numbers and by their signatures.
+use Rattle.std.proofs.Common.{◌≡◌, ℕ, ◌==◌, true, if◌then◌else◌, List, length, Some, None, refl, ap, eq-eqb}
+use Rattle.std.specs.Prelude.{slice_get, nat_lt}
 use Rattle.run_theory.specs.Runs.{DepthReached, Halt}
 use Rattle.c_typed.specs.Types.{CType, same_type}
 use Rattle.c_typed.proofs.Same.{same_type-true}
@@ -10,18 +10,12 @@ use Rattle.pool_ir.specs.Code as C
 use Rattle.pool_ir.specs.Code.{PoolCode}
 use Rattle.pool_ir.specs.States as P
 use Rattle.pool_ir.specs.Meaning as M
-use Rattle.pool_rewrite.specs.Plan.{one_pool_function}
+use Rattle.pool_rewrite.specs.Plan.{FunctionPlan}
 use Rattle.pool_rewrite.specs.Rewriting.{signature_of, function_of}
-use Rattle.pool_simulation.proofs.Stepping.{code_of}
-use Rattle.pool_simulation.proofs.OnePool.{function_alike}
-
--- the function of a number
-pub function_at : (tac : Tac) (number : ℕ) (function : Function) → slice_get tac.functions number ≡ Some function → slice_get (code_of tac).functions number ≡ Some (function_of tac (one_pool_function function) function)
-function_at tac number function is = function_alike tac number ∙ ap (option_map (λ (function : Function). function_of tac (one_pool_function function) function)) is
 
 -- functions of one type have one signature
-pub same_signature : (tac : Tac) (function : Function) (c_type : CType) → same_type (function.c_type) c_type ≡ true → ((function_of tac (one_pool_function function) function).signature == signature_of tac c_type) ≡ true
-same_signature tac function c_type same = eq-eqb (signature_of tac function.c_type) (signature_of tac c_type) (ap (signature_of tac) (same_type-true function.c_type c_type same))
+pub same_signature : (tac : Tac) (own : FunctionPlan) (function : Function) (c_type : CType) → same_type (function.c_type) c_type ≡ true → ((function_of tac own function).signature == signature_of tac c_type) ≡ true
+same_signature tac own function c_type same = eq-eqb (signature_of tac function.c_type) (signature_of tac c_type) (ap (signature_of tac) (same_type-true function.c_type c_type same))
 
 pub of_signature_is : (code : PoolCode) (signature number : ℕ) (function : C.Function) → slice_get code.functions number ≡ Some function → (function.signature == signature) ≡ true → M.of_signature code signature (Some number) ≡ Some number
 of_signature_is code signature number function is same = rw is (ap (λ b. if b then Some number else None) same)
