@@ -4,3 +4,4 @@ pub mod Words
 pub mod States
 pub mod Memory
 pub mod Meaning
+pub mod Views

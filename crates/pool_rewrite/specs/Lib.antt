@@ -2,3 +2,10 @@ pub mod Plan
 pub mod Placing
 pub mod Rewriting
 pub mod Standing
+pub mod Views
+pub mod Rewritable
+pub mod Kinds
+pub mod Places
+pub mod Made
+pub mod Names
+pub mod Firsts
