@@ -1,0 +1,5 @@
+-- What is proved of first values.
+pub mod FittingFirsts
+pub mod FoundRows
+pub mod InsideObjects
+pub mod StaticRoots
