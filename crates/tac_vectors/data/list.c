@@ -1,0 +1,1 @@
+struct n { int v; struct n *next; }; int main(void) { struct n *h = NULL; int i = 0; while (i < 513) { struct n *p = malloc(sizeof(struct n)); p->v = i; p->next = h; h = p; putchar('.'); i = i + 1; } return h->v == 512 ? 0 : 1; }
