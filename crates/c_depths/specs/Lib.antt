@@ -1,0 +1,2 @@
+pub mod SyntaxDepths
+pub mod TypedDepths

@@ -1,0 +1,2 @@
+//! The calls of an accepted program have few arguments. A crate of proofs alone.
+#![tactic(auto)]
