@@ -1,4 +1,4 @@
-// Every production of the grammar. It is read, and refused as later: its forms are not all compiled yet.
+// Every production of the grammar stands here. Run, it only returns.
 static struct point { int x, *y; const char (*z)[3]; };
 struct other;
 extern unsigned long int n = 1, *m[2] = { &n, NULL, };

@@ -50,7 +50,6 @@ refusal_text (R.TypeRule rule place) = at_place (rule_name rule) place
 refusal_text (R.Limit limit count) = limit_name limit ++ codes " count " ++ decimal count
 refusal_text (R.Graph count) = codes "graph nodes " ++ decimal count
 refusal_text (R.Pools function count) = codes "pools of " ++ func_name function ++ 32 ∷ decimal count
-refusal_text (R.Later place) = at_place (codes "later") place
 
 abbrev pub usage_text : List ℕ
 usage_text = codes "usage: poolcc build|run|exec|ref|graph|report FILE [options] or poolcc demo N"

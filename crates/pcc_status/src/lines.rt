@@ -76,7 +76,6 @@ fn put_refusal<E: Sink>(err: &mut E, refusal: Refusal) -> Result<(), Failed>
         }
         Refusal::Graph(nodes) => put_number(err, "refused graph nodes ", nodes),
         Refusal::Pools(function, pools) => put_pools(err, function.as_slice(), pools),
-        Refusal::Later(place) => put_at_place(err, "refused ", "later", place),
     }
 }
 

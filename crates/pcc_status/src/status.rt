@@ -69,8 +69,6 @@ pub enum Refusal {
     Graph(u64),
     /// A function has more pools than its limit.
     Pools(FuncName, u64),
-    /// The text from this place on is of a form that is not compiled yet.
-    Later(Pos),
 }
 
 /// A function's name: the first of these bytes, so many.

@@ -53,11 +53,6 @@ fn answers_have_their_lines(rt: HostRuntime) -> Result<(), Fail> {
             "poolcc: refused pools of walk 257\n",
         ),
         (
-            Status::Refused(Refusal::Later(at(3, 5))),
-            241,
-            "poolcc: refused later at 3:5\n",
-        ),
-        (
             Status::Undefined(UbKind::U06, at(1, 72)),
             245,
             "poolcc: undefined U06 at 1:72\n",

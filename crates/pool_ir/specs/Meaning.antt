@@ -1,5 +1,5 @@
 -- What code with pools does: one step for one of three-address code.
-use Rattle.std.specs.Prelude.{ℕ, zero, suc, ◌+◌, ◌-◌, ◌*◌, ◌/◌, ◌%◌, ◌^◌, ◌==◌, nat_lt, nat_le, not, if◌then◌else◌, List, [], ◌∷◌, ◌++◌, length, map, slice_get, replicate, Option, Some, None}
+use Rattle.std.specs.Prelude.{ℕ, zero, suc, ◌+◌, ◌-◌, ◌*◌, ◌/◌, ◌%◌, ◌^◌, ◌==◌, ◌&&◌, nat_lt, nat_le, not, if◌then◌else◌, List, [], ◌∷◌, ◌++◌, length, map, slice_get, replicate, Option, Some, None}
 use Rattle.run_theory.specs.declared.ends.TrapKind.TheVariants as traps
 use Rattle.run_theory.specs.Runs.{Ended, DepthReached, HeapExhausted, IndexExhausted, Move, To, Halt, steps, RunOf}
 use Rattle.c_num.specs.declared.IntType.TheVariants as I
@@ -19,6 +19,7 @@ use Rattle.pool_ir.specs.Code.{Slot, Base, AtFrame, AtGlobals, Pointed, Indexed,
 use Rattle.pool_ir.specs.Code as O
 use Rattle.pool_ir.specs.Words.{Words, no_words, with_word, truth_word, is_zero_word, word_in, operand_word, moved_by, moved_back}
 use Rattle.pool_ir.specs.States.{PoolEvent, Same, Placed, Activation, State, function_of, points_of, trap, emit, acts, go_to, go_on, write}
+use Rattle.pool_ir.specs.Frames.{objects_start}
 use Rattle.pool_ir.specs.Memory.{number_at, with_number, access, slot_size, slot_word, slot_number, path_address}
 
 -- ---- costs: those of three-address code
@@ -141,6 +142,7 @@ enter code site number function words pools state =
         words = parameters_from 0 words;
         descriptors = descriptors_from pools;
         start = next_start state.running;
+        kept = objects_start function.frame;
         bytes = replicate function.frame.size 0;
         at = 0;
       };
@@ -149,13 +151,17 @@ enter code site number function words pools state =
       paid = 0;
     }) To
 
+-- a call passes as many arguments and pools as the function takes
 abbrev pub call : PoolCode → ℕ → Option ℕ → List ℕ → List ℕ → State → Move State
 call code site None words pools state = trap traps.BadCall state
 call code site (Some number) words pools state = by (slice_get code.functions number)
   where
     by : Option Function → Move State
     by None = trap traps.BadCall state
-    by (Some function) = if nat_lt (length state.callers) greatest_depth then enter code site number function words pools state else Halt DepthReached state
+    by (Some function) =
+        if (length words == function.frame.parameters) && (length pools == function.taken) then
+        (if nat_lt (length state.callers) greatest_depth then enter code site number function words pools state else Halt DepthReached state)
+        else trap traps.BadCall state
 
 -- what a function gives, to the register of the call, behind which its caller goes on
 abbrev pub back : PoolCode → ℕ → State → Move State
@@ -227,7 +233,7 @@ act code state = act_at code (slice_get (points_of (function_of code state.runni
 
 -- `start` is entered with no callers; its pools are made on its way in, with its first step
 abbrev pub first_activation : PoolCode → Activation
-first_activation code = record { owner = InStart; words = no_words; descriptors = descriptors_from []; start = 2 ^ 40; bytes = replicate code.start.frame.size 0; at = 0 }
+first_activation code = record { owner = InStart; words = no_words; descriptors = descriptors_from []; start = 2 ^ 40; kept = objects_start code.start.frame; bytes = replicate code.start.frame.size 0; at = 0 }
 
 abbrev pub initial : PoolCode → ℕ → ℕ → List ℕ → State
 initial code slabs index input =

@@ -1,5 +1,5 @@
 -- Memory while code with pools runs: the globals, the frames of activations, and the live cells and objects of pools, at the machine's
--- addresses. A range is loaded or stored where it lies in one of these; else the run is trapped.
+-- addresses. A range is loaded or stored where it lies in one of these, and not in words of a frame; else the run is trapped.
 use Rattle.std.specs.Prelude.{ℕ, ◌+◌, ◌-◌, Bool, ◌&&◌, nat_le, if◌then◌else◌, List, [], ◌∷◌, length, map, take, drop, Option, Some, None, option_map}
 use Rattle.byteorder.specs.Endian.{little_bytes, little_number}
 use Rattle.slab_space.specs.Pool.{Object}
@@ -12,8 +12,9 @@ use Rattle.pool_ir.specs.States.{Activation, State, PoolEvent, Same}
 
 -- ---- frames
 
+-- the range lies in the frame, behind its words
 abbrev pub covers : Activation → ℕ → ℕ → Bool
-covers activation address size = nat_le activation.start address && nat_le (address + size) (activation.start + length activation.bytes)
+covers activation address size = nat_le (activation.start + activation.kept) address && nat_le (address + size) (activation.start + length activation.bytes)
 
 abbrev pub frame_number : List Activation → ℕ → ℕ → Option ℕ
 frame_number [] address size = None

@@ -1,6 +1,7 @@
 -- States of a run of code with pools: the machine's heap and globals, and for each activation its words, its descriptors, and the bytes of
--- its frame, in which its objects lie; the words that the layout keeps for registers there stay as they were at entry.
-use Rattle.std.specs.Prelude.{ℕ, suc, ◌==◌, ◌&&◌, if◌then◌else◌, List, [], ◌∷◌, ◌++◌, length, slice_get, Option, Some, None}
+-- its frame, in which its objects lie. The bytes that the layout keeps for words there belong to no object: they stay as they were at entry,
+-- and no load or store reaches them.
+use Rattle.std.specs.Prelude.{ℕ, suc, ◌%◌, ◌^◌, ◌==◌, ◌&&◌, if◌then◌else◌, List, [], ◌∷◌, ◌++◌, length, slice_get, Option, Some, None}
 use Rattle.run_theory.specs.declared.ends.TrapKind.{TrapKind}
 use Rattle.run_theory.specs.declared.ends.TrapKind.TheVariants as traps
 use Rattle.run_theory.specs.Runs.{Trapped, Move, To, Halt}
@@ -32,11 +33,13 @@ same (event ∷ trace) = same_of event ++ same trace
 
 -- ---- states
 
+-- Of the bytes of the frame so many, the first, are kept for words.
 pub record Activation : Type 0 where
   pub owner : Owner
   pub words : Words
   pub descriptors : ℕ → ℕ
   pub start : ℕ
+  pub kept : ℕ
   pub bytes : List ℕ
   pub at : ℕ
 
@@ -79,8 +82,9 @@ trap kind state = Halt (Trapped kind) state
 abbrev pub emit : List PoolEvent → State → State
 emit events state = record state { trace = state.trace ++ events }
 
+-- a descriptor is a word of 64 bits, too
 abbrev pub with_descriptor : ℕ → ℕ → (ℕ → ℕ) → ℕ → ℕ
-with_descriptor descriptor pool descriptors other = if descriptor == other then pool else descriptors other
+with_descriptor descriptor pool descriptors other = if descriptor == other then pool % 2 ^ 64 else descriptors other
 
 abbrev pub opens : ℕ → ℕ → Option PoolKind → State → (State → Move State) → Move State
 opens descriptor number None state next = trap traps.Reached state

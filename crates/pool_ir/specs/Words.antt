@@ -8,7 +8,7 @@ use Rattle.tac_ir.specs.Trees.{same_register}
 use Rattle.tac_ir.specs.Code.{Tree, Constant, Held, Convert, Complement, Not, Arithmetic, Compare, Operand, IntegerOperand, PointerOperand}
 use Rattle.pool_isa.specs.Machine.{binary_word, complement_word, compared_word, converted_word}
 
--- what registers hold; one that was not written yet holds 0
+-- what registers hold, words of 64 bits; one that was not written yet holds 0
 abbrev pub Words : Type 0
 Words = Register → ℕ
 
@@ -16,7 +16,7 @@ abbrev pub no_words : Words
 no_words register = 0
 
 abbrev pub with_word : Register → ℕ → Words → Words
-with_word register word words other = if same_register register other then word else words other
+with_word register word words other = if same_register register other then word % 2 ^ 64 else words other
 
 abbrev pub truth_word : Bool → ℕ
 truth_word test = if test then 1 else 0

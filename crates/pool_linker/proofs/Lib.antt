@@ -1,3 +1,4 @@
 mod Once
+mod Zeros
 mod Ranges
-pub mod NoKinds
+pub mod LinkedRuns

@@ -28,7 +28,7 @@ flag_same true = refl
 flag_same false = refl
 
 -- the test tells equal kinds
-same_is : (a b : PoolKind) → same_kind a b ≡ true → a ≡ b
+pub same_is : (a b : PoolKind) → same_kind a b ≡ true → a ≡ b
 same_is Mixed Mixed e = refl
 same_is Mixed (Homogeneous source cell indexed) e = absurd (false≢true e)
 same_is (Homogeneous source cell indexed) Mixed e = absurd (false≢true e)
@@ -44,7 +44,7 @@ same_itself : (a : PoolKind) → same_kind a a ≡ true
 same_itself Mixed = refl
 same_itself (Homogeneous s c i) = and_from (eqb s s) _ (eq-eqb s s refl) (and_from (eqb c c) _ (eq-eqb c c refl) (flag_same i))
 
-same_from : (a b : PoolKind) → a ≡ b → same_kind a b ≡ true
+pub same_from : (a b : PoolKind) → a ≡ b → same_kind a b ≡ true
 same_from a b e = subst (λ c. same_kind a c ≡ true) e (same_itself a)
 
 apart_flip : (a b : PoolKind) → same_kind a b ≡ false → same_kind b a ≡ false

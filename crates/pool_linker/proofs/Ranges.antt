@@ -6,14 +6,15 @@ use Rattle.slab_space.specs.declared.kind.PoolKind.{PoolKind}
 use Rattle.pool_isa.specs.declared.instr.Instr.{Instr}
 use Rattle.pool_isa.specs.declared.instr.Instr.TheVariants as instrs
 use Rattle.pool_isa.specs.Instr.{Fits}
-use Rattle.pool_isa.specs.Machine.{Function}
+use Rattle.pool_isa.specs.Machine.{Function, Code}
 use Rattle.pool_isa.specs.Ranges.{IsWithin, InRange, is_last, LastIs, IsFunction}
-use Rattle.stack_code.specs.declared.emission.Unit.{Unit as Emitted}
+use Rattle.stack_code.specs.declared.units.Unit.{Unit as Emitted}
 use Rattle.stack_code.specs.Units.{unit_function}
 use Rattle.image_form.specs.declared.image.MachineLimits.{MachineLimits}
 use Rattle.image_form.specs.Form.{IsKind, BeginsWithStart, IsImage}
 use Rattle.pool_linker.specs.Linking.{once, numbers_of, linked_instr, linked_function, linked, NamesBelow}
 use Rattle.pool_linker.proofs.Once.{number_within, once-all, once-short}
+use Rattle.pool_linker.proofs.Zeros.{cut_ends, cut_short, cut_all}
 
 abbrev IsOperand : ℕ → ℕ → ℕ → Instr → Type 0
 IsOperand kinds functions instructions instr = Fits instr × InRange kinds functions instructions instr
@@ -22,7 +23,7 @@ names_below : (kinds functions instructions : ℕ) (instr : Instr) → IsOperand
 names_below kinds functions instructions (instrs.PoolInit kind) h = h.1
 names_below kinds functions instructions _ h = tt
 
-code-below : (kinds functions instructions : ℕ) (code : List Instr) → AllByRecursion (IsOperand kinds functions instructions) code → AllByRecursion (NamesBelow kinds) code
+pub code-below : (kinds functions instructions : ℕ) (code : List Instr) → AllByRecursion (IsOperand kinds functions instructions) code → AllByRecursion (NamesBelow kinds) code
 code-below kinds functions instructions [] h = tt
 code-below kinds functions instructions (instr ∷ code) h = (names_below kinds functions instructions instr h.0, code-below kinds functions instructions code h.1)
 
@@ -72,18 +73,21 @@ module _ (kinds : List PoolKind) (small : length kinds ≤ 1048576) where
   linked-start [] h = h
   linked-start (f ∷ fs) h = h
 
-  pub linked-image : (fs : List Function) (limits : MachineLimits) → AllByRecursion (IsFunction (length kinds) (length fs)) fs → length fs ≤ 4097 → BeginsWithStart fs → AllByRecursion IsKind kinds
-      → IsWithin 1 1048576 limits.slabs → IsWithin 1 4294967295 limits.index → IsImage (linked kinds fs limits)
-  linked-image fs limits functions count start each_kind slabs index =
-      let long : length (map (linked_function (numbers_of kinds)) fs) ≡ length fs = length-map fs (linked_function (numbers_of kinds)) in
-      record {
-        version = refl;
-        slabs = slabs;
-        index = index;
-        globals = omega arith;
-        contents = (omega arith, tt, tt);
-        kinds = (omega (arith, once-short kinds, small), once-all IsKind kinds each_kind);
-        functions = subst (λ n. n ≤ 4097) (sym long) count;
-        each_function = subst (λ n. AllByRecursion (IsFunction (length (once kinds)) n) (map (linked_function (numbers_of kinds)) fs)) (sym long) (linked-functions (length fs) fs functions);
-        start = linked-start fs start;
-      }
+pub linked-image : (code : Code) (limits : MachineLimits) → AllByRecursion (IsFunction (length code.kinds) (length code.functions)) code.functions → length code.functions ≤ 4097 → BeginsWithStart code.functions
+    → (length code.kinds ≤ 1048576) × AllByRecursion IsKind code.kinds → code.globals ≤ 1073741824 → length code.contents ≤ code.globals → AllByRecursion (λ byte. byte < 256) code.contents
+    → IsWithin 1 1048576 limits.slabs → IsWithin 1 4294967295 limits.index → IsImage (linked code limits)
+linked-image code limits functions count start kinds globals contents bytes slabs index =
+    let fs = code.functions in
+    let link = linked_function (numbers_of code.kinds) in
+    let long : length (map link fs) ≡ length fs = length-map fs link in
+    record {
+      version = refl;
+      slabs = slabs;
+      index = index;
+      globals = globals;
+      contents = (omega (arith, cut_short code.contents, contents), cut_all (λ byte. byte < 256) code.contents bytes, cut_ends code.contents);
+      kinds = (omega (arith, once-short code.kinds, kinds.0), once-all IsKind code.kinds kinds.1);
+      functions = subst (λ n. n ≤ 4097) (sym long) count;
+      each_function = subst (λ n. AllByRecursion (IsFunction (length (once code.kinds)) n) (map link fs)) (sym long) (linked-functions code.kinds kinds.0 (length fs) fs functions);
+      start = linked-start code.kinds kinds.0 fs start;
+    }

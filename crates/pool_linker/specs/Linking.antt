@@ -1,11 +1,12 @@
--- The image of units: each kind of pools once, and each `PoolInit` with the number of its kind there.
+-- The image of code: each kind of pools once, each `PoolInit` with the number of its kind there, and the first contents of the globals
+-- without the zeros at their end.
 use Rattle.std.specs.Prelude.{◌≡◌, ℕ, ◌<◌, ◌==◌, ◌&&◌, Bool, true, false, not, if◌then◌else◌, List, [], ◌∷◌, map, filter, Some, slice_get, slice_index}
 use Rattle.std.specs.List.{position_or_len}
 use Rattle.slab_space.specs.declared.kind.PoolKind.{PoolKind}
 use Rattle.slab_space.specs.declared.kind.PoolKind.TheVariants.{Mixed, Homogeneous}
 use Rattle.pool_isa.specs.declared.instr.Instr.{Instr}
 use Rattle.pool_isa.specs.declared.instr.Instr.TheVariants as instrs
-use Rattle.pool_isa.specs.Machine.{Function}
+use Rattle.pool_isa.specs.Machine.{Function, Code}
 use Rattle.image_form.specs.declared.image.MachineLimits.{MachineLimits}
 use Rattle.image_form.specs.Form.{Form}
 
@@ -37,10 +38,27 @@ linked_instr numbers instr = instr
 abbrev pub linked_function : List ℕ → Function → Function
 linked_function numbers function = record function { code = map (linked_instr numbers) function.code }
 
--- the image of functions that name these kinds
-abbrev pub linked : List PoolKind → List Function → MachineLimits → Form
-linked kinds functions limits =
-    record { version = 1; limits = limits; globals = 0; contents = []; kinds = once kinds; functions = map (linked_function (numbers_of kinds)) functions }
+-- the byte in front of these, but no zero in front of nothing
+abbrev pub in_front : ℕ → List ℕ → List ℕ
+in_front byte [] = if byte == 0 then [] else byte ∷ []
+in_front byte (next ∷ bytes) = byte ∷ next ∷ bytes
+
+-- the bytes without the zeros at their end
+abbrev pub without_zeros : List ℕ → List ℕ
+without_zeros [] = []
+without_zeros (byte ∷ bytes) = in_front byte (without_zeros bytes)
+
+-- the image of the code, with these limits
+abbrev pub linked : Code → MachineLimits → Form
+linked code limits =
+    record {
+      version = 1;
+      limits = limits;
+      globals = code.globals;
+      contents = without_zeros code.contents;
+      kinds = once code.kinds;
+      functions = map (linked_function (numbers_of code.kinds)) code.functions;
+    }
 
 -- there are so many kinds, and the instruction names none that isn't there
 abbrev pub NamesBelow : ℕ → Instr → Type 0

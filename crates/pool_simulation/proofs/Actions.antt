@@ -66,7 +66,7 @@ module _ (tac : Tac) (plan : Plan) (slabs : ℕ) (state : T.State) (machine : P.
   later = with_pools descriptors pools trace machine
 
   same_frames : SameFrames machine later
-  same_frames = record { start = refl; bytes = refl; callers = refl; globals = refl }
+  same_frames = record { start = refl; kept = refl; bytes = refl; callers = refl; globals = refl }
 
   addresses : (object : V.Object) → address_in tac plan state later object ≡ address_in tac plan state machine object
   addresses object = acted_addresses tac plan state machine descriptors pools trace object
@@ -133,7 +133,7 @@ module _ (tac : Tac) (plan : Plan) (slabs : ℕ) (state : T.State) (machine : P.
       let still = kept_still tac plan state machine state later keeps in
       let running = activation_still tac plan state state (memory_in tac plan state machine) (memory_in tac plan state later) still state.running machine.running step.running in
       record {
-        running = record { owner = running.owner; at = running.at; words = running.words; inside = running.inside; old = running.old; long = running.long };
+        running = record { owner = running.owner; at = running.at; kept = running.kept; words = running.words; inside = running.inside; old = running.old; long = running.long };
         callers = callers_still tac plan state state (memory_in tac plan state machine) (memory_in tac plan state later) still state.callers machine.callers step.callers;
         owned = step.owned;
         globals = step.globals;

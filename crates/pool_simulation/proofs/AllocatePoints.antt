@@ -1,6 +1,6 @@
 -- A point that allocates: an object is placed in the pool of its site, apart from all that lives, or the heap is exhausted, where all objects made so
 -- far and the refused one need more slabs than there are; nothing is placed of 0 bytes.
-use Rattle.std.proofs.Common.{◌≡◌, ℕ, zero, suc, ◌+◌, ◌<◌, ◌≤◌, Bool, true, false, List, [], ◌∷◌, ◌++◌, Some, ℤ, length, refl, sym, ap, subst, ◌∙◌, eq-eqb, ne_eqb, eqb-true, lt-ltb, arith}
+use Rattle.std.proofs.Common.{◌≡◌, ℕ, zero, suc, ◌+◌, ◌%◌, ◌^◌, ◌<◌, ◌≤◌, Bool, true, false, List, [], ◌∷◌, ◌++◌, Some, ℤ, length, refl, sym, ap, subst, ◌∙◌, eq-eqb, ne_eqb, eqb-true, lt-ltb, arith}
 use Rattle.std.specs.Prelude.{◌==◌, nat_lt, if◌then◌else◌}
 use Rattle.std.proofs.lemmas.List.Sums.{sum_by-cons, sum_by-append}
 use Rattle.run_theory.specs.Runs.{HeapExhausted, IndexExhausted, Move, Halt, Refused}
@@ -132,7 +132,7 @@ module _ (tac : Tac) (plan : Plan) (slabs : ℕ) (state : T.State) (machine : P.
       by false other there = allocation_stays number other (step.allocations number there)
 
   same_frames : SameFrames machine later
-  same_frames = record { start = refl; bytes = refl; callers = refl; globals = refl }
+  same_frames = record { start = refl; kept = refl; bytes = refl; callers = refl; globals = refl }
 
   content_stays : (object : V.Object) → ContentStands tac.structs next.objects (memory_in tac plan next later) later object (next.objects object)
   content_stays object = by (same_object (OfHeap state.next_heap) object)
@@ -184,8 +184,11 @@ module _ (tac : Tac) (plan : Plan) (slabs : ℕ) (state : T.State) (machine : P.
       }
 
   -- the pointer to it
-  pub new_pointer : Stands next.objects (memory_in tac plan next later) (Address (OfHeap state.next_heap) 0) address
-  new_pointer = λ there. (address, new_address, omega arith)
+  pub new_pointer : Stands next.objects (memory_in tac plan next later) (Address (OfHeap state.next_heap) 0) (address % 2 ^ 64)
+  new_pointer = λ there. (address, new_address, whole address (length one.object.bytes) one.high)
+    where
+      whole : (start long : ℕ) → start + long ≤ 2 ^ 45 → start % 2 ^ 64 ≡ start + 0
+      whole start long end = omega (arith, end)
 
 -- ---- the point
 

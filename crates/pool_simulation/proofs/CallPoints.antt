@@ -1,11 +1,12 @@
 -- A call: both sides enter the same function, or end at the greatest depth.
-use Rattle.std.proofs.Common.{◌≡◌, ℕ, zero, suc, ◌+◌, ◌*◌, ◌/◌, ◌^◌, ◌<◌, ◌≤◌, ◌⊎◌, inl, inr, ◌==◌, Bool, true, false, ◌&&◌, if◌then◌else◌, List, [], ◌∷◌, ◌++◌, length, map, Option, Some, None, refl, sym, ap, subst, ◌∙◌, arith, eqb-true, eq-eqb, ne_eqb, ltb-true}
+use Rattle.std.proofs.Common.{◌≡◌, ℕ, zero, suc, ◌+◌, ◌*◌, ◌/◌, ◌%◌, ◌^◌, ◌<◌, ◌≤◌, ◌⊎◌, inl, inr, ◌==◌, Bool, true, false, ◌&&◌, if◌then◌else◌, List, [], ◌∷◌, ◌++◌, length, map, Option, Some, None, refl, sym, ap, subst, ◌∙◌, arith, eqb-true, eq-eqb, ne_eqb, ltb-true}
 use Rattle.std.specs.Prelude.{slice_get, nat_lt}
 use Rattle.std.proofs.lemmas.Bool.{false≢true}
-use Rattle.std.proofs.lemmas.List.{length-replicate}
+use Rattle.std.proofs.lemmas.List.{length-replicate, length-map}
 use Rattle.std.proofs.lemmas.Option.{same_Some}
 use Rattle.run_theory.specs.Runs.{DepthReached, Move, To, Halt}
 use Rattle.c_typed.specs.Types.{CType, same_type}
+use Rattle.c_typed.specs.Layouts.{StructDef}
 use Rattle.slab_exhaustion.specs.Needs.{needs}
 use Rattle.tac_ir.specs.declared.register.Local.{Local}
 use Rattle.tac_ir.specs.declared.register.Local.TheVariants as L
@@ -26,6 +27,7 @@ use Rattle.tac_ir.specs.Code.{Callee, Known, Through, LocalObject, Function, Tac
 use Rattle.tac_ir.proofs.Activations.{IsStacked}
 use Rattle.pool_ir.specs.Code as C
 use Rattle.pool_ir.specs.Code.{FrameLayout}
+use Rattle.pool_ir.specs.Frames.{objects_start}
 use Rattle.pool_ir.specs.Words.{Words}
 use Rattle.pool_ir.specs.States as P
 use Rattle.pool_ir.specs.States.{Same}
@@ -35,11 +37,12 @@ use Rattle.pool_rewrite.specs.Plan.{Plan}
 use Rattle.pool_rewrite.specs.Rewriting.{function_of, signature_of, callee_of}
 use Rattle.pool_rewrite.specs.Standing.{MemoryMap, Stands, WordsStand, ContentStands}
 use Rattle.pool_simulation.specs.Regions.{Regions, frame_end}
-use Rattle.pool_simulation.specs.Placed.{IsInside}
+use Rattle.pool_simulation.specs.Placed.{KeepsOffsets, Placed, IsInside}
 use Rattle.pool_simulation.specs.InStep.{plan_for, frame_for, running_in, address_in, memory_in, IsOld, ActivationStands, CallersStand, IsOwned, IsOf, AllocationStands, greatest_frame, Fits, InStep}
 use Rattle.pool_simulation.specs.Serving.{code_of, StandsAt, passed_for, entered}
 use Rattle.pool_simulation.proofs.Stepping.{op_for, Ready, Does, enters, ends, wrong, PointDoes}
 use Rattle.pool_simulation.proofs.PointWords.{named_stands, AllStand, none, more, arguments_stand}
+use Rattle.pool_simulation.proofs.NarrowWords.{narrow_stands}
 use Rattle.pool_simulation.proofs.PushedFrames.{number_frame, pushed_number, pushed_local, owned_made}
 use Rattle.pool_simulation.proofs.StayingObjects.{nothing_stands, held_there, Stays, PlaceStays, old_stays, stands_stays, inside_stays, activation_stays, callers_stay, content_stays}
 use Rattle.pool_simulation.proofs.PlannedCode.{function_at, does_given, does_unless, same_more, made_more}
@@ -88,23 +91,41 @@ opened_held around new (first ∷ others) objects object offset value is = by (s
 
 -- ---- parameters
 
--- the words of arguments stand in the registers of parameters
-parameters_stand : (objects : Objects) (memory : MemoryMap) (number : ℕ) (values : List Value) (words : List ℕ) → AllStand objects memory values words
-    → WordsStand objects memory (K.parameters_from number values) (M.parameters_from number words)
-parameters_stand objects memory number _ _ none register value is = absurd (cc)
-parameters_stand objects memory number _ _ (more first word values words stands rest) register value is =
-    by (same_register (R.Local (L.Parameter number)) register) is (parameters_stand objects memory (suc number) values words rest register value)
-  where
-    by : (b : Bool) → (if b then Some first else K.parameters_from (suc number) values register) ≡ Some value
-        → (K.parameters_from (suc number) values register ≡ Some value → Stands objects memory value (M.parameters_from (suc number) words register))
-        → Stands objects memory value (if b then word else M.parameters_from (suc number) words register)
-    by true is others = subst (λ v. Stands objects memory v word) (same_Some first value is) stands
-    by false is others = others is
-
 -- what holds of each
 abbrev Each : (Value → Type 0) → List Value → Type 0
 Each holds [] = Unit {0}
 Each holds (value ∷ values) = holds value × Each holds values
+
+-- the words of arguments stand for them modulo 2 ^ 64, one by one
+abbrev AllNarrow : Objects → MemoryMap → List Value → List ℕ → Type 0
+AllNarrow objects memory [] words = Unit {0}
+AllNarrow objects memory (value ∷ values) [] = ⊥
+AllNarrow objects memory (value ∷ values) (word ∷ words) = Stands objects memory value (word % 2 ^ 64) × AllNarrow objects memory values words
+
+all_narrow : (structs : List StructDef) (objects : Objects) (memory : MemoryMap) → KeepsOffsets memory → Placed structs memory objects → (values : List Value) (words : List ℕ) → AllStand objects memory values words
+    → Each (IsInside structs objects) values → AllNarrow objects memory values words
+all_narrow structs objects memory keeps placed _ _ none inside = tt
+all_narrow structs objects memory keeps placed _ _ (more first word values words stands rest) inside =
+    (narrow_stands structs objects memory keeps placed first word stands inside.0, all_narrow structs objects memory keeps placed values words rest inside.1)
+
+-- as many
+all_long : (objects : Objects) (memory : MemoryMap) (values : List Value) (words : List ℕ) → AllStand objects memory values words → length words ≡ length values
+all_long objects memory _ _ none = refl
+all_long objects memory _ _ (more first word values words stands rest) = ap suc (all_long objects memory values words rest)
+
+-- the words of arguments stand in the registers of parameters
+parameters_stand : (objects : Objects) (memory : MemoryMap) (number : ℕ) (values : List Value) (words : List ℕ) → AllNarrow objects memory values words
+    → WordsStand objects memory (K.parameters_from number values) (M.parameters_from number words)
+parameters_stand objects memory number [] words stand register value is = absurd (cc)
+parameters_stand objects memory number (first ∷ values) [] stand register value is = absurd stand
+parameters_stand objects memory number (first ∷ values) (word ∷ words) stand register value is =
+    by (same_register (R.Local (L.Parameter number)) register) is (parameters_stand objects memory (suc number) values words stand.1 register value)
+  where
+    by : (b : Bool) → (if b then Some first else K.parameters_from (suc number) values register) ≡ Some value
+        → (K.parameters_from (suc number) values register ≡ Some value → Stands objects memory value (M.parameters_from (suc number) words register))
+        → Stands objects memory value (if b then word % 2 ^ 64 else M.parameters_from (suc number) words register)
+    by true is others = subst (λ v. Stands objects memory v (word % 2 ^ 64)) (same_Some first value is) stand.0
+    by false is others = others is
 
 held_each : (holds : Value → Type 0) (registers : Registers) (arguments : List Register) (values : List Value) → ((register : Register) (value : Value) → registers register ≡ Some value → holds value)
     → all_held registers arguments ≡ Some values → Each holds values
@@ -170,7 +191,7 @@ depth_is : greatest_depth ≡ 10000
 unfolding greatest_depth
 depth_is = refl
 
-callers_long : (tac : Tac) (plan : Plan) (state : T.State) (memory : MemoryMap) (callers : List (ℕ × T.Activation)) (others : List (ℕ × P.Activation)) → CallersStand tac plan state memory callers others → length others ≡ length callers
+pub callers_long : (tac : Tac) (plan : Plan) (state : T.State) (memory : MemoryMap) (callers : List (ℕ × T.Activation)) (others : List (ℕ × P.Activation)) → CallersStand tac plan state memory callers others → length others ≡ length callers
 callers_long tac plan state memory [] [] stand = refl
 callers_long tac plan state memory [] (own ∷ others) stand = absurd stand
 callers_long tac plan state memory (waiting ∷ callers) [] stand = absurd stand
@@ -183,7 +204,7 @@ room_behind start long count size low most most' few = (omega (arith, low, most)
 
 module _ (tac : Tac) (plan : Plan) (slabs : ℕ) (state : T.State) (machine : P.State) (fits : Fits tac plan) (stacked : IsStacked tac state) (step : InStep tac plan slabs state machine)
     (site number : ℕ) (function : Function) (values : List Value) (words : List ℕ) (found : slice_get tac.functions number ≡ Some function) (less : length machine.callers < 10000)
-    (stand : AllStand state.objects (memory_in tac plan state machine) values words) (old : Each (IsOld state) values) (inside : Each (IsInside tac.structs state.objects) values) where
+    (stand : AllNarrow state.objects (memory_in tac plan state machine) values words) (old : Each (IsOld state) values) (inside : Each (IsInside tac.structs state.objects) values) where
   abbrev new : ℕ
   new = state.next_activation
 
@@ -205,6 +226,9 @@ module _ (tac : Tac) (plan : Plan) (slabs : ℕ) (state : T.State) (machine : P.
 
   long : length later.running.bytes ≡ own.frame.size
   long = length-replicate {A = ℕ} own.frame.size 0
+
+  kept_is : later.running.kept ≡ objects_start (frame_for tac plan (InFunction number))
+  kept_is = sym (ap objects_start (number_frame tac plan number function found))
 
   room : (M.next_start machine.running ≤ 2 ^ 40 + suc (length machine.callers) * greatest_frame) × (M.next_start machine.running + own.frame.size ≤ 2 ^ 44)
   room = room_behind machine.running.start (length machine.running.bytes) (length machine.callers) own.frame.size step.low
@@ -296,6 +320,7 @@ module _ (tac : Tac) (plan : Plan) (slabs : ℕ) (state : T.State) (machine : P.
   running = record {
     owner = refl;
     at = refl;
+    kept = kept_is;
     words = λ register value is.
         stands_stays tac plan state next machine later place_stays heap_more made_more_by value (M.parameters_from 0 words register) (parameters_each (IsOld state) 0 values old register value is)
         (parameters_stand state.objects (memory_in tac plan state machine) 0 values words stand register value is);
@@ -351,14 +376,21 @@ module _ (tac : Tac) (plan : Plan) (slabs : ℕ) (state : T.State) (machine : P.
   abbrev own_of : ℕ → Function → C.Function
   own_of number function = function_of tac (plan_for plan (InFunction number)) function
 
+  stand : (values : List Value) → all_held state.running.registers arguments ≡ Some values → AllStand state.objects (memory_in tac plan state machine) values given_words
+  stand values held = arguments_stand state.objects (memory_in tac plan state machine) state.running.registers machine.running.words arguments values ready.in_step.running.words held
+
   -- what the code with pools does
-  machine_does : (number : ℕ) (function : Function) → slice_get tac.functions number ≡ Some function → K.called tac surroundings state.running.registers callee ≡ Some number
+  machine_does : (number : ℕ) (function : Function) (values : List Value) → all_held state.running.registers arguments ≡ Some values → length values ≡ function.parameters
+      → slice_get tac.functions number ≡ Some function → K.called tac surroundings state.running.registers callee ≡ Some number
       → M.execute (code_of tac plan) (op_for tac plan state.running.owner (O.Call site callee arguments)) machine
       ≡ (if nat_lt (length machine.callers) greatest_depth then M.enter (code_of tac plan) site number (own_of number function) given_words given_pools machine else Halt DepthReached machine)
-  machine_does number function found called =
+  machine_does number function values held enough found called =
       let same = called_same tac plan ready.planned surroundings state.objects (memory_in tac plan state machine) state.running.registers machine.running.words callee number ready.in_step.running.words called in
       ap (λ (number : Option ℕ). M.call (code_of tac plan) site number given_words given_pools machine) same
       ∙ call_is (code_of tac plan) site number (own_of number function) given_words given_pools machine (function_at tac plan ready.planned number function found)
+      (all_long state.objects (memory_in tac plan state machine) values given_words (stand values held) ∙ enough)
+      (length-map ((plan_for plan state.running.owner).passes site) (M.pool_of machine)
+      ∙ ready.serving.passes site number callee arguments (own_of number function) at called (function_at tac plan ready.planned number function found))
 
   depth : (number : ℕ) (function : Function) (values : List Value) → slice_get tac.functions number ≡ Some function → all_held state.running.registers arguments ≡ Some values
       → (b : Bool) → nat_lt (length state.callers) greatest_depth ≡ b
@@ -368,7 +400,8 @@ module _ (tac : Tac) (plan : Plan) (slabs : ℕ) (state : T.State) (machine : P.
       enters site number callee arguments (own_of number function) given_words (K.enter surroundings site number function values state) at (function_at tac plan ready.planned number function found)
       (entered_in_step tac plan slabs state machine ready.fits ready.stacked ready.in_step site number function values given_words found
       (omega (arith, callers_long tac plan state (memory_in tac plan state machine) state.callers machine.callers ready.in_step.callers, depth_is, ltb-true (length state.callers) greatest_depth less))
-      (arguments_stand state.objects (memory_in tac plan state machine) state.running.registers machine.running.words arguments values ready.in_step.running.words held)
+      (all_narrow tac.structs state.objects (memory_in tac plan state machine) (λ object offset. refl) ready.placed values given_words (stand values held)
+      (held_each (IsInside tac.structs state.objects) state.running.registers arguments values ready.in_step.running.inside held))
       (held_each (IsOld state) state.running.registers arguments values ready.in_step.running.old held)
       (held_each (IsInside tac.structs state.objects) state.running.registers arguments values ready.in_step.running.inside held))
   depth number function values found held false deep = ends DepthReached state machine ready.in_step.trace tt
@@ -393,6 +426,6 @@ module _ (tac : Tac) (plan : Plan) (slabs : ℕ) (state : T.State) (machine : P.
           does_unless tac plan slabs machine (length values == function.parameters) state
           (if nat_lt (length state.callers) greatest_depth then To (K.enter surroundings site number function values state) else Halt DepthReached state) does
           (λ enough. subst (Does tac plan slabs state machine (if nat_lt (length state.callers) greatest_depth then To (K.enter surroundings site number function values state) else Halt DepthReached state))
-          (sym (machine_does number function found called
+          (sym (machine_does number function values held (eqb-true (length values) function.parameters enough) found called
           ∙ ap (λ b. if b then M.enter (code_of tac plan) site number (own_of number function) given_words given_pools machine else Halt DepthReached machine) same_depth))
           (depth number function values found held (nat_lt (length state.callers) greatest_depth) refl))

@@ -115,6 +115,7 @@ module _ (tac : Tac) (plan : Plan) (keeps : Fits tac plan) (slabs index : ℕ) (
           running = record {
             owner = refl;
             at = refl;
+            kept = refl;
             words = λ register value is. absurd (none-some value is);
             inside = λ register value is. absurd (none-some value is);
             old = λ register value is. absurd (none-some value is);

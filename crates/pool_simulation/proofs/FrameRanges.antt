@@ -13,21 +13,21 @@ pub if_same : {X : Type 0} (b : Bool) (x z y : X) → (b ≡ true → x ≡ z) �
 if_same true x z y same = same refl
 if_same false x z y same = refl
 
-pub covers_facts : (a : Activation) (address size : ℕ) → covers a address size ≡ true → (a.start ≤ address) × (address + size ≤ a.start + length a.bytes)
+pub covers_facts : (a : Activation) (address size : ℕ) → covers a address size ≡ true → (a.start + a.kept ≤ address) × (address + size ≤ a.start + length a.bytes)
 covers_facts a address size e =
-    let both = and_parts (nat_le a.start address) (nat_le (address + size) (a.start + length a.bytes)) e in
-    (leb-true a.start address both.0, leb-true (address + size) (a.start + length a.bytes) both.1)
+    let both = and_parts (nat_le (a.start + a.kept) address) (nat_le (address + size) (a.start + length a.bytes)) e in
+    (leb-true (a.start + a.kept) address both.0, leb-true (address + size) (a.start + length a.bytes) both.1)
 
-pub covers_from : (a : Activation) (address size : ℕ) → a.start ≤ address → address + size ≤ a.start + length a.bytes → covers a address size ≡ true
+pub covers_from : (a : Activation) (address size : ℕ) → a.start + a.kept ≤ address → address + size ≤ a.start + length a.bytes → covers a address size ≡ true
 covers_from a address size low high =
-    and_from (nat_le a.start address) (nat_le (address + size) (a.start + length a.bytes)) (le-leb a.start address low) (le-leb (address + size) (a.start + length a.bytes) high)
+    and_from (nat_le (a.start + a.kept) address) (nat_le (address + size) (a.start + length a.bytes)) (le-leb (a.start + a.kept) address low) (le-leb (address + size) (a.start + length a.bytes) high)
 
 -- a range with a byte before the frame, or behind it
 pub not_before : (a : Activation) (address size : ℕ) → address < a.start → covers a address size ≡ false
-not_before a address size low = and_left (nat_le a.start address) (nat_le (address + size) (a.start + length a.bytes)) (lt-leb a.start address low)
+not_before a address size low = and_left (nat_le (a.start + a.kept) address) (nat_le (address + size) (a.start + length a.bytes)) (lt-leb (a.start + a.kept) address (omega (arith, low)))
 
 pub not_behind : (a : Activation) (address size : ℕ) → a.start + length a.bytes < address + size → covers a address size ≡ false
-not_behind a address size high = and_right (nat_le a.start address) (nat_le (address + size) (a.start + length a.bytes)) (lt-leb (address + size) (a.start + length a.bytes) high)
+not_behind a address size high = and_right (nat_le (a.start + a.kept) address) (nat_le (address + size) (a.start + length a.bytes)) (lt-leb (address + size) (a.start + length a.bytes) high)
 
 abbrev pub frames_from : Activation → List (ℕ × Activation) → List Activation
 frames_from running callers = running ∷ map (λ (waiting : ℕ × Activation). waiting.1) callers
@@ -35,10 +35,10 @@ frames_from running callers = running ∷ map (λ (waiting : ℕ × Activation).
 -- ---- activations that differ in their bytes alone
 
 pub covers_same : (a b : Activation) (address size : ℕ) → SameActivation a b → covers b address size ≡ covers a address size
-covers_same a b address size same = let start = same.start in let long = same.long in (λ i. nat_le (start i) address && nat_le (address + size) (start i + long i))
+covers_same a b address size same = let start = same.start in let kept = same.kept in let long = same.long in (λ i. nat_le (start i + kept i) address && nat_le (address + size) (start i + long i))
 
 pub itself : (a : Activation) → SameActivation a a
-itself a = record { owner = refl; words = refl; descriptors = refl; start = refl; at = refl; long = refl }
+itself a = record { owner = refl; words = refl; descriptors = refl; start = refl; kept = refl; at = refl; long = refl }
 
 pub callers_themselves : (callers : List (ℕ × Activation)) → SameCallers callers callers
 callers_themselves [] = tt
@@ -78,7 +78,7 @@ module _ (address : ℕ) (new : List ℕ) where
     inside = let both = covers_facts running address (length new) is in omega (arith, both.0, both.1)
 
     same_one : SameActivation running after
-    same_one = record { owner = refl; words = refl; descriptors = refl; start = refl; at = refl; long = length-over running.bytes new off inside }
+    same_one = record { owner = refl; words = refl; descriptors = refl; start = refl; kept = refl; at = refl; long = length-over running.bytes new off inside }
 
     still : (other width : ℕ) → AreApart address (length new) other width → covers running other width ≡ true → word_at after.bytes (other - running.start) width ≡ word_at running.bytes (other - running.start) width
     still other width apart there = over_apart running.bytes new off inside (other - running.start) width (moved apart)

@@ -135,7 +135,7 @@ module _ (tac : Tac) (plan : Plan) (slabs : ℕ) (state : T.State) (machine : P.
       inr (omega (arith, place.within, place.high, same_Some (place.own.start + place_in tac plan place.owner local) address (sym place.is ∙ at), within, mine_low))
 
   same_frames : SameFrames machine later
-  same_frames = record { start = refl; bytes = refl; callers = refl; globals = refl }
+  same_frames = record { start = refl; kept = refl; bytes = refl; callers = refl; globals = refl }
 
   -- and are read as before
   reads_stay : (object : V.Object) → same_object (OfHeap number) object ≡ false → (c_type : CType) (count : ℕ) (held : ℕ → Option Value) (offset : ℕ) (own : CType) (address found : ℕ)

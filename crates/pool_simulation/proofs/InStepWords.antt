@@ -1,6 +1,6 @@
 -- States stay in step where registers, points, traces, input and what is paid change: a value and a word that stands for it are written, and
 -- both go to one point.
-use Rattle.std.proofs.Common.{◌≡◌, ℕ, zero, suc, ◌≤◌, Bool, true, false, if◌then◌else◌, List, [], ◌∷◌, ◌++◌, Option, Some, None, refl, sym, ap, subst, ◌∙◌, arith, append_assoc}
+use Rattle.std.proofs.Common.{◌≡◌, ℕ, zero, suc, ◌%◌, ◌^◌, ◌≤◌, Bool, true, false, if◌then◌else◌, List, [], ◌∷◌, ◌++◌, Option, Some, None, refl, sym, ap, subst, ◌∙◌, arith, append_assoc}
 use Rattle.c_typed.specs.Types as Types
 use Rattle.c_typed.specs.Types.{CType, Void, Integer, Pointer, Array, Struct}
 use Rattle.c_typed.specs.Layouts.{StructDef}
@@ -76,6 +76,7 @@ module _ (tac : Tac) (plan : Plan) (state next : T.State) (memory memory' : Memo
   activation_still activation machine stands = record {
     owner = stands.owner;
     at = stands.at;
+    kept = stands.kept;
     words = λ register value is. still.words value (machine.words register) (stands.old register value is) (stands.words register value is);
     inside = λ register value is. still.inside value (stands.old register value is) (stands.inside register value is);
     old = λ register value is. still.old value (stands.old register value is);
@@ -198,6 +199,7 @@ module _ (tac : Tac) (plan : Plan) (slabs : ℕ) (state : T.State) (machine : P.
       running = record {
         owner = step.running.owner;
         at = same_at;
+        kept = step.running.kept;
         words = subst (λ memory. WordsStand state.objects memory registers words) (sym alike) stand;
         inside = inside;
         old = λ register value is. stays_old value (old register value is);
@@ -245,7 +247,7 @@ module _ (tac : Tac) (plan : Plan) (slabs : ℕ) (state : T.State) (machine : P.
   -- ---- a register is written
 
   -- before the point behind is reached
-  pub register_in_step : (to : Register) (value : Value) (word : ℕ) → Stands state.objects (memory_in tac plan state machine) value word → IsInside tac.structs state.objects value → IsOld state value
+  pub register_in_step : (to : Register) (value : Value) (word : ℕ) → Stands state.objects (memory_in tac plan state machine) value (word % 2 ^ 64) → IsInside tac.structs state.objects value → IsOld state value
       → InStep tac plan slabs (record state { running = record state.running { registers = with_register to (Some value) state.running.registers } })
       (record machine { running = record machine.running { words = with_word to word machine.running.words } })
   register_in_step to value word stands inside old =
@@ -303,9 +305,9 @@ module _ (tac : Tac) (plan : Plan) (slabs : ℕ) (before : T.State) (machine_bef
   go_on_does =
       subst (λ (at : ℕ). Does tac plan slabs before machine_before (T.go_on state) (P.go_to (code_of tac plan) (suc at) machine)) (sym step.running.at) (go_to_does (suc state.running.at))
 
--- a value and a word that stands for it are written
+-- a value and a word that stands for it, modulo 2 ^ 64, are written
 pub write_does : (tac : Tac) (plan : Plan) (slabs : ℕ) (before : T.State) (machine_before : P.State) (state : T.State) (machine : P.State) → Effect tac plan before machine_before machine
-    → InStep tac plan slabs state machine → (to : Register) (value : Value) (word : ℕ) → Stands state.objects (memory_in tac plan state machine) value word → IsInside tac.structs state.objects value
+    → InStep tac plan slabs state machine → (to : Register) (value : Value) (word : ℕ) → Stands state.objects (memory_in tac plan state machine) value (word % 2 ^ 64) → IsInside tac.structs state.objects value
     → IsOld state value → Does tac plan slabs before machine_before (T.write to value state) (P.write (code_of tac plan) to word machine)
 write_does tac plan slabs before machine_before state machine effect step to value word stands inside old =
     let later : P.State = record machine { running = record machine.running { words = with_word to word machine.running.words } } in

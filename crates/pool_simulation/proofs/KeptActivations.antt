@@ -22,6 +22,7 @@ module _ (tac : Tac) (plan : Plan) (state next : T.State) (memory : MemoryMap) (
   activation_kept activation own after same stands = record {
     owner = same.owner ∙ stands.owner;
     at = same.at ∙ stands.at;
+    kept = same.kept ∙ stands.kept;
     words = subst (λ (words : Words). WordsStand next.objects memory activation.registers words) (sym same.words)
         (words_last tac.structs state.objects next.objects lasts memory activation.registers own.words stands.words);
     inside = all_inside_last tac.structs state.objects next.objects lasts activation.registers stands.inside;

@@ -1,6 +1,6 @@
 -- Words stand for what they stood for while objects last: stores, types that allocations get, and objects that are there no more change
 -- nothing of it.
-use Rattle.std.proofs.Common.{◌≡◌, ℕ, ◌+◌, ◌/◌, ◌%◌, ◌≤◌, ◌⊎◌, inl, inr, ◌==◌, Bool, true, false, if◌then◌else◌, List, Option, Some, None, refl, sym, ap, ◌∙◌, subst, eqb-true, arith}
+use Rattle.std.proofs.Common.{◌≡◌, ℕ, ◌+◌, ◌/◌, ◌%◌, ◌^◌, ◌≤◌, ◌⊎◌, inl, inr, ◌==◌, Bool, true, false, if◌then◌else◌, List, Option, Some, None, refl, sym, ap, ◌∙◌, subst, eqb-true, arith}
 use Rattle.std.proofs.Math.Nat.{div-add-mod}
 use Rattle.std.proofs.lemmas.Bool.{false≢true}
 use Rattle.c_typed.specs.Types.{CType}
@@ -222,11 +222,11 @@ hold_closed structs objects activation hold = λ object offset value is. inside_
 -- ---- registers that are written
 
 pub words_written : (objects : Objects) (memory : MemoryMap) (registers : Registers) (words : Words) (to : Register) (value : Value) (word : ℕ) → WordsStand objects memory registers words
-    → Stands objects memory value word → WordsStand objects memory (with_register to (Some value) registers) (with_word to word words)
+    → Stands objects memory value (word % 2 ^ 64) → WordsStand objects memory (with_register to (Some value) registers) (with_word to word words)
 words_written objects memory registers words to value word stand stands = λ register held is. by register held (same_register to register) is
   where
-    by : (register : Register) (held : Value) (b : Bool) → (if b then Some value else registers register) ≡ Some held → Stands objects memory held (if b then word else words register)
-    by register held true is = let same : value ≡ held = cc in subst (λ v. Stands objects memory v word) same stands
+    by : (register : Register) (held : Value) (b : Bool) → (if b then Some value else registers register) ≡ Some held → Stands objects memory held (if b then word % 2 ^ 64 else words register)
+    by register held true is = let same : value ≡ held = cc in subst (λ v. Stands objects memory v (word % 2 ^ 64)) same stands
     by register held false is = stand register held is
 
 pub inside_written : (structs : List StructDef) (objects : Objects) (registers : Registers) (to : Register) (value : Value) → AreInside structs objects registers

@@ -24,6 +24,7 @@ pub mod LiveCells
 pub mod LiveObjects
 pub mod LoadPoints
 pub mod Locking
+pub mod NarrowWords
 pub mod ObjectPlaces
 pub mod ObjectSizes
 pub mod LyingObjects
@@ -63,3 +64,4 @@ pub mod FirstInStep
 pub mod OnePoolServes
 pub mod OwnPoolsServe
 pub mod Simulated
+pub mod SeenRuns

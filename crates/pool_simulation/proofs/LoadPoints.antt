@@ -30,6 +30,7 @@ use Rattle.pool_simulation.proofs.LeavesApart.{StandsIn, stands_in, leaf_within}
 use Rattle.pool_simulation.proofs.PointWords.{load_found}
 use Rattle.pool_simulation.proofs.InStepWords.{emits_in_step, write_does}
 use Rattle.pool_simulation.proofs.ObjectPlaces.{place}
+use Rattle.pool_simulation.proofs.NarrowWords.{narrow_stands}
 use Rattle.pool_simulation.proofs.SlotWords.{slot_some}
 use Rattle.pool_simulation.proofs.StoredInStep.{exact_there}
 
@@ -144,7 +145,8 @@ module _ (tac : Tac) (plan : Plan) (slabs : ℕ) (state : T.State) (machine : P.
       ∙ ap (λ (happened : List P.PoolEvent). P.write (code_of tac plan) to word (P.emit happened machine)) told in
       let after = emits_in_step tac plan slabs state machine step events (map Same events) (same_mapped events) (made_read reached.object) in
       let wrote = write_does tac plan slabs state machine (T.emit events state) (P.emit (map Same events) machine)
-      (nothing _ (record { owner = refl; descriptors = refl; at = refl; callers = refl; pools = refl; placed = refl })) after to value word read.2 (step.inside reached.object reached.inner.offset value found.4)
+      (nothing _ (record { owner = refl; descriptors = refl; at = refl; callers = refl; pools = refl; placed = refl })) after to value word
+      (narrow_stands tac.structs state.objects (memory_in tac plan state machine) (λ object offset. refl) ready.placed value word read.2 (step.inside reached.object reached.inner.offset value found.4)) (step.inside reached.object reached.inner.offset value found.4)
       (step.old reached.object reached.inner.offset value found.4) in
       does_as tac plan slabs state machine (T.write to value (T.emit events state)) (To next) does (P.write (code_of tac plan) to word (P.emit (map Same events) machine)) found.6 done wrote
 

@@ -31,7 +31,7 @@ use Rattle.pool_simulation.proofs.Ranges.{number_by, number_is}
 use Rattle.pool_simulation.proofs.Readable.{globals_read, object_reads}
 use Rattle.pool_simulation.proofs.Allocations.{live_inside, live_apart, live_found, found_lives, access_tells, access_none}
 use Rattle.pool_simulation.proofs.Placed.{global_within, literal_within}
-use Rattle.pool_simulation.proofs.StackDepths.{all_below, all_behind, deeper_before, frame_reads, paired, has_at, address_at, OwnedAt, owned_at, local_within, frame_apart}
+use Rattle.pool_simulation.proofs.StackDepths.{all_below, all_behind, deeper_before, frame_reads, paired, has_at, address_at, OwnedAt, owned_at, local_within, local_behind, frame_apart}
 
 -- ---- ranges below the heap
 
@@ -70,6 +70,7 @@ pub record LocalPlace (tac : Tac) (plan : Plan) (state : T.State) (machine : Sta
   pub content : state.objects (OfActivation activation local) ≡ Typed inner.c_type 1 held
   pub is : address_in tac plan state machine (OfActivation activation local) ≡ Some (own.start + place_in tac plan owner local)
   pub within : place_in tac plan owner local + extent_of tac.structs (state.objects (OfActivation activation local)) ≤ length own.bytes
+  pub behind : own.kept ≤ place_in tac plan owner local
   pub low : 2 ^ 40 ≤ own.start
   pub below : frame_end own ≤ frame_end machine.running
   pub high : frame_end own ≤ 2 ^ 44
@@ -178,6 +179,7 @@ module _ (tac : Tac) (plan : Plan) (slabs : ℕ) (state : T.State) (machine : St
                 (address_at tac plan state.objects state.running state.callers machine.running machine.callers at.depth at.owner pair.own local stacked.2 at.there pair.there);
             within = ends (place_in tac plan at.owner local) (extent (OfActivation activation local)) (size_of tac.structs at.has.0.c_type) (length pair.own.bytes) (frame_for tac plan at.owner.owner).size
                 (local_within tac plan at.owner.owner local at.has.0 at.has.1) pair.stands.long (one_extent tac.structs (state.objects (OfActivation activation local)) at.has.0.c_type has.0 content);
+            behind = subst (λ (n : ℕ). n ≤ place_in tac plan at.owner local) (sym pair.stands.kept) (local_behind tac plan at.owner.owner local at.has.0 at.has.1);
             low = all_behind machine.running machine.callers at.depth pair.own in_step.regions.frames pair.there;
             below = below;
             high = omega (arith, below, in_step.regions.below);
@@ -189,9 +191,12 @@ module _ (tac : Tac) (plan : Plan) (slabs : ℕ) (state : T.State) (machine : St
       let address = at.own.start + place_in tac plan at.owner local + offset in
       number_is machine address size
       ∙ ap (λ f. number_by f machine.globals machine.pools address size)
-      (frame_reads machine.running machine.callers at.depth at.own address size in_step.regions.frames at.own_there (omega arith)
+      (frame_reads machine.running machine.callers at.depth at.own address size in_step.regions.frames at.own_there (begins at.own.start at.own.kept (place_in tac plan at.owner local) offset at.behind)
       (ends at.own.start (place_in tac plan at.owner local) offset size (extent (OfActivation activation local)) (length at.own.bytes) le at.within) some)
     where
+      begins : (start kept place offset : ℕ) → kept ≤ place → start + kept ≤ start + place + offset
+      begins start kept place offset le = omega (arith, le)
+
       ends : (start place offset size extent long : ℕ) → offset + size ≤ extent → place + extent ≤ long → start + place + offset + size ≤ start + long
       ends start place offset size extent long le le' = omega (arith, le, le')
 

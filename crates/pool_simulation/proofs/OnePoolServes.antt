@@ -74,6 +74,22 @@ module _ (tac : Tac) where
           let same : function ≡ function_of tac (plan_for (one_pool tac) (InFunction number)) own = cc in
           ap (λ (f : C.Function). f.entering) same ∙ plain (Some own) known own refl
 
+  -- each function takes one pool
+  takes_one : (number : ℕ) (function : C.Function) → slice_get (code_of tac (one_pool tac)).functions number ≡ Some function → function.taken ≡ 1
+  takes_one number function is =
+      by (slice_get tac.functions number) refl (sym is ∙ owner_alike tac (one_pool tac) one_planned (InFunction number))
+    where
+      plain : (found : Option Function) → slice_get tac.functions number ≡ found → (own : Function) → found ≡ Some own → (plan_for (one_pool tac) (InFunction number)).taken ≡ 1
+      plain found is own same =
+          ap (λ (plan : Option FunctionPlan). (unwrap_or plan one_pool_start).taken) (slice_get-map one_pool_function tac.functions number ∙ ap (option_map one_pool_function) (is ∙ same))
+
+      by : (found : Option Function) → slice_get tac.functions number ≡ found
+          → Some function ≡ option_map (λ (own : Function). function_of tac (plan_for (one_pool tac) (InFunction number)) own) found → function.taken ≡ 1
+      by None known e = absurd (cc)
+      by (Some own) known e =
+          let same : function ≡ function_of tac (plan_for (one_pool tac) (InFunction number)) own = cc in
+          ap (λ (f : C.Function). f.taken) same ∙ plain (Some own) known own refl
+
 -- ---- what is known stays known
 
 -- where there are no actions, nothing is done
@@ -139,6 +155,8 @@ module _ (tac : Tac) (slabs : ℕ) (state : T.State) (machine : P.State) (step :
         };
     frees_null = λ site pointer at held. ap is_some (pool_of_kind machine.pools (pool_for (one_pool tac) state machine site) Mixed (one_kind site)).1;
     leaves = λ value at. subst (λ (actions : List Action). CanAct (code_of tac (one_pool tac)) state actions machine) (sym (no_leaving tac machine.running.owner)) tt;
+    passes = λ site number callee arguments function at called is.
+        ap (λ (passes : List ℕ). length passes) (passes_one tac state.running.owner site) ∙ sym (takes_one tac number function is);
     crosses = λ at between later is in_step effect.
         subst (λ (actions : List Action). CanAct (code_of tac (one_pool tac)) between actions later) (sym (no_actions tac later.running.owner later.running.at at)) tt;
     enters = λ site number callee arguments function words next at is found in_step.

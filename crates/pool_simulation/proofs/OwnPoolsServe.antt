@@ -1,5 +1,5 @@
 -- Pools of their own for activations serve, beside the one: each is destroyed while it holds nothing, and callers keep theirs.
-use Rattle.std.proofs.Common.{◌≡◌, ℕ, suc, ◌-◌, ◌<◌, ◌≤◌, ◌⊎◌, inl, inr, true, List, [], ◌∷◌, map, length, Option, Some, None, refl, sym, ap, subst, ◌∙◌, arith, length-append}
+use Rattle.std.proofs.Common.{◌≡◌, ℕ, suc, ◌-◌, ◌%◌, ◌^◌, ◌<◌, ◌≤◌, ◌⊎◌, inl, inr, true, List, [], ◌∷◌, map, length, Option, Some, None, refl, sym, ap, subst, ◌∙◌, arith, length-append}
 use Rattle.std.specs.Prelude.{slice_get, option_map, unwrap_or, is_some}
 use Rattle.std.proofs.lemmas.Bool.{false≢true}
 use Rattle.std.proofs.lemmas.List.{length-map, length-set}
@@ -22,13 +22,15 @@ use Rattle.pool_ir.specs.Meaning as M
 use Rattle.pool_rewrite.specs.Plan.{FunctionPlan, one_pool_start}
 use Rattle.pool_rewrite.specs.Rewriting.{function_of}
 use Rattle.pool_simulation.specs.Regions.{SameCallers}
-use Rattle.pool_simulation.specs.InStep.{plan_for, Fits, InStep}
+use Rattle.pool_simulation.specs.InStep.{plan_for, memory_in, Fits, InStep}
 use Rattle.pool_simulation.specs.Serving.{code_of, pool_for, passed_for, LiesIn, Takes, HoldsNone, pool_made, pool_destroyed, CanAct, SamePools, Effect, nothing, word_stored, object_placed, object_freed, caller_runs, entered, PoolStep, cost_paid, point_left, function_entered, Serving, Serves}
-use Rattle.pool_simulation.specs.OwnPools.{own_pools_function, own_pools, HoldsOwn, made_before, AllHoldOwn, KnowsOwnPools}
+use Rattle.pool_simulation.specs.OwnPools.{own_pools_function, own_pools, HoldsOwn, made_before, AllHoldOwn, at_first, goes, enters, ReachedBy, CallsFew, KnowsOwnPools}
 use Rattle.pool_simulation.proofs.Ranges.{wrote}
 use Rattle.pool_simulation.proofs.Allocations.{pool_of_kind, placed_object, freed_object, takes_suits}
 use Rattle.pool_simulation.proofs.PoolObjects.{pool_there}
 use Rattle.pool_simulation.proofs.PlannedCode.{owner_alike, each_plan, no_edge_acts}
+use Rattle.pool_simulation.proofs.NarrowWords.{narrow}
+use Rattle.pool_simulation.proofs.CallPoints.{callers_long}
 use Rattle.pool_simulation.proofs.OnePoolServes.{one_mixed}
 use Rattle.pool_simulation.proofs.OnlyPool.{placed_made, freed_made}
 use Rattle.pool_simulation.proofs.Actions.{made_goes, destroyed_goes}
@@ -77,6 +79,21 @@ module _ (tac : Tac) where
       by (Some own) known e =
           let same : function ≡ function_of tac (plan_for (own_pools tac) (InFunction number)) own = cc in
           ap (λ (f : C.Function). f.entering) same ∙ own_entering (Some own) known own refl
+
+  -- each function takes the one pool
+  takes_one : (number : ℕ) (function : C.Function) → slice_get (code_of tac (own_pools tac)).functions number ≡ Some function → function.taken ≡ 1
+  takes_one number function is = by (slice_get tac.functions number) refl (sym is ∙ owner_alike tac (own_pools tac) planned (InFunction number))
+    where
+      own_taken : (found : Option Function) → slice_get tac.functions number ≡ found → (own : Function) → found ≡ Some own → (plan_for (own_pools tac) (InFunction number)).taken ≡ 1
+      own_taken found is own same =
+          ap (λ (plan : Option FunctionPlan). (unwrap_or plan one_pool_start).taken) (slice_get-map own_pools_function tac.functions number ∙ ap (option_map own_pools_function) (is ∙ same))
+
+      by : (found : Option Function) → slice_get tac.functions number ≡ found
+          → Some function ≡ option_map (λ (own : Function). function_of tac (plan_for (own_pools tac) (InFunction number)) own) found → function.taken ≡ 1
+      by None known e = absurd (cc)
+      by (Some own) known e =
+          let same : function ≡ function_of tac (plan_for (own_pools tac) (InFunction number)) own = cc in
+          ap (λ (f : C.Function). f.taken) same ∙ own_taken (Some own) known own refl
 
 -- ---- pools that live on
 
@@ -185,7 +202,11 @@ one_more p kind = length-append p.pools (Some (new_pool kind) ∷ []) ∙ omega 
 
 -- ---- steps
 
-module _ (tac : Tac) (slabs : ℕ) (state : T.State) (machine : P.State) (step : InStep tac (own_pools tac) slabs state machine) (knows : KnowsOwnPools state machine) where
+-- as many pools as before
+pools_long : (machine later : P.State) → SamePools machine later → length later.pools.pools ≡ length machine.pools.pools
+pools_long machine later same = ap (λ (pools : Pools). length pools.pools) same.pools
+
+module _ (tac : Tac) (few : CallsFew tac) (slabs : ℕ) (state : T.State) (machine : P.State) (step : InStep tac (own_pools tac) slabs state machine) (knows : KnowsOwnPools tac state machine) where
   holds : HoldsOwn machine.pools (suc (length machine.pools.pools)) machine.running.owner machine.running.descriptors
   holds = first_holds machine.pools (suc (length machine.pools.pools)) machine.running machine.callers knows.hold
 
@@ -221,6 +242,8 @@ module _ (tac : Tac) (slabs : ℕ) (state : T.State) (machine : P.State) (step :
     frees = λ site pointer number at held there. subst (LiesIn machine number) (sym (is_one site)) (knows.lie number there);
     frees_null = λ site pointer at held. kind_lives machine.pools (pool_for (own_pools tac) state machine site) Mixed (first_kind site);
     leaves = λ value at. can_leave machine.running.owner refl;
+    passes = λ site number callee arguments function at called is.
+        ap (λ (passes : List ℕ). length passes) (passes_first tac state.running.owner site) ∙ sym (takes_one tac number function is);
     crosses = λ at between later is in_step effect.
         subst (λ (actions : List Action). CanAct (code_of tac (own_pools tac)) between actions later) (sym (no_actions tac later.running.owner later.running.at at)) tt;
     enters = λ site number callee arguments function words next at is found in_step.
@@ -298,6 +321,74 @@ module _ (tac : Tac) (slabs : ℕ) (state : T.State) (machine : P.State) (step :
   effect_held later (caller_runs value site caller callers left _ at acted waits same) =
       same_held (record left { running = caller; callers = callers }) later same (left_held machine.running.owner refl site caller callers left acted waits)
 
+  -- a call makes one more
+  called_more : (site number : ℕ) (function : C.Function) (words : List ℕ) (next : T.State)
+      → InStep tac (own_pools tac) slabs next (entered site number function words (passed_for (own_pools tac) state machine site) machine) → length next.callers ≡ suc (length state.callers)
+  called_more site number function words next in_step =
+      let first = entered site number function words (passed_for (own_pools tac) state machine site) machine in
+      sym (callers_long tac (own_pools tac) next (memory_in tac (own_pools tac) next first) next.callers first.callers in_step.callers)
+      ∙ ap suc (callers_long tac (own_pools tac) state (memory_in tac (own_pools tac) state machine) state.callers machine.callers step.callers)
+
+  left_made : (owner : Owner) (left : P.State) → P.acts (code_of tac (own_pools tac)) (M.leaving_of (P.function_of (code_of tac (own_pools tac)) owner)) machine To ≡ To left
+      → machine.running.owner ≡ owner → length left.pools.pools ≡ length machine.pools.pools
+  left_made InStart left acted is = ap (λ (m : P.State). length m.pools.pools) (sym (move_is machine left acted))
+    where
+      move_is : (first other : P.State) → To first ≡ To other → first ≡ other
+      move_is first other e = cc
+  left_made (InFunction number) left acted is =
+      let own = subst (λ (owner : Owner). HoldsOwn machine.pools (suc (length machine.pools.pools)) owner machine.running.descriptors) is holds in
+      let acts_as = λ (actions : List Action) (same : M.leaving_of (P.function_of (code_of tac (own_pools tac)) (InFunction number)) ≡ actions).
+      sym (ap (λ (actions : List Action). P.acts (code_of tac (own_pools tac)) actions machine To) same) ∙ acted in
+      elim (leaving tac number) [
+        | inl none ↦ ap (λ (m : P.State). length m.pools.pools) (sym (move_is machine left (acts_as [] none)))
+        | inr one ↦ ap (λ (m : P.State). length m.pools.pools) (sym (move_is (pool_destroyed (machine.running.descriptors 1) machine) left
+            (sym (destroyed_goes tac (own_pools tac) 1 [] machine To own.3) ∙ acts_as (Destroy 1 ∷ []) one))) ∙ destroyed_made machine.pools (machine.running.descriptors 1)
+      ]
+    where
+      move_is : (first other : P.State) → To first ≡ To other → first ≡ other
+      move_is first other e = cc
+
+  effect_made : (later : P.State) → Effect tac (own_pools tac) state machine later → length later.pools.pools ≡ length machine.pools.pools
+  effect_made later (nothing _ same) = pools_long machine later same
+  effect_made later (word_stored address size word stored _ is same) = pools_long stored later same ∙ (wrote machine address size word stored is).same.made
+  effect_made later (object_placed site size bytes address pools _ at some fits is same) =
+      pools_long (record machine { pools = pools; placed = address ∷ machine.placed }) later same ∙ placed_made machine.pools pools (pool_for (own_pools tac) state machine site) bytes address is
+  effect_made later (object_freed site pointer number address pools _ at pointed start is same) =
+      pools_long (record machine { pools = pools }) later same ∙ freed_made machine.pools pools (pool_for (own_pools tac) state machine site) address is
+  effect_made later (caller_runs value site caller callers left _ at acted waits same) =
+      pools_long (record left { running = caller; callers = callers }) later same ∙ left_made machine.running.owner left acted refl
+
+  -- how many calls there were, and pools
+  step_made : (next : T.State) (later : P.State) → act tac state ≡ To next → PoolStep tac (own_pools tac) slabs state machine later
+      → (calls : ℕ) × ReachedBy tac calls next × (length later.pools.pools ≡ suc calls)
+  step_made next later own (cost_paid _ same) = (knows.calls, goes knows.calls state next knows.reached own, pools_long machine later same ∙ knows.made)
+  step_made next later own (point_left at between reached after _ is in_step effect can acted arrived) =
+      let none = no_actions tac reached.running.owner reached.running.at at in
+      let same = move_is reached after (sym (ap (λ (actions : List Action). P.acts (code_of tac (own_pools tac)) actions reached To) none) ∙ acted) in (
+        knows.calls,
+        goes knows.calls state next knows.reached own,
+        ap (λ (m : P.State). length m.pools.pools) (sym (move_is _ later arrived)) ∙ ap (λ (m : P.State). length m.pools.pools) (sym same) ∙ effect_made reached effect ∙ knows.made,
+      )
+    where
+      move_is : (first other : P.State) → To first ≡ To other → first ≡ other
+      move_is first other e = cc
+  step_made next later own (function_entered site number callee arguments function words after _ at is found in_step can acted) =
+      let first = entered site number function words (passed_for (own_pools tac) state machine site) machine in
+      let now = pool_made 1 0 Mixed first in
+      let done : P.acts (code_of tac (own_pools tac)) (Make 1 0 ∷ []) first To ≡ To later =
+      sym (ap (λ (actions : List Action). P.acts (code_of tac (own_pools tac)) actions first To) (entering tac number function found)) ∙ acted in
+      let one : after ≡ next = states_are after next (sym is ∙ own) in (
+        suc knows.calls,
+        enters knows.calls state next knows.reached own (subst (λ (s : T.State). length s.callers ≡ suc (length state.callers)) one (called_more site number function words after in_step)),
+        ap (λ (m : P.State). length m.pools.pools) (sym (move_is now later (sym (made_goes tac (own_pools tac) 1 0 Mixed [] first To refl) ∙ done))) ∙ one_more machine.pools Mixed ∙ ap suc knows.made,
+      )
+    where
+      move_is : (first other : P.State) → To first ≡ To other → first ≡ other
+      move_is first other e = cc
+
+      states_are : (first other : T.State) → To first ≡ To other → first ≡ other
+      states_are first other e = cc
+
   step_held : (later : P.State) → PoolStep tac (own_pools tac) slabs state machine later → Held later.pools later.running later.callers
   step_held later (cost_paid _ same) = same_held machine later same held
   step_held later (point_left at between reached after _ is in_step effect can acted arrived) =
@@ -321,18 +412,23 @@ module _ (tac : Tac) (slabs : ℕ) (state : T.State) (machine : P.State) (step :
       ap (λ (passes : List ℕ). M.descriptors_from (map (M.pool_of machine) passes) 0) (passes_first tac state.running.owner site)
       ∙ zero_is_one machine.pools (suc (length machine.pools.pools)) machine.running.owner machine.running.descriptors holds in
       let below = all_hold_on machine.pools (init_step machine.pools Mixed) pool pool machine.running machine.callers (omega arith) (λ id low lives. made_lives machine.pools Mixed id lives) knows.hold in
+      let most = few (suc knows.calls) next (enters knows.calls state next knows.reached is (called_more site number function words next in_step)) in
+      let word : pool % 2 ^ 64 ≡ pool = narrow pool (omega (arith, most, knows.made)) in
       subst (λ (m : P.State). Held m.pools m.running m.callers) (move_is now later (sym (made_goes tac (own_pools tac) 1 0 Mixed [] first To refl) ∙ done)) (
         made_kind machine.pools Mixed 1 Mixed knows.one,
-        ((first_held, omega (arith, one_was_made machine.pools Mixed knows.one), omega (arith, more), kind_lives (init_step machine.pools Mixed) pool Mixed (new_kind machine.pools Mixed)), below),
+        subst (λ (own : ℕ). ((M.descriptors_from (passed_for (own_pools tac) state machine site) 0 ≡ 1) × (1 < own) × (own < suc (length (init_step machine.pools Mixed).pools))
+            × (lives_of (init_step machine.pools Mixed) own ≡ true)) × AllHoldOwn (init_step machine.pools Mixed) own machine.running machine.callers) (sym word)
+            ((first_held, omega (arith, one_was_made machine.pools Mixed knows.one), omega (arith, more), kind_lives (init_step machine.pools Mixed) pool Mixed (new_kind machine.pools Mixed)), below),
       )
     where
       move_is : (first other : P.State) → To first ≡ To other → first ≡ other
       move_is first other e = cc
 
-  own_kept : (next : T.State) (later : P.State) → act tac state ≡ To next → PoolStep tac (own_pools tac) slabs state machine later → InStep tac (own_pools tac) slabs next later → KnowsOwnPools next later
+  own_kept : (next : T.State) (later : P.State) → act tac state ≡ To next → PoolStep tac (own_pools tac) slabs state machine later → InStep tac (own_pools tac) slabs next later → KnowsOwnPools tac next later
   own_kept next later own does_pools in_step =
       let after = step_held later does_pools in
-      record { one = after.0; lie = λ number there. by number (lies_after tac (own_pools tac) slabs one_mixed state machine step own_serving next later own does_pools in_step number there); hold = after.1 }
+      let made = step_made next later own does_pools in
+      record { calls = made.0; reached = made.1; made = made.2; one = after.0; lie = λ number there. by number (lies_after tac (own_pools tac) slabs one_mixed state machine step own_serving next later own does_pools in_step number there); hold = after.1 }
     where
       by : (number : ℕ) → LiesAfter tac (own_pools tac) state machine later number → LiesIn later number 1
       by number (lay was stays) = stays 1 (knows.lie number was)
@@ -350,20 +446,20 @@ first_machine tac slabs index input =
     }
 
 own_first : (tac : Tac) (slabs index : ℕ) (input : List ℕ) (machine : P.State)
-    → M.from_start (code_of tac (own_pools tac)) (M.initial (code_of tac (own_pools tac)) slabs index input) ≡ To machine → KnowsOwnPools (initial tac input) machine
+    → M.from_start (code_of tac (own_pools tac)) (M.initial (code_of tac (own_pools tac)) slabs index input) ≡ To machine → KnowsOwnPools tac (initial tac input) machine
 own_first tac slabs index input machine begins =
     let both : To (first_machine tac slabs index input) ≡ To machine = begins in
     let same : first_machine tac slabs index input ≡ machine = cc in
-    subst (KnowsOwnPools (initial tac input)) same (record { one = refl; lie = λ number there. absurd (false≢true there); hold = refl })
+    subst (KnowsOwnPools tac (initial tac input)) same (record { calls = 0; reached = at_first input; made = refl; one = refl; lie = λ number there. absurd (false≢true there); hold = refl })
 
-pub own_pools_serve : (tac : Tac) → Fits tac (own_pools tac) → (slabs : ℕ) → Serves tac (own_pools tac) slabs
-own_pools_serve tac fits slabs = record {
-  Knows = KnowsOwnPools;
+pub own_pools_serve : (tac : Tac) → Fits tac (own_pools tac) → CallsFew tac → (slabs : ℕ) → Serves tac (own_pools tac) slabs
+own_pools_serve tac fits few slabs = record {
+  Knows = KnowsOwnPools tac;
   fits = fits;
   planned = planned tac;
   kinds = one_mixed;
   starts = λ index input. (Mixed, refl, tt);
   first = λ index input machine begins in_step. own_first tac slabs index input machine begins;
-  serving = λ state machine step knows. own_serving tac slabs state machine step knows;
-  kept = λ state next machine later step knows own does_pools in_step. own_kept tac slabs state machine step knows next later own does_pools in_step;
+  serving = λ state machine step knows. own_serving tac few slabs state machine step knows;
+  kept = λ state next machine later step knows own does_pools in_step. own_kept tac few slabs state machine step knows next later own does_pools in_step;
 }

@@ -1,6 +1,8 @@
 -- The functions of the code with pools, by their numbers and by their signatures.
-use Rattle.std.proofs.Common.{◌≡◌, ℕ, ◌==◌, true, if◌then◌else◌, List, length, Some, None, refl, ap, eq-eqb}
+use Rattle.std.proofs.Common.{◌≡◌, ℕ, ◌==◌, true, if◌then◌else◌, List, length, Some, None, ap, eq-eqb}
 use Rattle.std.specs.Prelude.{slice_get, nat_lt}
+use Rattle.std.proofs.lemmas.Bool.{and_from}
+use Rattle.run_theory.specs.declared.ends.TrapKind.TheVariants as traps
 use Rattle.run_theory.specs.Runs.{DepthReached, Halt}
 use Rattle.c_typed.specs.Types.{CType, same_type}
 use Rattle.c_typed.proofs.Same.{same_type-true}
@@ -22,5 +24,8 @@ of_signature_is code signature number function is same = rw is (ap (λ b. if b t
 
 -- what a call comes to
 pub call_is : (code : PoolCode) (site number : ℕ) (function : C.Function) (words pools : List ℕ) (machine : P.State) → slice_get code.functions number ≡ Some function
+    → length words ≡ function.frame.parameters → length pools ≡ function.taken
     → M.call code site (Some number) words pools machine ≡ (if nat_lt (length machine.callers) greatest_depth then M.enter code site number function words pools machine else Halt DepthReached machine)
-call_is code site number function words pools machine is = rw is refl
+call_is code site number function words pools machine is arguments taken =
+    rw is (ap (λ b. if b then (if nat_lt (length machine.callers) greatest_depth then M.enter code site number function words pools machine else Halt DepthReached machine) else P.trap traps.BadCall machine)
+    (and_from (length words == function.frame.parameters) (length pools == function.taken) (eq-eqb (length words) function.frame.parameters arguments) (eq-eqb (length pools) function.taken taken)))

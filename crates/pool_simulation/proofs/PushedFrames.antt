@@ -76,7 +76,7 @@ module _ (state later : P.State) (site : ℕ) (waiting : later.callers ≡ (site
       number_is later address width ∙ (λ i. number_by (frames i) (globals i) (pools i) address width) ∙ sym (number_is state address width) ∙ e
 
 -- the running frame popped: a range that begins outside of it reads as before
-module _ (state later : P.State) (site : ℕ) (caller : P.Activation) (waiting : state.callers ≡ (site, caller) ∷ later.callers) (start : later.running.start ≡ caller.start) (bytes : later.running.bytes ≡ caller.bytes)
+module _ (state later : P.State) (site : ℕ) (caller : P.Activation) (waiting : state.callers ≡ (site, caller) ∷ later.callers) (start : later.running.start ≡ caller.start) (kept : later.running.kept ≡ caller.kept) (bytes : later.running.bytes ≡ caller.bytes)
     (globals : later.globals ≡ state.globals) (pools : later.pools ≡ state.pools) where
   pub popped_number : (address width : ℕ) → (address < state.running.start) ⊎ (frame_end state.running ≤ address) → 1 ≤ width → number_at later address width ≡ number_at state address width
   popped_number address width apart some =
@@ -90,10 +90,10 @@ module _ (state later : P.State) (site : ℕ) (caller : P.Activation) (waiting :
       outside (inr behind) = not_behind state.running address width (omega (arith, behind, some))
 
       same_first : frame_number (activations_of later) address width ≡ frame_number (caller ∷ map (λ (waiting : ℕ × P.Activation). waiting.1) later.callers) address width
-      same_first = (λ i. frame_by (start i) (bytes i))
+      same_first = (λ i. frame_by (start i) (kept i) (bytes i))
         where
-          frame_by : ℕ → List ℕ → Option ℕ
-          frame_by at held = frame_number (record later.running { start = at; bytes = held } ∷ map (λ (waiting : ℕ × P.Activation). waiting.1) later.callers) address width
+          frame_by : ℕ → ℕ → List ℕ → Option ℕ
+          frame_by at words held = frame_number (record later.running { start = at; kept = words; bytes = held } ∷ map (λ (waiting : ℕ × P.Activation). waiting.1) later.callers) address width
 
 -- ---- frames of activations
 

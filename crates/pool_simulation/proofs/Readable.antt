@@ -14,6 +14,7 @@ use Rattle.tac_ir.specs.Calls.{greatest_depth}
 use Rattle.tac_ir.specs.Events.{Entered, Left}
 use Rattle.tac_ir.specs.States.{InFunction}
 use Rattle.pool_ir.specs.Code.{Function, PoolCode}
+use Rattle.pool_ir.specs.Frames.{objects_start}
 use Rattle.pool_ir.specs.Words.{with_word}
 use Rattle.pool_ir.specs.States.{Activation, State, Same}
 use Rattle.pool_ir.specs.Memory.{covers, frame_number, activations_of, number_at}
@@ -57,14 +58,14 @@ unfolding greatest_depth
 call_room running callers size stacked small others depth fits =
     let below = stack_room (2 ^ 30) running callers stacked small others in omega (arith, below, depth, fits)
 
-first_frame : (first : Activation) (others : List Activation) (address size : ℕ) → first.start ≤ address → address + size ≤ frame_end first → frame_number (first ∷ others) address size ≡ Some (word_at first.bytes (address - first.start) size)
+first_frame : (first : Activation) (others : List Activation) (address size : ℕ) → first.start + first.kept ≤ address → address + size ≤ frame_end first → frame_number (first ∷ others) address size ≡ Some (word_at first.bytes (address - first.start) size)
 first_frame first others address size low high =
     ap (λ b. if b then Some (word_at first.bytes (address - first.start) size) else frame_number others address size) (covers_from first address size low high)
 
 not_first : (first : Activation) (others : List Activation) (address size : ℕ) → covers first address size ≡ false → frame_number (first ∷ others) address size ≡ frame_number others address size
 not_first first others address size outside = ap (λ b. if b then Some (word_at first.bytes (address - first.start) size) else frame_number others address size) outside
 
-waiting_frame : (running : Activation) (callers : List (ℕ × Activation)) (site : ℕ) (caller : Activation) (address size : ℕ) → Stacked running callers → IsIn (site, caller) callers → caller.start ≤ address → address + size ≤ frame_end caller → 1 ≤ size
+waiting_frame : (running : Activation) (callers : List (ℕ × Activation)) (site : ℕ) (caller : Activation) (address size : ℕ) → Stacked running callers → IsIn (site, caller) callers → caller.start + caller.kept ≤ address → address + size ≤ frame_end caller → 1 ≤ size
     → frame_number (frames_from running callers) address size ≡ Some (word_at caller.bytes (address - caller.start) size)
 waiting_frame running [] site caller address size stacked is low high some = absurd is
 waiting_frame running ((next_site, next) ∷ callers) site caller address size stacked is low high some =
@@ -87,11 +88,11 @@ by_frames state address size number e = number_is state address size ∙ ap (λ 
 behind_frames : (state : State) (address size : ℕ) → frame_number (activations_of state) address size ≡ None → number_at state address size ≡ number_by None state.globals state.pools address size
 behind_frames state address size e = number_is state address size ∙ ap (λ f. number_by f state.globals state.pools address size) e
 
-pub running_reads : (state : State) (address size : ℕ) → state.running.start ≤ address → address + size ≤ frame_end state.running → number_at state address size ≡ Some (word_at state.running.bytes (address - state.running.start) size)
+pub running_reads : (state : State) (address size : ℕ) → state.running.start + state.running.kept ≤ address → address + size ≤ frame_end state.running → number_at state address size ≡ Some (word_at state.running.bytes (address - state.running.start) size)
 running_reads state address size low high =
     by_frames state address size (word_at state.running.bytes (address - state.running.start) size) (first_frame state.running (map (λ (waiting : ℕ × Activation). waiting.1) state.callers) address size low high)
 
-pub caller_reads : (state : State) (site : ℕ) (caller : Activation) (address size : ℕ) → Regions state → IsIn (site, caller) state.callers → caller.start ≤ address → address + size ≤ frame_end caller → 1 ≤ size
+pub caller_reads : (state : State) (site : ℕ) (caller : Activation) (address size : ℕ) → Regions state → IsIn (site, caller) state.callers → caller.start + caller.kept ≤ address → address + size ≤ frame_end caller → 1 ≤ size
     → number_at state address size ≡ Some (word_at caller.bytes (address - caller.start) size)
 caller_reads state site caller address size regions is low high some =
     by_frames state address size (word_at caller.bytes (address - caller.start) size) (waiting_frame state.running state.callers site caller address size regions.frames is low high some)
@@ -136,9 +137,9 @@ readable_where state address size number regions e =
 
 -- ---- states with the same frames
 
-same_first : (later first : Activation) (others : List Activation) (address size : ℕ) → later.start ≡ first.start → later.bytes ≡ first.bytes → frame_number (later ∷ others) address size ≡ frame_number (first ∷ others) address size
-same_first later first others address size start bytes =
-    (λ i. if nat_le (start i) address && nat_le (address + size) (start i + length (bytes i)) then Some (word_at (bytes i) (address - start i) size) else frame_number others address size)
+same_first : (later first : Activation) (others : List Activation) (address size : ℕ) → later.start ≡ first.start → later.kept ≡ first.kept → later.bytes ≡ first.bytes → frame_number (later ∷ others) address size ≡ frame_number (first ∷ others) address size
+same_first later first others address size start kept bytes =
+    (λ i. if nat_le (start i + kept i) address && nat_le (address + size) (start i + length (bytes i)) then Some (word_at (bytes i) (address - start i) size) else frame_number others address size)
 
 stacked_start : (later running : Activation) (callers : List (ℕ × Activation)) → later.start ≡ running.start → Stacked running callers → Stacked later callers
 stacked_start later running [] start stacked = start ∙ stacked
@@ -146,7 +147,7 @@ stacked_start later running ((site, caller) ∷ callers) start stacked = (start 
 
 frames_same : (state later : State) (address size : ℕ) → SameFrames state later → frame_number (activations_of later) address size ≡ frame_number (activations_of state) address size
 frames_same state later address size same =
-    same_first later.running state.running (map (λ (waiting : ℕ × Activation). waiting.1) later.callers) address size same.start same.bytes
+    same_first later.running state.running (map (λ (waiting : ℕ × Activation). waiting.1) later.callers) address size same.start same.kept same.bytes
     ∙ ap (λ (cs : List (ℕ × Activation)). frame_number (frames_from state.running cs) address size) same.callers
 
 pub same_number : (state later : State) (address size : ℕ) → SameFrames state later → later.pools ≡ state.pools → number_at later address size ≡ number_at state address size
@@ -205,7 +206,7 @@ module _ (state later : State) (site size : ℕ) (enters : EntersFrame state lat
       by (inr behind) = inr (omega (arith, behind, room))
 
   -- what is in the new frame reads as 0
-  pub entered_zero : (address width : ℕ) → next_start state.running ≤ address → address + width ≤ next_start state.running + size → number_at later address width ≡ Some 0
+  pub entered_zero : (address width : ℕ) → next_start state.running + later.running.kept ≤ address → address + width ≤ next_start state.running + size → number_at later address width ≡ Some 0
   entered_zero address width low high =
       running_reads later address width (omega (arith, enters.start, low)) (omega (arith, enters.start, long, high))
       ∙ ap (λ (bs : List ℕ). Some (word_at bs (address - later.running.start) width)) enters.bytes ∙ ap Some (zeros_read size (address - later.running.start) width)
@@ -232,7 +233,7 @@ module _ (state later : State) (site : ℕ) (caller : Activation) (leaves : Leav
       let outside = within_by address width (covers state.running address width) refl apart some in
       let was = not_first state.running (map (λ (waiting : ℕ × Activation). waiting.1) state.callers) address width outside
       ∙ ap (λ (cs : List (ℕ × Activation)). frame_number (map (λ (waiting : ℕ × Activation). waiting.1) cs) address width) leaves.waiting in
-      let frames = same_first later.running caller (map (λ (waiting : ℕ × Activation). waiting.1) later.callers) address width leaves.start leaves.bytes ∙ sym was in
+      let frames = same_first later.running caller (map (λ (waiting : ℕ × Activation). waiting.1) later.callers) address width leaves.start leaves.kept leaves.bytes ∙ sym was in
       let globals = leaves.globals in let pools = leaves.pools in
       number_is later address width ∙ (λ i. number_by (frames i) (globals i) (pools i) address width) ∙ sym (number_is state address width)
 
@@ -251,7 +252,7 @@ module _ (state later : State) (site : ℕ) (caller : Activation) (leaves : Leav
 -- a call, before the pools of the function are made
 pub call_enters : (site number : ℕ) (function : Function) (words pools : List ℕ) (state : State)
     → EntersFrame state (record state {
-      running = record { owner = InFunction number; words = parameters_from 0 words; descriptors = descriptors_from pools; start = next_start state.running; bytes = replicate function.frame.size 0; at = 0 };
+      running = record { owner = InFunction number; words = parameters_from 0 words; descriptors = descriptors_from pools; start = next_start state.running; kept = objects_start function.frame; bytes = replicate function.frame.size 0; at = 0 };
       callers = (site, state.running) ∷ state.callers;
       trace = state.trace ++ Same (Entered site number) ∷ [];
       paid = 0;
@@ -265,7 +266,7 @@ pub return_leaves : (site word : ℕ) (caller : Activation) (callers : List (ℕ
       callers = callers;
       trace = state.trace ++ Same Left ∷ [];
     }) site caller
-return_leaves site word caller callers state waiting = record { waiting = waiting; start = refl; bytes = refl; globals = refl; pools = refl }
+return_leaves site word caller callers state waiting = record { waiting = waiting; start = refl; kept = refl; bytes = refl; globals = refl; pools = refl }
 
 -- ---- at first
 

@@ -40,6 +40,7 @@ use Rattle.pool_rewrite.specs.Rewriting.{path_of}
 use Rattle.pool_rewrite.specs.Standing.{MemoryMap, PlaceStands, Stands}
 use Rattle.pool_simulation.specs.Placed.{KeepsOffsets, IsInside}
 use Rattle.pool_simulation.specs.InStep.{frame_for, address_in, memory_in, IsOld, IsOwned, InStep}
+use Rattle.pool_simulation.proofs.NarrowWords.{narrow_stands}
 use Rattle.pool_simulation.proofs.WordValues.{word_of-value, word-of_byte}
 use Rattle.pool_simulation.proofs.TreeWords.{tree_word, tree_stands, byte_stands}
 use Rattle.pool_simulation.proofs.PathWords.{path_leads}
@@ -150,7 +151,9 @@ module _ (tac : Tac) (plan : Plan) (slabs : ℕ) (state : T.State) (machine : P.
 
   writes : (to : Register) (value : Value) (word : ℕ) → Stands state.objects memory value word → IsInside tac.structs state.objects value → IsOld state value
       → Does tac plan slabs state machine (T.write to value state) (P.write (code_of tac plan) to word machine)
-  writes = write_does tac plan slabs state machine state machine (no_effect tac plan state machine) ready.in_step
+  writes to value word stands inside =
+      write_does tac plan slabs state machine state machine (no_effect tac plan state machine) ready.in_step to value word
+      (narrow_stands tac.structs state.objects memory keeps ready.placed value word stands inside) inside
 
   pub assign_does : (to : Register) (tree : Tree) → PointDoes tac plan slabs state machine (O.Assign to tree)
   assign_does to tree =
@@ -258,7 +261,7 @@ module _ (tac : Tac) (plan : Plan) (slabs : ℕ) (state : T.State) (machine : P.
       write_does tac plan slabs state machine (record state { input = after_next state.input }) (record machine { input = after_next machine.input })
       (nothing _ (record { owner = refl; descriptors = refl; at = refl; callers = refl; pools = refl; placed = refl }))
       (takes_in_step tac plan slabs state machine ready.in_step (after_next state.input) (after_next machine.input) (ap after_next same)) (Registers.Call site) (Number (next_char state.input)) (input_word machine.input)
-      (ap input_word same ∙ char_stands state.objects memory state.input) tt tt
+      (narrow_stands tac.structs state.objects memory keeps ready.placed (Number (next_char state.input)) (input_word machine.input) (ap input_word same ∙ char_stands state.objects memory state.input) tt) tt tt
 
   pub put_char_does : (site : ℕ) (tree : Tree) → PointDoes tac plan slabs state machine (O.PutChar site tree)
   put_char_does site tree =
@@ -269,4 +272,5 @@ module _ (tac : Tac) (plan : Plan) (slabs : ℕ) (state : T.State) (machine : P.
       write_does tac plan slabs state machine (T.emit (Wrote (bits_of I.UChar z) ∷ []) state) (P.emit (Same (Wrote byte) ∷ []) machine)
       (nothing _ (record { owner = refl; descriptors = refl; at = refl; callers = refl; pools = refl; placed = refl }))
       (emits_in_step tac plan slabs state machine ready.in_step (Wrote (bits_of I.UChar z) ∷ []) (Same (Wrote byte) ∷ []) (ap (λ b. Wrote b ∷ []) written) refl)
-      (Registers.Call site) (Number (pos (bits_of I.UChar z))) byte (written ∙ sym (word-of_byte z) ∙ sym (word_of-value (pos (bits_of I.UChar z)))) tt tt)
+      (Registers.Call site) (Number (pos (bits_of I.UChar z))) byte
+      (narrow_stands tac.structs state.objects memory keeps ready.placed (Number (pos (bits_of I.UChar z))) byte (written ∙ sym (word-of_byte z) ∙ sym (word_of-value (pos (bits_of I.UChar z)))) tt) tt tt)

@@ -1,5 +1,5 @@
 -- A point at which a pointer is converted: the word stays, while an allocation may get a type; it holds nothing yet then.
-use Rattle.std.proofs.Common.{◌≡◌, ℕ, zero, suc, ◌/◌, ◌%◌, ◌≤◌, ◌⊎◌, inl, inr, ◌==◌, Bool, true, false, if◌then◌else◌, List, length, Option, Some, None, refl, sym, ap, subst, ◌∙◌}
+use Rattle.std.proofs.Common.{◌≡◌, ℕ, zero, suc, ◌/◌, ◌%◌, ◌^◌, ◌≤◌, ◌⊎◌, inl, inr, ◌==◌, Bool, true, false, if◌then◌else◌, List, length, Option, Some, None, refl, sym, ap, subst, ◌∙◌}
 use Rattle.std.specs.Prelude.{slice_get, option_map}
 use Rattle.c_typed.specs.Types.{CType, literal_type}
 use Rattle.c_typed.specs.Layouts.{StructDef}
@@ -24,6 +24,7 @@ use Rattle.pool_simulation.proofs.LastingWords.{typed_lasts, lasts_typed, stands
 use Rattle.pool_simulation.specs.Serving.{code_of}
 use Rattle.pool_simulation.proofs.Stepping.{Ready, Does, PointDoes}
 use Rattle.pool_simulation.proofs.PlannedCode.{does_given}
+use Rattle.pool_simulation.proofs.NarrowWords.{narrow_stands}
 use Rattle.pool_simulation.proofs.InStepWords.{StillStands, activation_still, callers_still, same_memory, no_effect, write_does}
 use Rattle.pool_simulation.proofs.RegisterPoints.{does_looked}
 
@@ -190,12 +191,15 @@ module _ (tac : Tac) (plan : Plan) (slabs : ℕ) (state : T.State) (machine : P.
   repoint_by to target word (Address object offset) stands inside old =
       does_given tac plan slabs machine (typed_content here target (state.objects object)) state (λ content. T.write to (Address object offset) (store_content object content state)) (P.write (code_of tac plan) to word machine) (λ content e.
       write_does tac plan slabs state machine (store_content object content state) machine (no_effect tac plan state machine) (retyped_in_step tac plan slabs state machine ready.in_step target object content e) to (Address object offset) word
-      (retyped_stands tac plan slabs state machine ready.in_step target object content e (Address object offset) word stands)
+      (retyped_stands tac plan slabs state machine ready.in_step target object content e (Address object offset) (word % 2 ^ 64) (narrow_stands tac.structs state.objects (memory_in tac plan state machine) (λ other at. refl) ready.placed (Address object offset) word stands inside))
       (inside_lasts tac.structs state.objects (with_content object content state.objects) (retyped_lasts tac plan slabs state machine ready.in_step target object content e) (Address object offset) inside)
       (stays_old tac plan slabs state machine ready.in_step target object content e (Address object offset) old))
-  repoint_by to target word (Number z) stands inside old = write_does tac plan slabs state machine state machine (no_effect tac plan state machine) ready.in_step to (Number z) word stands inside old
-  repoint_by to target word NoAddress stands inside old = write_does tac plan slabs state machine state machine (no_effect tac plan state machine) ready.in_step to NoAddress word stands inside old
-  repoint_by to target word (Code function) stands inside old = write_does tac plan slabs state machine state machine (no_effect tac plan state machine) ready.in_step to (Code function) word stands inside old
+  repoint_by to target word (Number z) stands inside old = write_does tac plan slabs state machine state machine (no_effect tac plan state machine) ready.in_step to (Number z) word
+      (narrow_stands tac.structs state.objects (memory_in tac plan state machine) (λ object offset. refl) ready.placed (Number z) word stands inside) inside old
+  repoint_by to target word NoAddress stands inside old = write_does tac plan slabs state machine state machine (no_effect tac plan state machine) ready.in_step to NoAddress word
+      (narrow_stands tac.structs state.objects (memory_in tac plan state machine) (λ object offset. refl) ready.placed NoAddress word stands inside) inside old
+  repoint_by to target word (Code function) stands inside old = write_does tac plan slabs state machine state machine (no_effect tac plan state machine) ready.in_step to (Code function) word
+      (narrow_stands tac.structs state.objects (memory_in tac plan state machine) (λ object offset. refl) ready.placed (Code function) word stands inside) inside old
 
   pub repoint_does : (to : Register) (target : CType) (from : Register) → PointDoes tac plan slabs state machine (O.Repoint to target from)
   repoint_does to target from =

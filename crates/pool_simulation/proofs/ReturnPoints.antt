@@ -1,5 +1,5 @@
 -- A return: both sides go on behind the call, with the value in its register, and without the objects and the frame of what ended.
-use Rattle.std.proofs.Common.{◌≡◌, ℕ, zero, suc, ◌+◌, ◌<◌, ◌≤◌, inl, inr, ◌==◌, Bool, true, false, if◌then◌else◌, List, [], ◌∷◌, ◌++◌, map, Option, Some, None, ℤ, refl, sym, ap, subst, ◌∙◌, arith, eq-eqb, ne_eqb}
+use Rattle.std.proofs.Common.{◌≡◌, ℕ, zero, suc, ◌+◌, ◌%◌, ◌^◌, ◌<◌, ◌≤◌, inl, inr, ◌==◌, Bool, true, false, if◌then◌else◌, List, [], ◌∷◌, ◌++◌, map, Option, Some, None, ℤ, refl, sym, ap, subst, ◌∙◌, arith, eq-eqb, ne_eqb}
 use Rattle.std.proofs.lemmas.Bool.{false≢true, true≢false}
 use Rattle.std.proofs.lemmas.Option.{same_Some}
 use Rattle.run_theory.specs.Runs.{To}
@@ -34,6 +34,7 @@ use Rattle.pool_simulation.specs.Serving.{code_of, StandsAt, actions_leaving, ca
 use Rattle.pool_simulation.proofs.Stepping.{Ready, Does, wrong, PointDoes}
 use Rattle.pool_simulation.proofs.TreeWords.{operand_stands}
 use Rattle.pool_simulation.proofs.FrameRanges.{next_behind}
+use Rattle.pool_simulation.proofs.NarrowWords.{narrow_stands}
 use Rattle.pool_simulation.proofs.PushedFrames.{popped_number, frames_low, pushed_local, stays_apart}
 use Rattle.pool_simulation.proofs.StayingObjects.{Stays, PlaceStays, held_before, old_stays, stands_stays, inside_stays, activation_stays, callers_stay, content_stays}
 use Rattle.pool_simulation.proofs.PlannedCode.{does_given, same_more, made_more}
@@ -72,7 +73,7 @@ module _ (tac : Tac) (plan : Plan) (slabs : ℕ) (before : T.State) (machine_bef
   machine = record machine_before { callers = (own_site, own) ∷ others }
 
   module _ (fits : Fits tac plan) (stacked : IsStacked tac state) (step : InStep tac plan slabs state machine) (value : Option Value) (word : ℕ)
-      (stand : (given : Value) → value ≡ Some given → Stands state.objects (memory_in tac plan state machine) given word) (inside : (given : Value) → value ≡ Some given → IsInside tac.structs state.objects given)
+      (stand : (given : Value) → value ≡ Some given → Stands state.objects (memory_in tac plan state machine) given (word % 2 ^ 64)) (inside : (given : Value) → value ≡ Some given → IsInside tac.structs state.objects given)
       (old : (given : Value) → value ≡ Some given → IsOld state given) where
     abbrev next : T.State
     next = record before {
@@ -127,6 +128,7 @@ module _ (tac : Tac) (plan : Plan) (slabs : ℕ) (before : T.State) (machine_bef
     running = record {
       owner = waited.owner;
       at = waited.at;
+      kept = waited.kept;
       words = λ register held is. words_by register held (same_register (R.Call site) register) refl is;
       inside = λ register held is. inside_by register held (same_register (R.Call site) register) is;
       old = λ register held is. old_by register held (same_register (R.Call site) register) is;
@@ -137,11 +139,11 @@ module _ (tac : Tac) (plan : Plan) (slabs : ℕ) (before : T.State) (machine_bef
             → Stands next.objects (memory_in tac plan next later) held (with_word (R.Call own_site) word own.words register)
         words_by register held true same is =
             subst (λ w. Stands next.objects (memory_in tac plan next later) held w)
-            (sym (ap (λ b. if b then word else own.words register) (ap (λ n. same_register (R.Call n) register) step.callers.0 ∙ same)))
-            (stands_stays tac plan state next machine later place_stays same_heap same_made held word (old held is) (stand held is))
+            (sym (ap (λ b. if b then word % 2 ^ 64 else own.words register) (ap (λ n. same_register (R.Call n) register) step.callers.0 ∙ same)))
+            (stands_stays tac plan state next machine later place_stays same_heap same_made held (word % 2 ^ 64) (old held is) (stand held is))
         words_by register held false same is =
             subst (λ w. Stands next.objects (memory_in tac plan next later) held w)
-            (sym (ap (λ b. if b then word else own.words register) (ap (λ n. same_register (R.Call n) register) step.callers.0 ∙ same)))
+            (sym (ap (λ b. if b then word % 2 ^ 64 else own.words register) (ap (λ n. same_register (R.Call n) register) step.callers.0 ∙ same)))
             (waited.words register held is)
 
         inside_by : (register : Register) (held : Value) (b : Bool) → (if b then value else caller.registers register) ≡ Some held → IsInside tac.structs next.objects held
@@ -166,7 +168,7 @@ module _ (tac : Tac) (plan : Plan) (slabs : ℕ) (before : T.State) (machine_bef
     contents_reads : (object : V.Object) (address offset width number : ℕ) → is_there (next.objects object) ≡ true → address_in tac plan state machine object ≡ Some address → offset < extent_of tac.structs (state.objects object) → 1 ≤ width
         → number_at machine (address + offset) width ≡ Some number → number_at later (address + offset) width ≡ Some number
     contents_reads object address offset width number there is within some e =
-        popped_number machine later own_site own refl refl refl refl refl (address + offset) width (stays_apart tac plan slabs state machine stacked step object address offset there is within) some ∙ e
+        popped_number machine later own_site own refl refl refl refl refl refl (address + offset) width (stays_apart tac plan slabs state machine stacked step object address offset there is within) some ∙ e
 
     allocations : (number : ℕ) → is_there (next.objects (OfHeap number)) ≡ true → AllocationStands tac plan next later number
     allocations number there =
@@ -229,7 +231,7 @@ leaves_by : (tac : Tac) (plan : Plan) (slabs : ℕ) (operand : Option Operand) (
     → InStep tac plan slabs (record before { callers = callers }) (record machine_before { callers = others })
     → P.acts (code_of tac plan) (actions_leaving tac plan origin) origin To ≡ To (record machine_before { callers = others })
     → ((given : Value) → value ≡ Some given
-    → Stands before.objects (memory_in tac plan (record before { callers = callers }) (record machine_before { callers = others })) given word × IsInside tac.structs before.objects given × IsOld before given)
+    → Stands before.objects (memory_in tac plan (record before { callers = callers }) (record machine_before { callers = others })) given (word % 2 ^ 64) × IsInside tac.structs before.objects given × IsOld before given)
     → Does tac plan slabs (record before { callers = callers }) origin (K.leave value (record before { callers = callers })) (M.back (code_of tac plan) word (record machine_before { callers = others }))
 leaves_by tac plan slabs operand origin before machine_before value word [] others at fits stacked step acted good = wrong _ (record before { callers = [] }) _ tt
 leaves_by tac plan slabs operand origin before machine_before value word (waiting ∷ callers) [] at fits stacked step acted good = absurd step.callers
@@ -252,7 +254,7 @@ module _ (tac : Tac) (plan : Plan) (slabs : ℕ) (state : T.State) (machine : P.
       let alike = same_memory tac plan state state machine left (acted_addresses tac plan state machine acted.descriptors acted.pools acted.trace) (λ object. refl) in
       subst (Does tac plan slabs state machine (K.leave value state)) (sym (acted.goes (M.back (code_of tac plan) word)))
       (leaves_by tac plan slabs operand machine state left value word state.callers machine.callers at ready.fits ready.stacked acted.in_step (acted.goes To)
-      (λ given is. let one = good given is in (subst (λ memory. Stands state.objects memory given word) (sym alike) one.0, one.1, one.2)))
+      (λ given is. let one = good given is in (subst (λ memory. Stands state.objects memory given (word % 2 ^ 64)) (sym alike) (narrow_stands tac.structs state.objects (memory_in tac plan state machine) (λ object offset. refl) ready.placed given word one.0 one.1), one.1, one.2)))
 
   of_operand : (own : Operand) → Does tac plan slabs state machine (given (value_of state.running.registers own) state (λ value. K.leave (Some value) state))
       (M.leave (code_of tac plan) (operand_word machine.running.words own) machine)

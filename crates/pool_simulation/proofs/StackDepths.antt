@@ -12,6 +12,7 @@ use Rattle.tac_ir.specs.States.{Owner}
 use Rattle.tac_ir.specs.Code.{Function, Tac}
 use Rattle.tac_ir.proofs.Activations.{HasObjects, AreStacked}
 use Rattle.pool_ir.specs.Code.{FrameLayout}
+use Rattle.pool_ir.specs.Frames.{objects_start}
 use Rattle.pool_ir.specs.States.{Activation}
 use Rattle.pool_ir.specs.Memory.{frame_number}
 use Rattle.pool_rewrite.specs.Plan.{Plan}
@@ -52,7 +53,7 @@ deeper_before running ((site, caller) ∷ callers) zero (suc deeper) own other s
 deeper_before running ((site, caller) ∷ callers) (suc depth) (suc deeper) own other stacked is other_is lt =
     deeper_before caller callers depth deeper own other stacked.1 is other_is (omega (arith, lt))
 
-reads_first : (running : Activation) (others : List Activation) (own : Activation) (address size : ℕ) → running ≡ own → own.start ≤ address → address + size ≤ frame_end own
+reads_first : (running : Activation) (others : List Activation) (own : Activation) (address size : ℕ) → running ≡ own → own.start + own.kept ≤ address → address + size ≤ frame_end own
     → frame_number (running ∷ others) address size ≡ Some (word_at own.bytes (address - own.start) size)
 reads_first running others own address size same low high =
     subst (λ (a : Activation). frame_number (a ∷ others) address size ≡ Some (word_at own.bytes (address - own.start) size)) (sym same)
@@ -60,7 +61,7 @@ reads_first running others own address size same low high =
 
 -- a range of a byte or more within a frame is read there
 pub frame_reads : (running : Activation) (callers : List (ℕ × Activation)) (depth : ℕ) (own : Activation) (address size : ℕ) → Stacked running callers → slice_get (frames_from running callers) depth ≡ Some own
-    → own.start ≤ address → address + size ≤ frame_end own → 1 ≤ size → frame_number (frames_from running callers) address size ≡ Some (word_at own.bytes (address - own.start) size)
+    → own.start + own.kept ≤ address → address + size ≤ frame_end own → 1 ≤ size → frame_number (frames_from running callers) address size ≡ Some (word_at own.bytes (address - own.start) size)
 frame_reads running [] zero own address size stacked is low high some = reads_first running [] own address size (same_Some running own is) low high
 frame_reads running [] (suc depth) own address size stacked is low high some = absurd (none-some own is)
 frame_reads running ((site, caller) ∷ callers) zero own address size stacked is low high some = reads_first running (frames_from caller callers) own address size (same_Some running own is) low high
@@ -163,6 +164,18 @@ module _ (tac : Tac) (plan : Plan) (owner : Owner) where
       by (Some function) e typed =
           subst (λ (frame : FrameLayout). offset_of_local frame.objects local + size_of tac.structs inner.c_type ≤ frame.size) (sym (frame_is function e))
           (local_lies tac.structs (plan_for plan owner) function local inner typed).within
+
+  -- and behind the words there
+  pub local_behind : (local : Local) (inner : Inner) → own_type (T.objects_of (T.function_of tac owner)) local ≡ Some inner
+      → objects_start (frame_for tac plan owner) ≤ offset_of_local (frame_for tac plan owner).objects local
+  local_behind local inner typed = by (T.function_of tac owner) refl typed
+    where
+      by : (found : Option Function) → T.function_of tac owner ≡ found → own_type (T.objects_of found) local ≡ Some inner
+          → objects_start (frame_for tac plan owner) ≤ offset_of_local (frame_for tac plan owner).objects local
+      by None e typed = absurd (none-some inner typed)
+      by (Some function) e typed =
+          subst (λ (frame : FrameLayout). objects_start frame ≤ offset_of_local frame.objects local) (sym (frame_is function e))
+          (local_lies tac.structs (plan_for plan owner) function local inner typed).behind
 
   -- two locals of one frame lie apart
   pub frame_apart : (local other : Local) (inner other_inner : Inner) → own_type (T.objects_of (T.function_of tac owner)) local ≡ Some inner → own_type (T.objects_of (T.function_of tac owner)) other ≡ Some other_inner

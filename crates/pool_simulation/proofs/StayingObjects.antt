@@ -111,6 +111,7 @@ module _ (tac : Tac) (plan : Plan) (state next : T.State) (machine later : P.Sta
     activation_stays activation own stand = record {
       owner = stand.owner;
       at = stand.at;
+      kept = stand.kept;
       words = λ register value is. stands_stays value (own.words register) (stand.old register value is) (stand.words register value is);
       inside = λ register value is. inside_stays value (stand.old register value is) (stand.inside register value is);
       old = λ register value is. old_stays value (stand.old register value is);

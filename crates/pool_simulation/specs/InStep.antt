@@ -16,6 +16,7 @@ use Rattle.tac_ir.specs.States.{Owner, InStart, InFunction}
 use Rattle.tac_ir.specs.Code.{Function, Tac}
 use Rattle.pool_isa.specs.Machine.{globals_start, number_of}
 use Rattle.pool_ir.specs.Code.{FrameLayout}
+use Rattle.pool_ir.specs.Frames.{objects_start}
 use Rattle.pool_ir.specs.States as P
 use Rattle.pool_ir.specs.Memory.{activations_of}
 use Rattle.pool_rewrite.specs.Plan.{FunctionPlan, Plan}
@@ -84,6 +85,7 @@ IsOld state value = ⊤
 pub record ActivationStands (tac : Tac) (plan : Plan) (state : T.State) (memory : MemoryMap) (activation : T.Activation) (machine : P.Activation) : Type 0 where
   pub owner : machine.owner ≡ activation.owner
   pub at : machine.at ≡ activation.at
+  pub kept : machine.kept ≡ objects_start (frame_for tac plan activation.owner)
   pub words : WordsStand state.objects memory activation.registers machine.words
   pub inside : AreInside tac.structs state.objects activation.registers
   pub old : (register : Register) (value : Value) → activation.registers register ≡ Some value → IsOld state value

@@ -1,12 +1,15 @@
 -- A plan with pools that come and go: beside the one pool that serves all, each activation has a pool of its own, which is made at entry,
 -- holds nothing, and is destroyed at leaving; and what is known of these pools.
-use Rattle.std.specs.Prelude.{◌≡◌, ℕ, suc, ◌<◌, true, List, [], ◌∷◌, length, map, Some}
+use Rattle.std.specs.Prelude.{◌≡◌, ℕ, suc, ◌+◌, ◌^◌, ◌<◌, true, List, [], ◌∷◌, length, map, Some}
 use Rattle.slab_space.specs.declared.kind.PoolKind.TheVariants.{Mixed}
 use Rattle.slab_space.specs.Pools.{Pools, kind_of, lives_of}
+use Rattle.run_theory.specs.Runs.{To}
 use Rattle.tac_ir.specs.Values.{OfHeap}
 use Rattle.tac_ir.specs.Objects.{is_there}
 use Rattle.tac_ir.specs.States as T
 use Rattle.tac_ir.specs.States.{Owner, InStart, InFunction}
+use Rattle.tac_ir.specs.Meaning.{act}
+use Rattle.tac_ir.specs.First.{initial}
 use Rattle.tac_ir.specs.Code.{Function, Tac}
 use Rattle.pool_ir.specs.Code.{Make, Destroy}
 use Rattle.pool_ir.specs.States as P
@@ -37,7 +40,21 @@ AllHoldOwn pools above running [] = HoldsOwn pools above running.owner running.d
 AllHoldOwn pools above running (waiting ∷ callers) =
     HoldsOwn pools above running.owner running.descriptors × AllHoldOwn pools (made_before above running.owner running.descriptors) waiting.1 callers
 
-pub record KnowsOwnPools (state : T.State) (machine : P.State) : Type 0 where
+-- a state that the code comes to on some input, with as many calls as are counted, or more
+pub data ReachedBy (tac : Tac) : ℕ → T.State → Type 0 where
+  at_first : (input : List ℕ) → ReachedBy tac 0 (initial tac input)
+  goes : (calls : ℕ) (state next : T.State) → ReachedBy tac calls state → act tac state ≡ To next → ReachedBy tac calls next
+  enters : (calls : ℕ) (state next : T.State) → ReachedBy tac calls state → act tac state ≡ To next → length next.callers ≡ suc (length state.callers) → ReachedBy tac (suc calls) next
+
+-- The numbers of all pools that are made are words of 64 bits: no run makes more calls. Numbers are not used again, so that a descriptor would
+-- no longer tell its pool after more.
+abbrev pub CallsFew : Tac → Type 0
+CallsFew tac = (calls : ℕ) (state : T.State) → ReachedBy tac calls state → calls + 1 < 2 ^ 64
+
+pub record KnowsOwnPools (tac : Tac) (state : T.State) (machine : P.State) : Type 0 where
+  pub calls : ℕ
+  pub reached : ReachedBy tac calls state
+  pub made : length machine.pools.pools ≡ suc calls
   pub one : kind_of machine.pools 1 ≡ Some Mixed
   pub lie : (number : ℕ) → is_there (state.objects (OfHeap number)) ≡ true → LiesIn machine number 1
   pub hold : AllHoldOwn machine.pools (suc (length machine.pools.pools)) machine.running machine.callers

@@ -66,6 +66,7 @@ pub record SameActivation (before after : Activation) : Type 0 where
   pub words : after.words ≡ before.words
   pub descriptors : after.descriptors ≡ before.descriptors
   pub start : after.start ≡ before.start
+  pub kept : after.kept ≡ before.kept
   pub at : after.at ≡ before.at
   pub long : length after.bytes ≡ length before.bytes
 
@@ -94,6 +95,7 @@ pub record SameButBytes (state later : State) : Type 0 where
 
 pub record SameFrames (state later : State) : Type 0 where
   pub start : later.running.start ≡ state.running.start
+  pub kept : later.running.kept ≡ state.running.kept
   pub bytes : later.running.bytes ≡ state.running.bytes
   pub callers : later.callers ≡ state.callers
   pub globals : later.globals ≡ state.globals
@@ -110,6 +112,7 @@ pub record EntersFrame (state later : State) (site size : ℕ) : Type 0 where
 pub record LeavesFrame (state later : State) (site : ℕ) (caller : Activation) : Type 0 where
   pub waiting : state.callers ≡ (site, caller) ∷ later.callers
   pub start : later.running.start ≡ caller.start
+  pub kept : later.running.kept ≡ caller.kept
   pub bytes : later.running.bytes ≡ caller.bytes
   pub globals : later.globals ≡ state.globals
   pub pools : later.pools ≡ state.pools

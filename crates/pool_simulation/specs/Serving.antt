@@ -18,13 +18,14 @@ use Rattle.tac_ir.specs.Trees.{computes}
 use Rattle.tac_ir.specs.Events.{Entered}
 use Rattle.tac_ir.specs.States as T
 use Rattle.tac_ir.specs.States.{InFunction}
-use Rattle.tac_ir.specs.Calls.{natural_of}
+use Rattle.tac_ir.specs.Calls.{natural_of, called}
 use Rattle.tac_ir.specs.Meaning.{act}
 use Rattle.tac_ir.specs.First.{initial}
 use Rattle.tac_ir.specs.Code as O
 use Rattle.tac_ir.specs.Code.{Tree, Operand, Callee, Tac}
 use Rattle.pool_ir.specs.Code as C
 use Rattle.pool_ir.specs.Code.{PoolCode, Action, Make, Destroy}
+use Rattle.pool_ir.specs.Frames.{objects_start}
 use Rattle.pool_ir.specs.States as P
 use Rattle.pool_ir.specs.States.{Same, Opened, Closed, with_descriptor}
 use Rattle.pool_ir.specs.Memory.{with_number}
@@ -141,6 +142,7 @@ entered site number function words pools machine =
         words = M.parameters_from 0 words;
         descriptors = M.descriptors_from pools;
         start = M.next_start machine.running;
+        kept = objects_start function.frame;
         bytes = replicate function.frame.size 0;
         at = 0;
       };
@@ -174,6 +176,10 @@ pub record Serving (tac : Tac) (plan : Plan) (slabs : ℕ) (state : T.State) (ma
   pub frees_null : (site : ℕ) (pointer : Register) → StandsAt tac state (O.Free site pointer) → state.running.registers pointer ≡ Some NoAddress
       → lives_of machine.pools (pool_for plan state machine site) ≡ true
   pub leaves : (value : Option Operand) → StandsAt tac state (O.Return value) → CanAct (code_of tac plan) state (actions_leaving tac plan machine) machine
+  -- a call passes as many pools as its function takes
+  pub passes : (site number : ℕ) (callee : Callee) (arguments : List Register) (function : C.Function) → StandsAt tac state (O.Call site callee arguments)
+      → called tac (T.around_of tac state.running) state.running.registers callee ≡ Some number → slice_get (code_of tac plan).functions number ≡ Some function
+      → length ((plan_for plan state.running.owner).passes site) ≡ function.taken
   -- on the edge to the next point, after the effect of this one
   pub crosses : (at : ℕ) (between : T.State) (later : P.State) → act tac state ≡ T.go_to at between → InStep tac plan slabs between later → Effect tac plan state machine later
       → CanAct (code_of tac plan) between (actions_to tac plan later at) later

@@ -8,7 +8,7 @@ use Rattle.pcc_status.specs.declared.status.Refusal.{Refusal}
 use Rattle.pcc_status.specs.declared.status.Status.{Status}
 use Rattle.pcc_status.specs.declared.status.Status.TheVariants as S
 use Rattle.poolcc.specs.Build.{Builds, BuildsPart, BuildGives}
-use Rattle.poolcc.specs.Compiled.{IsInteger, Compiles}
+use Rattle.poolcc.specs.Compiled.{IsAccepted, Compiles}
 use Rattle.poolcc.specs.Complete.{IsBuiltUnlessMemory}
 use Rattle.poolcc.specs.Exec.{source_limit}
 use Rattle.poolcc.specs.Refused.{IsRefused}
@@ -32,7 +32,7 @@ module _ (text : List ℕ) (limits : MachineLimits) (base bytes : List ℕ) (wri
   }
 
 module _ (text : List ℕ) (limits : MachineLimits) (base : List ℕ) (written' : Option (List ℕ)) (short : length text ≤ source_limit) where
-  module _ (program : ProgramTree) (accepted : IsInteger text program) where
+  module _ (program : ProgramTree) (accepted : IsAccepted text program) where
     -- an answer of build that is no fault is that it is done, or memory ran out
     pub built : (status : Status) → BuildGives text limits base status written' → (status ≡ S.ReadFault → ⊥) → (status ≡ S.WriteFault → ⊥) → IsBuiltUnlessMemory text limits base status written'
     built S.Done gives read write = inr (record { form = gives.form; compiles = gives.compiles; ends = refl; output = gives.output })
@@ -54,7 +54,7 @@ module _ (text : List ℕ) (limits : MachineLimits) (base : List ℕ) (written' 
 
   module _ (refusal : Refusal) (refused : IsRefused text refusal) where
     not_built : {form : Form} → Compiles text limits form → ⊥
-    not_built compiles = not_refused text compiles.program refusal compiles.integer refused
+    not_built compiles = not_refused text compiles.program refusal compiles.accepted refused
 
     -- a text that is refused gets that answer, or memory ran out
     pub build_refuses : (status : Status) → BuildGives text limits base status written' → (status ≡ S.ReadFault → ⊥) → (status ≡ S.WriteFault → ⊥) → (status ≡ S.OutOfMemory) ⊎ (status ≡ S.Refused refusal)

@@ -3,7 +3,6 @@
 use Rattle.std.proofs.Common.{◌≡◌, ℕ, ◌≤◌, ◌⊎◌, inl, inr, List, ◌++◌, Option, Some, length, sym, ap, ◌∙◌, refl, subst, arith}
 use Rattle.run_theory.specs.Runs.{Trace, output_of, Final, Ended, DepthReached, HeapExhausted, IndexExhausted, Trapped, Over, trace_of, IsUndefined}
 use Rattle.run_theory.specs.declared.ends.TrapKind.{TrapKind}
-use Rattle.run_theory.proofs.Following.{follows_trapped}
 use Rattle.pcc_outside.specs.Outside.{Rose}
 use Rattle.c_syntax.specs.Trees.{ProgramTree}
 use Rattle.c_rules.specs.Elaborated.{typed_of}
@@ -16,11 +15,12 @@ use Rattle.machine.proofs.Mach.{mach_over, mach_going}
 use Rattle.pcc_status.specs.declared.status.Status.{Status}
 use Rattle.pcc_status.specs.declared.status.Status.TheVariants as S
 use Rattle.pcc_status.specs.Said.{Said, after_failed_line}
-use Rattle.poolcc.specs.Compiled.{IsInteger, Compiles, image_run, first_of_run}
+use Rattle.poolcc.specs.Compiled.{IsAccepted, Compiles, image_run, first_of_run}
 use Rattle.pcc_words.specs.Line.{Line, NoCommand, NoLine, Build, Exec, Run, Ref}
 use Rattle.poolcc.specs.Command.{Names}
 use Rattle.poolcc.specs.Complete.{told, RunsAs, RunsUnlessMemory}
 use Rattle.poolcc.specs.Exec.{source_limit, ExecGives}
+use Rattle.program_machine.proofs.Seen.{trapped_is_undefined}
 use Rattle.poolcc.proofs.Refusals.{not_refused}
 
 -- a line that was written leaves the answer as it was
@@ -86,7 +86,7 @@ module _ (text : List ℕ) (limits : MachineLimits) (steps : ℕ) (left base : L
         output = there.2 ∙ ap (λ answer. Some (base ++ output_of (trace_of answer))) (sym there.1);
       }
 
-  module _ (program : ProgramTree) (accepted : IsInteger text program) (short : length text ≤ source_limit) where
+  module _ (program : ProgramTree) (accepted : IsAccepted text program) (short : length text ≤ source_limit) where
     -- an answer of exec that is no fault is the machine's, or memory ran out
     pub completed : (answer : Status) → ExecGives text limits steps left base answer left' written' → (answer ≡ S.ReadFault → ⊥) → (answer ≡ S.WriteFault → ⊥) → RunsUnlessMemory text limits steps left base answer written'
     completed (S.Program status) gives read write = inr (over gives.form (Ended status) gives.ran.made gives.ran.heap gives.compiles gives.ran.gives (S.Program status) (λ trace. refl))
@@ -107,13 +107,13 @@ module _ (text : List ℕ) (limits : MachineLimits) (steps : ℕ) (left base : L
     completed (S.Usage kind) gives read write = absurd gives
 
   -- a run that trapped shows that the program goes wrong
-  pub trapped : (kind : TrapKind) → ExecGives text limits steps left base (S.Trapped kind) left' written' → (program : ProgramTree) × IsInteger text program × (n : ℕ) × IsUndefined (reference (typed_of program) left n)
+  pub trapped : (kind : TrapKind) → ExecGives text limits steps left base (S.Trapped kind) left' written' → (program : ProgramTree) × IsAccepted text program × (n : ℕ) × IsUndefined (reference (typed_of program) left n)
   trapped kind gives =
       let own = gives.form.limits in
       let there = mach_over (code_of gives.form) own.slabs own.index left base steps gives.ran.heap left' written' (Trapped kind) gives.ran.made gives.ran.gives in
       let compiles = gives.compiles in
-      let wrong = follows_trapped (reference (typed_of compiles.program) left) (image_run gives.form left) (compiles.image.follows left own) steps kind there.0 there.1 in
-      (compiles.program, compiles.integer, wrong.0, wrong.1)
+      let wrong = trapped_is_undefined own.slabs (reference (typed_of compiles.program) left) (image_run gives.form left) (compiles.image.follows left own (compiles.decoded.ranges.slabs, compiles.decoded.ranges.index)) steps kind there.0 there.1 in
+      (compiles.program, compiles.accepted, wrong.0, wrong.1)
 
 -- a line has one file
 same_file : (file other : List ℕ) (line : Line) → Names line file → Names line other → file ≡ other

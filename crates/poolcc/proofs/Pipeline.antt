@@ -1,58 +1,91 @@
--- The instructions of a program follow the program, through its three-address code.
-use Rattle.std.proofs.Common.{◌≡◌, ℕ, List, [], Result, Ok, Err, IfOk, refl, sym, ap, ◌∙◌, subst, arith}
+-- The image of a program follows it: its three-address code, the code with one pool of that, and the instructions that are linked.
+use Rattle.std.proofs.Common.{◌≡◌, ℕ, suc, ◌≤◌, ◌<◌, List, length, Result, Ok, Err, IfOk, refl, sym, ap, subst, ◌∙◌, arith}
+use Rattle.std.proofs.lemmas.List.{length-map}
 use Rattle.std.specs.declared.alloc.AllocError.{AllocError}
 use Rattle.std.specs.List.{AllByRecursion}
-use Rattle.run_theory.specs.Runs.{all_events, Simulates, Follows}
-use Rattle.run_theory.proofs.Simulations.{compose_all, never_in_front, follows}
+use Rattle.run_theory.specs.Runs.{Run, FollowsBy}
 use Rattle.c_typed.specs.Typed.{Program}
 use Rattle.ref_semantics.specs.First.{reference}
-use Rattle.integer_code.specs.declared.Tac.{Tac}
-use Rattle.integer_code.specs.Meaning.{tac_run}
-use Rattle.integer_code.specs.Fits.{FitsFrame}
-use Rattle.integer_code.proofs.Limits.{no_limit}
-use Rattle.integer_build.specs.Laws.{IsCompiled}
-use Rattle.integer_build.proofs.Simulation as lowering
-use Rattle.pool_isa.specs.Machine.{Function, mach}
+use Rattle.tac_ir.specs.Code.{Tac}
+use Rattle.tac_build.specs.ProgramCode.{Code}
+use Rattle.pool_isa.specs.Machine as M
+use Rattle.pool_isa.specs.Machine.{mach}
 use Rattle.pool_isa.specs.Ranges.{IsFunction}
-use Rattle.pool_isa.proofs.MachineRuns.{mach_is_run}
-use Rattle.stack_code.specs.Emission.{code_of, functions_of}
-use Rattle.stack_code.proofs.Simulation.{emission_follows}
+use Rattle.pool_ir.specs.Code.{PoolCode}
+use Rattle.pool_rewrite.specs.Plan.{Plan, one_pool}
+use Rattle.pool_rewrite.specs.Rewriting.{rewritten}
+use Rattle.pool_stack.specs.Emitting.{emitted_function, emitted}
+use Rattle.stack_ranges.specs.FitsImage.{FitsImage}
+use Rattle.stack_ranges.proofs.EmittedRanges.{emitted_in_range, emitted_count, emitted_begins}
+use Rattle.image_premises.proofs.FittingImage.{accepted_fits_image}
+use Rattle.lowered_heights.proofs.Heights.{heights_fit}
 use Rattle.image_form.specs.declared.image.MachineLimits.{MachineLimits}
-use Rattle.image_form.specs.Form.{Form, form_of, IsImage}
 use Rattle.image_form.specs.declared.image.Image.{Image}
+use Rattle.image_form.specs.Form.{Form, code_of, form_of, BeginsWithStart, IsKind, IsImage}
 use Rattle.pool_linker.specs.Linking.{linked}
-use Rattle.pool_linker.proofs.NoKinds.{linked_nothing}
-use Rattle.slab_space.specs.declared.kind.PoolKind.{PoolKind}
-use Rattle.poolcc.specs.Compiled.{IsImageFor}
+use Rattle.pool_linker.proofs.LinkedRuns.{linked_runs, kinds_there}
+use Rattle.machine_accesses.proofs.SafeAccesses.{run_accesses_safe}
+use Rattle.program_machine.specs.HeapEvents.{heap_events}
+use Rattle.program_machine.proofs.Follows.{one_pool_code, one_pool_follows}
+use Rattle.poolcc.specs.Compiled.{IsCompilable, IsImageFor}
 
--- each program step is at most 32 of the machine, and two more lead to the first
-pub simulated : (program : Program) (tac : Tac) (input : List ℕ) (slabs index : ℕ) → IsCompiled program tac → FitsFrame tac → Simulates (reference program input) (mach (code_of tac) slabs index input) 32 2
-simulated program tac input slabs index code fits =
-    compose_all (reference program input) (tac_run tac input) (mach (code_of tac) slabs index input) 4 0 8 2 32 2 (lowering.follows program tac input code) (emission_follows tac input slabs index fits) (λ n j le. omega arith)
+-- ---- emitted code can be linked
 
-pub followed : (program : Program) (tac : Tac) (input : List ℕ) (slabs index : ℕ) → IsCompiled program tac → FitsFrame tac → Follows (reference program input) (mach (code_of tac) slabs index input)
-followed program tac input slabs index code fits =
-    follows all_events (λ s t. refl) (reference program input) (mach (code_of tac) slabs index input) 32 2 (simulated program tac input slabs index code fits) (mach_is_run (code_of tac) slabs index input) (never_in_front all_events (reference program input) (tac_run tac input) 4 0 (lowering.follows program tac input code) (no_limit tac input)) (λ n. omega arith)
+pub record IsLinkable (code : M.Code) : Type 0 where
+  pub functions : AllByRecursion (IsFunction (length code.kinds) (length code.functions)) code.functions
+  pub count : length code.functions ≤ 4097
+  pub start : BeginsWithStart code.functions
+  pub kinds : (length code.kinds ≤ 1048576) × AllByRecursion IsKind code.kinds
+  pub globals : code.globals ≤ 1073741824
+  pub contents : length code.contents ≤ code.globals
+  pub bytes : AllByRecursion (λ byte. byte < 256) code.contents
 
--- the form of an image with these functions and limits, and neither globals nor kinds
-abbrev pub image_with : List Function → MachineLimits → Form
-image_with functions limits = record { version = 1; limits = limits; globals = 0; contents = []; kinds = []; functions = functions }
+pub emitted_linkable : (code : PoolCode) → FitsImage code → IsLinkable (emitted code)
+emitted_linkable code fits =
+    let long : length (emitted code).functions ≡ suc (length code.functions) = ap suc (length-map code.functions emitted_function) in
+    record {
+      functions = subst (λ n. AllByRecursion (IsFunction (length code.kinds) n) (emitted code).functions) (sym long) (emitted_in_range code fits);
+      count = emitted_count code fits;
+      start = emitted_begins code fits;
+      kinds = fits.kinds;
+      globals = fits.globals;
+      contents = fits.contents;
+      bytes = fits.bytes;
+    }
 
-pub image_for : (program : Program) (tac : Tac) (limits : MachineLimits) (form : Form) → form ≡ image_with (functions_of tac) limits → IsImage form → IsCompiled program tac → FitsFrame tac → IsImageFor program limits form
-image_for program tac limits form is ranges code fits =
-    subst (IsImageFor program limits) (sym is) (record {
-      ranges = subst IsImage is ranges;
-      holds = refl;
-      follows = λ input within. followed program tac input within.slabs within.index code fits;
-    })
+-- ---- a program's image
 
--- what the linker makes of the code's functions, which name no kind
-pub linked_code : (tac : Tac) (limits : MachineLimits) (kinds : List PoolKind) (functions : List Function) → kinds ≡ [] → functions ≡ functions_of tac → AllByRecursion (IsFunction 0 2) functions → linked kinds functions limits ≡ image_with (functions_of tac) limits
-linked_code tac limits kinds functions none are ranges =
-    ap (λ (ks : List PoolKind). linked ks functions limits) none ∙ ap (λ (fs : List Function). linked [] fs limits) are ∙ linked_nothing (functions_of tac) limits (subst (AllByRecursion (IsFunction 0 2)) are ranges)
+module _ (program : Program) (tac : Tac) (compilable : IsCompilable program) (code : Code program tac) where
+  pub fits : FitsImage (rewritten (one_pool tac) tac)
+  fits =
+      accepted_fits_image program tac compilable.named code compilable.well_typed compilable.parameters compilable.within compilable.small
+      (heights_fit program tac code compilable.shallow compilable.few)
 
--- the image that was linked, if memory didn't run out
-pub image_if : (program : Program) (tac : Tac) (limits : MachineLimits) (result : Result Image AllocError) → IfOk result (λ (image : Image). form_of image ≡ image_with (functions_of tac) limits) → IfOk result (λ (image : Image). IsImage (form_of image))
-    → IsCompiled program tac → FitsFrame tac → IfOk result (λ (image : Image). IsImageFor program limits (form_of image))
-image_if program tac limits (Ok image) is ranges code fits = image_for program tac limits (form_of image) is ranges code fits
-image_if program tac limits (Err error) is ranges code fits = tt
+  -- the linked code runs as the code
+  linked_same : (limits : MachineLimits) (slabs index : ℕ) (input : List ℕ) (n : ℕ) → mach (code_of (linked (one_pool_code tac) limits)) slabs index input n ≡ mach (one_pool_code tac) slabs index input n
+  linked_same =
+      let linkable = emitted_linkable (rewritten (one_pool tac) tac) fits in
+      let made = one_pool_code tac in
+      linked_runs made (kinds_there (length made.kinds) (length made.functions) made.functions linkable.functions) linkable.contents
+
+  pub image_for : (limits : MachineLimits) (form : Form) → form ≡ linked (one_pool_code tac) limits → IsImage form → IsImageFor program limits form
+  image_for limits form is ranges =
+      subst (IsImageFor program limits) (sym is) (record {
+        ranges = subst IsImage is ranges;
+        holds = refl;
+        follows = λ input within small.
+            let few = small.0.1 in
+            subst (λ (run : Run). FollowsBy (heap_events within.slabs) (reference program input) run) (λ i n. sym (linked_same limits within.slabs within.index input n) i)
+            (one_pool_follows program tac compilable.named code compilable.well_typed compilable.storable compilable.within compilable.small within.slabs within.index (omega (arith, few)) input);
+        safe = λ input within. run_accesses_safe (code_of (linked (one_pool_code tac) limits)) within.slabs within.index input;
+      })
+
+  -- that was linked, if memory didn't run out
+  pub image_if : (limits : MachineLimits) (result : Result Image AllocError) → IfOk result (λ (image : Image). form_of image ≡ linked (one_pool_code tac) limits) → IfOk result (λ (image : Image). IsImage (form_of image))
+      → IfOk result (λ (image : Image). IsImageFor program limits (form_of image))
+  image_if limits (Ok image) is ranges = image_for limits (form_of image) is ranges
+  image_if limits (Err error) is ranges = tt
+
+-- code that was made by the plan of one pool
+pub made_fits : (program : Program) (tac : Tac) → IsCompilable program → Code program tac → (plan : Plan) → plan ≡ one_pool tac → (made : PoolCode) → made ≡ rewritten plan tac → FitsImage made
+made_fits program tac compilable code plan one made is = subst FitsImage (sym (is ∙ ap (λ (own : Plan). rewritten own tac) one)) (fits program tac compilable code)

@@ -13,8 +13,8 @@ use Rattle.poolcc.specs.Compiled.{IsAccepted}
 use Rattle.poolcc.specs.Complete.{told, IsReachedAs, IsReachedUnlessMemory}
 use Rattle.poolcc.specs.Exec.{source_limit}
 use Rattle.poolcc.specs.Ref.{Ends, IsSpent, ProgramGives, RunsMeaning, RefGives}
-use Rattle.poolcc.specs.Refused.{IsRefused, IsLate}
-use Rattle.poolcc.proofs.Refusals.{one_refusal, accepted_not_refused}
+use Rattle.poolcc.specs.Refused.{IsRefused}
+use Rattle.poolcc.proofs.Refusals.{one_refusal, not_refused}
 
 over : (final : Final) (base : List ℕ) (left' written' : Option (List ℕ)) (there : Reached) (status : Status) → ((trace : Trace) → status ≡ told (Over final trace)) → Ends final base left' written' there → IsReachedAs there base status left' written'
 over final base left' written' there status is ends = record {
@@ -49,7 +49,7 @@ module _ (text : List ℕ) (steps : ℕ) (left base : List ℕ) (left' written' 
     ref_completed S.Depth gives read write = inr (over DepthReached base left' written' there S.Depth (λ trace. refl) (given E.Depth gives))
     ref_completed (S.Undefined kind place) gives read write = inr (over (Undefined kind place) base left' written' there (S.Undefined kind place) (λ trace. refl) (given (E.Undefined kind place) gives))
     ref_completed S.StepsSpent gives read write = inr (spent base left' written' there (given E.StepsSpent gives))
-    ref_completed (S.Refused refusal) gives read write = absurd (accepted_not_refused text program refusal accepted gives.1 gives.2)
+    ref_completed (S.Refused refusal) gives read write = absurd (not_refused text program refusal accepted gives.1)
     ref_completed S.SourceTooLong gives read write = let long = gives.0 in absurd (omega arith)
     ref_completed S.ReadFault gives read write = absurd (read refl)
     ref_completed S.WriteFault gives read write = absurd (write refl)
@@ -62,11 +62,11 @@ module _ (text : List ℕ) (steps : ℕ) (left base : List ℕ) (left' written' 
     ref_completed S.ImageTooLong gives read write = absurd gives
     ref_completed (S.Usage kind) gives read write = absurd gives
 
-  module _ (refusal : Refusal) (refused : IsRefused text refusal) (at_once : IsLate refusal → ⊥) where
+  module _ (refusal : Refusal) (refused : IsRefused text refusal) where
     not_run : {end : RefEnd} → RunsMeaning text steps left base end left' written' → ⊥
-    not_run does = accepted_not_refused text does.program refusal does.accepted refused at_once
+    not_run does = not_refused text does.program refusal does.accepted refused
 
-    -- a text that is refused at once gets that answer, or memory ran out
+    -- a text that is refused gets that answer, or memory ran out
     pub ref_refuses : (status : Status) → RefGives text steps left base status left' written' → (status ≡ S.ReadFault → ⊥) → (status ≡ S.WriteFault → ⊥) → (status ≡ S.OutOfMemory) ⊎ (status ≡ S.Refused refusal)
     ref_refuses (S.Refused other) gives read write = inr (ap S.Refused (one_refusal text other refusal gives.1 refused))
     ref_refuses S.OutOfMemory gives read write = inl refl

@@ -1,8 +1,7 @@
 -- A text has at most one refusal, and none where it is accepted.
-use Rattle.std.proofs.Common.{◌≡◌, ℕ, List, Option, Some, None, sym, ap, ◌∙◌, refl, subst}
+use Rattle.std.proofs.Common.{◌≡◌, ℕ, List, Option, Some, None, sym, ap, ◌∙◌, refl}
 use Rattle.text_place.specs.declared.place.Pos.{Pos}
 use Rattle.c_syntax.specs.Trees
-use Rattle.c_integer.specs.Outside.{outside}
 use Rattle.c_rules.specs.declared.violation.Violation.{Violation}
 use Rattle.c_rules.specs.Known.{least}
 use Rattle.c_rules.specs.Programs as rules
@@ -20,14 +19,9 @@ use Rattle.pcc_status.specs.declared.status.LimitKind.TheVariants as M
 use Rattle.pcc_status.specs.declared.status.Refusal.{Refusal}
 use Rattle.pcc_status.specs.declared.status.Refusal.TheVariants as R
 use Rattle.poolcc.specs.declared.text.Stop.TheVariants as stops
-use Rattle.poolcc.specs.Compiled.{ReadsAs, IsAccepted, IsInteger}
-use Rattle.poolcc.specs.Refused.{fault_of, IsLexical, IsSyntactic, IsRefused, IsLate, limit_named, stop_of}
+use Rattle.poolcc.specs.Compiled.{ReadsAs, IsAccepted}
+use Rattle.poolcc.specs.Refused.{fault_of, IsLexical, IsSyntactic, IsRefused, limit_named, stop_of}
 use Rattle.poolcc.proofs.Misplacing.{one_syntactic}
-
--- the refusal of a program that was read, if it has one
-abbrev of_later : Option Pos → Option Refusal
-of_later None = None
-of_later (Some place) = Some (R.Later place)
 
 abbrev told_limit : Limit → LimitKind
 told_limit L.L1 = M.L1
@@ -45,19 +39,20 @@ told_named M.L4 = refl
 told_named M.L5 = refl
 told_named M.L6 = refl
 
-abbrev of_limits : Option LimitErr → Option Pos → Option Refusal
-of_limits None place = of_later place
-of_limits (Some limit) place = Some (R.Limit (told_limit limit.which) limit.count)
+-- the refusal of a program that was read, if it has one
+abbrev of_limits : Option LimitErr → Option Refusal
+of_limits None = None
+of_limits (Some limit) = Some (R.Limit (told_limit limit.which) limit.count)
 
-abbrev of_rules : Option Violation → Option LimitErr → Option Pos → Option Refusal
-of_rules None limit place = of_limits limit place
-of_rules (Some violation) limit place = Some (R.TypeRule violation.kind violation.place)
+abbrev of_rules : Option Violation → Option LimitErr → Option Refusal
+of_rules None limit = of_limits limit
+of_rules (Some violation) limit = Some (R.TypeRule violation.kind violation.place)
 
 abbrev limit_of : Trees.ProgramTree → Option LimitErr
 limit_of program = exceeded (elaborated.typed_of program) (named_types program)
 
 abbrev refusal_of : Trees.ProgramTree → Option Refusal
-refusal_of program = of_rules (rules.refusal program) (limit_of program) (outside program)
+refusal_of program = of_rules (rules.refusal program) (limit_of program)
 
 -- Where a text is refused: among its bytes, among its tokens, or as the program that it reads as.
 data Reason (text : List ℕ) : Refusal → Type 0 where
@@ -68,16 +63,12 @@ data Reason (text : List ℕ) : Refusal → Type 0 where
 reason : (text : List ℕ) (refusal : Refusal) → IsRefused text refusal → Reason text refusal
 reason text (R.Lex kind place) refused = lexical refused
 reason text (R.Syntax kind place) refused = syntactic refused
-reason text (R.TypeRule rule place) refused = of_program refused.program refused.reads (ap (λ least. of_rules least (limit_of refused.program) (outside refused.program)) refused.least)
+reason text (R.TypeRule rule place) refused = of_program refused.program refused.reads (ap (λ least. of_rules least (limit_of refused.program)) refused.least)
 reason text (R.Limit limit count) refused =
     let program = refused.program in
-    of_program program refused.reads (ap (λ all. of_rules (least all) (limit_of program) (outside program)) refused.typed ∙ ap (λ first. of_limits first (outside program)) refused.first ∙ ap (λ kind. Some (R.Limit kind count)) (told_named limit))
+    of_program program refused.reads (ap (λ all. of_rules (least all) (limit_of program)) refused.typed ∙ ap of_limits refused.first ∙ ap (λ kind. Some (R.Limit kind count)) (told_named limit))
 reason text (R.Graph count) refused = absurd refused
 reason text (R.Pools function count) refused = absurd refused
-reason text (R.Later place) refused =
-    let program = refused.program in
-    let accepted = refused.accepted in
-    of_program program accepted.reads (ap (λ all. of_rules (least all) (limit_of program) (outside program)) accepted.typed ∙ ap (λ first. of_limits first (outside program)) accepted.within ∙ ap of_later refused.stops)
 
 -- ---- no two
 
@@ -115,38 +106,15 @@ one_refusal text refusal other a b = same_reason text refusal other (reason text
 
 -- ---- none of a text that is accepted
 
-none_of : (text : List ℕ) (program : Trees.ProgramTree) (integer : IsInteger text program) → refusal_of program ≡ None
-none_of text program integer =
-    let accepted = integer.accepted in
-    ap (λ all. of_rules (least all) (limit_of program) (outside program)) accepted.typed ∙ ap (λ first. of_limits first (outside program)) accepted.within
-    ∙ ap of_later integer.none_outside
+none_of : (text : List ℕ) (program : Trees.ProgramTree) (accepted : IsAccepted text program) → refusal_of program ≡ None
+none_of text program accepted = ap (λ all. of_rules (least all) (limit_of program)) accepted.typed ∙ ap of_limits accepted.within
 
-no_reason : (text : List ℕ) (program : Trees.ProgramTree) (refusal : Refusal) → IsInteger text program → Reason text refusal → ⊥
-no_reason text program _ integer (lexical a) = not_read a integer.accepted.reads
-no_reason text program _ integer (syntactic a) = a.unread program integer.accepted.reads.reads
-no_reason text program refusal integer (of_program whole reads is) =
-    let both : None ≡ Some refusal = sym (ap refusal_of (integer.accepted.reads.only whole reads.reads) ∙ none_of text program integer) ∙ is in
+no_reason : (text : List ℕ) (program : Trees.ProgramTree) (refusal : Refusal) → IsAccepted text program → Reason text refusal → ⊥
+no_reason text program _ accepted (lexical a) = not_read a accepted.reads
+no_reason text program _ accepted (syntactic a) = a.unread program accepted.reads.reads
+no_reason text program refusal accepted (of_program whole reads is) =
+    let both : None ≡ Some refusal = sym (ap refusal_of (accepted.reads.only whole reads.reads) ∙ none_of text program accepted) ∙ is in
     cc both
 
-pub not_refused : (text : List ℕ) (program : Trees.ProgramTree) (refusal : Refusal) → IsInteger text program → IsRefused text refusal → ⊥
-not_refused text program refusal integer refused = no_reason text program refusal integer (reason text refusal refused)
-
--- what is accepted is refused for later, or not at all
-late_only : (place : Option Pos) (refusal : Refusal) → of_later place ≡ Some refusal → (IsLate refusal → ⊥) → ⊥
-late_only None refusal is at_once = cc
-late_only (Some place) refusal is at_once =
-    let same : R.Later place ≡ refusal = cc in
-    at_once (subst IsLate same tt)
-
-whole_refusal : (text : List ℕ) (program : Trees.ProgramTree) → IsAccepted text program → refusal_of program ≡ of_later (outside program)
-whole_refusal text program accepted =
-    ap (λ all. of_rules (least all) (limit_of program) (outside program)) accepted.typed ∙ ap (λ first. of_limits first (outside program)) accepted.within
-
-no_reason_at_once : (text : List ℕ) (program : Trees.ProgramTree) (refusal : Refusal) → IsAccepted text program → (IsLate refusal → ⊥) → Reason text refusal → ⊥
-no_reason_at_once text program _ accepted at_once (lexical a) = not_read a accepted.reads
-no_reason_at_once text program _ accepted at_once (syntactic a) = a.unread program accepted.reads.reads
-no_reason_at_once text program refusal accepted at_once (of_program whole reads is) =
-    late_only (outside program) refusal (sym (whole_refusal text program accepted) ∙ (sym (ap refusal_of (accepted.reads.only whole reads.reads)) ∙ is)) at_once
-
-pub accepted_not_refused : (text : List ℕ) (program : Trees.ProgramTree) (refusal : Refusal) → IsAccepted text program → IsRefused text refusal → (IsLate refusal → ⊥) → ⊥
-accepted_not_refused text program refusal accepted refused at_once = no_reason_at_once text program refusal accepted at_once (reason text refusal refused)
+pub not_refused : (text : List ℕ) (program : Trees.ProgramTree) (refusal : Refusal) → IsAccepted text program → IsRefused text refusal → ⊥
+not_refused text program refusal accepted refused = no_reason text program refusal accepted (reason text refusal refused)

@@ -37,7 +37,7 @@ stops_so text X.OutOfMemory refused = tt
 module _ (text : List ℕ) (limits : MachineLimits) (steps : ℕ) (left base : List ℕ) (left' written' : Option (List ℕ)) where
   module _ (refusal : Refusal) (refused : IsRefused text refusal) (short : length text ≤ source_limit) where
     not_run : {form : Form} → Compiles text limits form → ⊥
-    not_run compiles = not_refused text compiles.program refusal compiles.integer refused
+    not_run compiles = not_refused text compiles.program refusal compiles.accepted refused
 
     -- a text that is refused gets that answer, or memory ran out
     pub refuses : (answer : Status) → ExecGives text limits steps left base answer left' written' → (answer ≡ S.ReadFault → ⊥) → (answer ≡ S.WriteFault → ⊥) → (answer ≡ S.OutOfMemory) ⊎ (answer ≡ S.Refused refusal)

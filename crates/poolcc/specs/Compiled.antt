@@ -1,23 +1,32 @@
 -- When an image is a program's.
-use Rattle.std.specs.Prelude.{◌≡◌, ℕ, List, [], Option, None}
+use Rattle.std.specs.Prelude.{◌≡◌, ℕ, ◌≤◌, List, [], Option, None}
 use Rattle.text_place.specs.Places.{first_place}
-use Rattle.run_theory.specs.Runs.{Run, Follows}
+use Rattle.run_theory.specs.Runs.{Run, FollowsBy}
 use Rattle.c_token.specs.Leaves.{Leaf}
 use Rattle.c_lexer.specs.Tokens.{Divides}
 use Rattle.c_syntax.specs.Trees
 use Rattle.c_reader.specs.Readings.{IsProgram}
 use Rattle.c_typed.specs.Typed.{Program}
+use Rattle.c_well_typed.specs.Programs.{IsWellTyped}
+use Rattle.c_well_typed.specs.Sizes.{HasStorableTypes}
+use Rattle.c_sizes.specs.TypedNodes.{program_nodes, greatest_nodes}
+use Rattle.c_depths.specs.TypedDepths.{program_depth, greatest_depth}
+use Rattle.c_arguments.specs.TypedArguments.{CallsFew}
+use Rattle.image_premises.specs.Parameters.{HasFewParameters}
+use Rattle.c_types_expressions.specs.Named.{NamedType}
 use Rattle.ref_semantics.specs.First.{reference}
 use Rattle.c_rules.specs.Programs as rules
 use Rattle.c_rules.specs.Elaborated as elaborated
 use Rattle.c_types.specs.NamedItems.{named_types}
 use Rattle.c_types_limits.specs.Limits.{exceeded}
-use Rattle.c_integer.specs.Outside.{outside}
 use Rattle.pool_isa.specs.Machine.{State, initial, mach}
 use Rattle.image_form.specs.declared.image.MachineLimits.{MachineLimits}
 use Rattle.image_form.specs.Form.{Form, code_of, IsImage, ImageOf}
 use Rattle.machine.specs.declared.ends.RunEnd.{RunEnd}
 use Rattle.machine.specs.Run.{RunsTo}
+use Rattle.machine_accesses.specs.Accesses.{AccessesAreSafe}
+use Rattle.program_machine.specs.HeapEvents.{heap_events}
+use Rattle.poolcc.specs.Seen.{AreInRange}
 
 -- The text divides into the tokens of the program.
 pub record Reads (text : List ℕ) (program : Trees.ProgramTree) : Type 0 where
@@ -36,10 +45,17 @@ pub record IsAccepted (text : List ℕ) (program : Trees.ProgramTree) : Type 0 w
   pub typed : rules.violations program ≡ []
   pub within : exceeded (elaborated.typed_of program) (named_types program) ≡ None
 
--- The text is accepted, and no node of its program is outside the part of the language that is compiled so far.
-pub record IsInteger (text : List ℕ) (program : Trees.ProgramTree) : Type 0 where
-  pub accepted : IsAccepted text program
-  pub none_outside : outside program ≡ None
+-- What is known of the typed tree of an accepted text, and is all that compiling asks of one: it is well typed, the types that its objects
+-- get have exact sizes and a byte at least, it exceeds no limit, its nodes are few and don't nest deep, its functions have few parameters, and its calls few arguments.
+pub record IsCompilable (program : Program) : Type 0 where
+  pub well_typed : IsWellTyped program
+  pub storable : HasStorableTypes program
+  pub named : List NamedType
+  pub within : exceeded program named ≡ None
+  pub small : program_nodes program ≤ greatest_nodes
+  pub shallow : program_depth program ≤ greatest_depth
+  pub parameters : HasFewParameters program
+  pub few : CallsFew program
 
 -- the run of an image on an input, within limits
 abbrev pub machine_run : Form → MachineLimits → List ℕ → Run
@@ -57,17 +73,18 @@ first_of_run form input = initial (code_of form) form.limits.slabs form.limits.i
 abbrev pub RunsImageTo : Form → List ℕ → List ℕ → ℕ → RunEnd → Option (List ℕ) → Option (List ℕ) → Type 0
 RunsImageTo form left base steps answer left' written' = RunsTo (code_of form) (first_of_run form left) base steps answer left' written'
 
--- The image is the program's: its fields are in their ranges, it holds the limits, and it follows the program on
--- every input and within all limits.
+-- The image is the program's: its fields are in their ranges, it holds the limits, and on every input and within all limits it follows the
+-- program, the program's own heap accesses in their order included, and touches only memory that is there.
 pub record IsImageFor (program : Program) (limits : MachineLimits) (form : Form) : Type 0 where
   pub ranges : IsImage form
   pub holds : form.limits ≡ limits
-  pub follows : (input : List ℕ) (within : MachineLimits) → Follows (reference program input) (machine_run form within input)
+  pub follows : (input : List ℕ) (within : MachineLimits) → AreInRange within → FollowsBy (heap_events within.slabs) (reference program input) (machine_run form within input)
+  pub safe : (input : List ℕ) (within : MachineLimits) → AccessesAreSafe (code_of form) within.slabs within.index input
 
 -- The text is compiled: the image, which has been encoded and decoded, is its program's.
 pub record Compiles (text : List ℕ) (limits : MachineLimits) (form : Form) : Type 0 where
   pub program : Trees.ProgramTree
-  pub integer : IsInteger text program
+  pub accepted : IsAccepted text program
   pub encoded : List ℕ
   pub decoded : ImageOf encoded form
   pub image : IsImageFor (elaborated.typed_of program) limits form

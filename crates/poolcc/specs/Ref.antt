@@ -10,7 +10,7 @@ use Rattle.ref_meaning.specs.declared.run.RefEnd.TheVariants as E
 use Rattle.ref_meaning.specs.Running.{Reached, behaviour_of}
 use Rattle.poolcc.specs.Compiled.{IsAccepted}
 use Rattle.poolcc.specs.Exec.{source_limit, IsUntouched}
-use Rattle.poolcc.specs.Refused.{IsRefused, IsLate}
+use Rattle.poolcc.specs.Refused.{IsRefused}
 
 -- it ends so, all that it writes is written, behind the base, and what it doesn't read is left
 pub record Ends (final : Final) (base : List ℕ) (left written : Option (List ℕ)) (there : Reached) : Type 0 where
@@ -54,7 +54,7 @@ pub record RunsMeaning (text : List ℕ) (steps : ℕ) (left base : List ℕ) (e
   pub gives : ProgramGives (behaviour_of (typed_of program) left steps) base end left' written'
 
 -- What ref answers for a file's text, before its line on the error output: what its program does with the input and so many
--- units; a refusal of the text, of which none is for later; that it is too long; or a fault or want of memory, before the run
+-- units; a refusal of the text; that it is too long; or a fault or want of memory, before the run
 -- or in it.
 abbrev pub RefGives : List ℕ → ℕ → List ℕ → List ℕ → Status → Option (List ℕ) → Option (List ℕ) → Type 0
 RefGives text steps left base (S.Program status) left' written' = RunsMeaning text steps left base (E.Ended status) left' written'
@@ -64,7 +64,7 @@ RefGives text steps left base S.StepsSpent left' written' = RunsMeaning text ste
 RefGives text steps left base S.WriteFault left' written' = RunsMeaning text steps left base E.WriteFault left' written'
 RefGives text steps left base S.ReadFault left' written' = IsUntouched left base left' written' ⊎ RunsMeaning text steps left base E.ReadFault left' written'
 RefGives text steps left base S.OutOfMemory left' written' = IsUntouched left base left' written' ⊎ RunsMeaning text steps left base E.OutOfMemory left' written'
-RefGives text steps left base (S.Refused refusal) left' written' = (length text ≤ source_limit) × IsRefused text refusal × (IsLate refusal → ⊥) × IsUntouched left base left' written'
+RefGives text steps left base (S.Refused refusal) left' written' = (length text ≤ source_limit) × IsRefused text refusal × IsUntouched left base left' written'
 RefGives text steps left base S.SourceTooLong left' written' = (source_limit < length text) × IsUntouched left base left' written'
 RefGives text steps left base S.HeapExhausted left' written' = ⊥
 RefGives text steps left base S.IndexExhausted left' written' = ⊥

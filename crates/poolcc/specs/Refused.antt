@@ -8,7 +8,6 @@ use Rattle.c_lexer.specs.declared.lex_err.LexErr.TheVariants as X
 use Rattle.c_lexer.specs.Tokens.{Divides, Faults}
 use Rattle.c_syntax.specs.Trees
 use Rattle.c_reader.specs.Readings.{MisfitAt, TooDeepAt}
-use Rattle.c_integer.specs.Outside.{outside}
 use Rattle.c_rules.specs.declared.rule.TypeRule.{TypeRule}
 use Rattle.c_rules.specs.Programs as rules
 use Rattle.c_rules.specs.Elaborated as elaborated
@@ -24,7 +23,7 @@ use Rattle.pcc_status.specs.declared.status.LimitKind.{LimitKind}
 use Rattle.pcc_status.specs.declared.status.LimitKind.TheVariants as M
 use Rattle.pcc_status.specs.declared.status.Refusal.{Refusal}
 use Rattle.pcc_status.specs.declared.status.Refusal.TheVariants as R
-use Rattle.poolcc.specs.Compiled.{Reads, ReadsAs, IsAccepted}
+use Rattle.poolcc.specs.Compiled.{Reads, ReadsAs}
 use Rattle.poolcc.specs.declared.text.Stop as code
 use Rattle.poolcc.specs.declared.text.Stop.TheVariants as stops
 
@@ -80,16 +79,10 @@ pub record IsTooLarge (text : List ℕ) (limit : LimitKind) (count : ℕ) : Type
   pub typed : rules.violations program ≡ []
   pub first : exceeded (elaborated.typed_of program) (named_types program) ≡ Some (record { which = limit_named limit; count = count })
 
--- The text is accepted, and this is the place of the first node that is outside the part of the language that is compiled so far.
-pub record IsLater (text : List ℕ) (place : Pos) : Type 0 where
-  pub program : Trees.ProgramTree
-  pub accepted : IsAccepted text program
-  pub stops : outside program ≡ Some place
-
 -- The refusal is the text's. It is lexical where the text doesn't divide into tokens, with the kind and place of its
 -- first fault; else syntactic where these are no program, with the kind and place of the first with which none goes on;
--- else of the least type rule that is violated; else of the first limit that is exceeded, with its count; else for later,
--- at the place of what is not compiled yet. No other refusal comes yet.
+-- else of the least type rule that is violated; else of the first limit that is exceeded, with its count. No other refusal
+-- comes yet.
 abbrev pub IsRefused : List ℕ → Refusal → Type 0
 IsRefused text (R.Lex kind place) = IsLexical text kind place
 IsRefused text (R.Syntax kind place) = IsSyntactic text kind place
@@ -97,17 +90,6 @@ IsRefused text (R.TypeRule rule place) = IsIllTyped text rule place
 IsRefused text (R.Limit limit count) = IsTooLarge text limit count
 IsRefused text (R.Graph count) = ⊥
 IsRefused text (R.Pools function count) = ⊥
-IsRefused text (R.Later place) = IsLater text place
-
--- the refusal is for later, where the text is accepted
-abbrev pub IsLate : Refusal → Type 0
-IsLate (R.Later place) = Unit {0}
-IsLate refusal = ⊥
-
--- it isn't for later
-abbrev pub IsAtOnce : code.Stop → Type 0
-IsAtOnce (stops.Refused refusal) = IsLate refusal → ⊥
-IsAtOnce stops.OutOfMemory = Unit {0}
 
 -- why a text has no image: it is refused, or memory ran out
 abbrev pub IsStop : List ℕ → code.Stop → Type 0

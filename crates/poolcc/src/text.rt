@@ -5,21 +5,16 @@ ghost use Rattle.text_place.specs.Places.{first_place};
 ghost use Rattle.c_syntax.specs.Trees as whole;
 ghost use Rattle.c_rules.specs.Elaborated as elaborated;
 ghost use Rattle.c_typed.specs.DefinitionViews.{program_of as typed_program_of, ProgramStands};
-ghost use Rattle.c_sizes.specs.TypedNodes.{program_nodes, greatest_nodes};
-ghost use Rattle.c_well_typed.specs.Programs.{IsWellTyped};
-ghost use Rattle.c_well_typed.specs.Sizes.{HasStorableTypes};
 ghost use Rattle.c_token.specs.Leaves.{Leaf, leaves_of};
 ghost use Rattle.c_lexer.specs.Tokens.{Divides};
 ghost use Rattle.c_syntax.specs.Views.{program_tree};
-ghost use Rattle.integer_build.specs.Inside.{is_integer_program};
 ghost use Rattle.pool_isa.specs.Ranges.{IsWithin};
 ghost use Rattle.image_form.specs.Form.{form_of, IsImage, ImageOf};
-ghost use Rattle.poolcc.specs.Compiled.{ReadsAs, IsAccepted, IsInteger, Compiles};
+ghost use Rattle.poolcc.specs.Compiled.{ReadsAs, IsAccepted, IsCompilable, Compiles};
 ghost use Rattle.poolcc.specs.Exec.{source_limit};
-ghost use Rattle.poolcc.specs.Refused.{IsStop, IsAtOnce, limit_named, stop_of};
+ghost use Rattle.poolcc.specs.Refused.{IsStop, limit_named, stop_of};
 
 use crate::compilation::compile;
-use c_integer::first_outside;
 use c_lexer::{LexErr, tokens};
 use c_reader::{SyntaxErr, read};
 use c_rules::Violation;
@@ -43,7 +38,6 @@ fn divide(alloc: Global, text: &[u8]) -> Result<Vec<Token>, Stop>
     ensures found { IfOk result (λ v. Divides first_place text.now (leaves_of v.items)) }
     ensures only { IfOk result (λ v. (leaves : List Leaf) → Divides first_place text.now leaves → leaves_of v.items ≡ leaves) }
     ensures stop { IfErr result (IsStop text.now) }
-    ensures at_once { IfErr result IsAtOnce }
 {
     match tokens(alloc, text) {
         Ok(tokens) => Ok(tokens),
@@ -53,8 +47,7 @@ fn divide(alloc: Global, text: &[u8]) -> Result<Vec<Token>, Stop>
 
 // What a text comes to for a fault of the lexer.
 fn stop_of(error: LexErr) -> Stop
-    ensures is { result ≡ stop_of error }
-    ensures at_once { IsAtOnce result }
+    ensures { result ≡ stop_of error }
 {
     match error {
         LexErr::BadByte(place) => Stop::Refused(Refusal::Lex(LexKind::BadByte, place)),
@@ -71,7 +64,6 @@ pub fn parse(alloc: Global, text: &[u8]) -> Result<Program, Stop>
     requires { length text.now ≤ source_limit }
     ensures found { IfOk result (λ program. ReadsAs text.now (program_tree program)) }
     ensures stop { IfErr result (IsStop text.now) }
-    ensures at_once { IfErr result IsAtOnce }
 {
     let tokens = match divide(alloc, text) {
         Ok(tokens) => tokens,
@@ -93,7 +85,6 @@ fn elaborate(alloc: Global, program: &Program) -> Result<c_typed::Program, Stop>
     ensures typed { IfOk result (λ typed. typed_program_of typed ≡ elaborated.typed_of (program_tree program.now)) }
     ensures stands { IfOk result ProgramStands }
     ensures stop { (text : List ℕ) → ReadsAs text (program_tree program.now) → IfErr result (IsStop text) }
-    ensures at_once { IfErr result IsAtOnce }
 {
     let typed = match c_types::check(alloc, program) {
         Ok(typed) => typed,
@@ -115,11 +106,9 @@ pub fn typed_program(alloc: Global, text: &[u8]) -> Result<c_typed::Program, Sto
     requires { length text.now ≤ source_limit }
     ensures found { IfOk result (λ typed.
         (program : whole.ProgramTree) × IsAccepted text.now program × (typed_program_of typed ≡ elaborated.typed_of program)) }
-    ensures well_typed { IfOk result (λ typed. IsWellTyped (typed_program_of typed)) }
-    ensures storable { IfOk result (λ typed. HasStorableTypes (typed_program_of typed)) }
+    ensures compilable { IfOk result (λ typed. IsCompilable (typed_program_of typed)) }
     ensures stands { IfOk result ProgramStands }
     ensures stop { IfErr result (IsStop text.now) }
-    ensures at_once { IfErr result IsAtOnce }
 {
     let program = match parse(alloc, text) {
         Ok(program) => program,
@@ -142,29 +131,6 @@ fn limit_kind(limit: Limit) -> LimitKind
         Limit::L4 => LimitKind::L4,
         Limit::L5 => LimitKind::L5,
         Limit::L6 => LimitKind::L6,
-    }
-}
-
-/// The typed tree that an accepted text within the source limit has, where it is compiled.
-pub fn integer_program(alloc: Global, text: &[u8]) -> Result<c_typed::Program, Stop>
-    requires { length text.now ≤ source_limit }
-    ensures found { IfOk result (λ typed. (program : whole.ProgramTree) × IsInteger text.now program × (typed_program_of typed ≡ elaborated.typed_of program)) }
-    ensures inside { IfOk result (λ typed. is_integer_program (typed_program_of typed) ≡ true) }
-    ensures small { IfOk result (λ typed. program_nodes (typed_program_of typed) ≤ greatest_nodes) }
-    ensures stands { IfOk result ProgramStands }
-    ensures stop { IfErr result (IsStop text.now) }
-{
-    let program = match parse(alloc, text) {
-        Ok(program) => program,
-        Err(stop) => return Err(stop),
-    };
-    let typed = match elaborate(alloc, &program) {
-        Ok(typed) => typed,
-        Err(stop) => return Err(stop),
-    };
-    match first_outside(&program) {
-        Some(place) => Err(Stop::Refused(Refusal::Later(place))),
-        None => Ok(typed),
     }
 }
 
@@ -192,11 +158,11 @@ pub fn image_of(alloc: Global, text: &[u8], limits: MachineLimits) -> Result<Ima
     ensures compiled { IfOk result (λ image. Compiles text.now limits (form_of image)) }
     ensures stop { IfErr result (IsStop text.now) }
 {
-    let program = match integer_program(alloc, text) {
+    let program = match typed_program(alloc, text) {
         Ok(program) => program,
         Err(stop) => return Err(stop),
     };
-    let Ok(image) = compile(alloc, &program, limits) else {
+    let Ok(image) = compile(alloc, program, limits) else {
         return Err(Stop::OutOfMemory);
     };
     match round_trip(alloc, &image) {

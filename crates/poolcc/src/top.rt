@@ -17,8 +17,8 @@ ghost use Rattle.pcc_status.specs.declared.status.LexKind.{LexKind};
 ghost use Rattle.pcc_status.specs.declared.status.Refusal.{Refusal};
 ghost use Rattle.pcc_status.specs.declared.status.Refusal.TheVariants as Refusal;
 ghost use Rattle.c_lexer.specs.Tokens.{Faults};
-ghost use Rattle.poolcc.specs.Refused.{fault_of, IsRefused, IsLate};
-ghost use Rattle.poolcc.specs.Compiled.{IsAccepted, IsInteger, image_run};
+ghost use Rattle.poolcc.specs.Refused.{fault_of, IsRefused};
+ghost use Rattle.poolcc.specs.Compiled.{IsAccepted, image_run};
 ghost use Rattle.c_syntax.specs.Trees.{ProgramTree};
 ghost use Rattle.c_rules.specs.Elaborated.{typed_of};
 ghost use Rattle.ref_semantics.specs.First.{reference};
@@ -67,7 +67,7 @@ pub fn poolcc<F: Files, I: Source, O: Sink, E: Sink>(
     ensures trapped_cause { (kind : TrapKind) (file : List ℕ) (limits : SaidLimits) (steps : ℕ) (text left base : List ℕ)
         → result ≡ Status.Trapped kind → line_said words.now ≡ Exec file limits steps
         → F.contents files.old file ≡ Holds text → I.left input.old ≡ Some left → O.written out.old ≡ Some base
-        → (program : ProgramTree) × IsInteger text program × (n : ℕ) × IsUndefined (reference (typed_of program) left n) }
+        → (program : ProgramTree) × IsAccepted text program × (n : ℕ) × IsUndefined (reference (typed_of program) left n) }
 
     // Where the text is accepted and nothing outside fails, the answer is what the machine gives, or memory ran out.
     ensures complete { (file : List ℕ) (limits : SaidLimits) (steps : ℕ) (text left base : List ℕ) (program : ProgramTree)
@@ -75,7 +75,7 @@ pub fn poolcc<F: Files, I: Source, O: Sink, E: Sink>(
         → FromText source_limit (F.contents files.old file) text (I.left input.old) left (O.written out.old) base
         (Undisturbed (F.faults files.old file) (F.faults files.new file) (I.faults input.old) (I.faults input.new)
         (O.faults out.old) (O.faults out.new) (E.faults err.old) (E.faults err.new)
-        (IsInteger text program → RunsUnlessMemory text (machine_limits limits) steps left base result (O.written out.new))) }
+        (IsAccepted text program → RunsUnlessMemory text (machine_limits limits) steps left base result (O.written out.new))) }
 
     // Where the text has a fault and nothing outside fails, the answer is the fault's kind and place, or memory ran out.
     ensures lexical { (file : List ℕ) (limits : SaidLimits) (steps : ℕ) (text left base : List ℕ) (kind : LexKind) (place : Pos)
@@ -94,7 +94,7 @@ pub fn poolcc<F: Files, I: Source, O: Sink, E: Sink>(
         (IsRefused text refusal → (result ≡ Status.OutOfMemory) ⊎ (result ≡ Status.Refused refusal))) }
 
     // Where the text of `ref` is accepted and nothing outside fails, the answer, the output and what is left of the input are those
-    // of its program with so many units, or memory ran out; where it is refused at once, the answer is that refusal.
+    // of its program with so many units, or memory ran out; where it is refused, the answer is that refusal.
     ensures ref_complete { (file : List ℕ) (steps : ℕ) (text left base : List ℕ) (program : ProgramTree)
         → line_said words.now ≡ Ref file steps
         → FromText source_limit (F.contents files.old file) text (I.left input.old) left (O.written out.old) base
@@ -106,7 +106,7 @@ pub fn poolcc<F: Files, I: Source, O: Sink, E: Sink>(
         → FromText source_limit (F.contents files.old file) text (I.left input.old) left (O.written out.old) base
         (Undisturbed (F.faults files.old file) (F.faults files.new file) (I.faults input.old) (I.faults input.new)
         (O.faults out.old) (O.faults out.new) (E.faults err.old) (E.faults err.new)
-        (IsRefused text refusal → (IsLate refusal → ⊥) → (result ≡ Status.OutOfMemory) ⊎ (result ≡ Status.Refused refusal))) }
+        (IsRefused text refusal → (result ≡ Status.OutOfMemory) ⊎ (result ≡ Status.Refused refusal))) }
 
     // Where the text of `build` is accepted and nothing outside fails, the bytes of its image are written, or memory ran out;
     // where it is refused, the answer is that refusal.
@@ -115,7 +115,7 @@ pub fn poolcc<F: Files, I: Source, O: Sink, E: Sink>(
         → FromSource source_limit (F.contents files.old file) text (O.written out.old) base
         (Undisturbed (F.faults files.old file) (F.faults files.new file) (I.faults input.old) (I.faults input.new)
         (O.faults out.old) (O.faults out.new) (E.faults err.old) (E.faults err.new)
-        (IsInteger text program → IsBuiltUnlessMemory text (machine_limits limits) base result (O.written out.new))) }
+        (IsAccepted text program → IsBuiltUnlessMemory text (machine_limits limits) base result (O.written out.new))) }
     ensures build_refused { (file : List ℕ) (limits : SaidLimits) (text base : List ℕ) (refusal : Refusal)
         → line_said words.now ≡ Build file limits
         → FromSource source_limit (F.contents files.old file) text (O.written out.old) base

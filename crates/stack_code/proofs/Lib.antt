@@ -1,8 +1,8 @@
--- What is proved of emitted code: that it does what the three-address code does (`Simulation`), and that its functions
--- can stand in an image (`Ranges`).
-mod Words
-mod Frames
-mod Places
-mod Steps
-pub mod Simulation
-pub mod Ranges
+-- What the functions of this crate do, list by list.
+pub mod AppendedParts
+pub mod PointBlocks
+pub mod PlaceTables
+pub mod UnitPremises
+pub mod ActionJumps
+pub mod GreatestHeights
+pub mod LaidPoints

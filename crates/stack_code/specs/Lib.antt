@@ -1,4 +1,2 @@
-pub mod Emission
-pub mod Laws
-pub mod Places
 pub mod Units
+pub mod Fits

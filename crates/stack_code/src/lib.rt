@@ -1,12 +1,21 @@
-//! From three-address code to the instructions of the machine.
+//! From code with pools to the instructions of the machine.
 //!
-//! A register is a word of the frame, and holds its value as a word: no operand is left between points. The points of a
-//! function are laid out from the last one to the first, and a jump leads from a point to its successor unless that one
-//! is laid out next. A branch jumps to its second point itself.
+//! Descriptors and registers are words of the frame, and no operand is left between points. The points of a function are laid out in their
+//! order, behind what is done at its entry, and a jump leads from a point to another that isn't laid out behind it. What is emitted is
+//! defined in pool_stack (`specs/Emitting.antt`: `emitted`), which shows what it does.
 #![tactic(auto)]
 
-mod emission;
-pub mod laws;
-mod operation;
+mod calls;
+mod functions;
+mod heights;
+mod paths;
+mod points;
+mod pools;
+mod program;
+mod trees;
+mod units;
+mod ways;
+mod words;
 
-pub use emission::{Unit, Units, emit};
+pub use program::emit;
+pub use units::{Unit, Units};

@@ -18,6 +18,3 @@ returns-in-Graph-clause-puts g c = rw c.in-Graph.is c.put_number.ensures.puts
 
 pub returns-in-Pools-clause-puts : goal.returns-in-Pools-clause-puts
 returns-in-Pools-clause-puts g c = rw c.in-Pools.is (simp append_assoc (rw c.as_slice.ensures at c.put_pools.ensures.puts))
-
-pub returns-in-Later-clause-puts : goal.returns-in-Later-clause-puts
-returns-in-Later-clause-puts g c = rw c.in-Later.is c.put_at_place-in-Later.ensures.puts

@@ -5,8 +5,8 @@ use Rattle.std.proofs.lemmas.Iterator.Adapters.{YieldsList-from_vec}
 use Rattle.std.proofs.lemmas.Iterator.Consumers.{YieldsList-end}
 use Rattle.std.proofs.lemmas.List.{length-map, map-append, map-id}
 use Rattle.slab_space.specs.declared.kind.PoolKind.{PoolKind}
-use Rattle.stack_code.specs.declared.emission.Unit.{Unit as Emitted}
-use Rattle.stack_code.specs.Units.{unit_function, unit_functions}
+use Rattle.stack_code.specs.declared.units.Unit.{Unit as Emitted}
+use Rattle.stack_code.specs.Units.{unit_function, unit_functions, units_code}
 use Rattle.image_form.specs.declared.image.Function.{Function}
 use Rattle.image_form.specs.Form.{IsImage, function_of}
 use Rattle.pool_linker.specs.Linking.{NamesBelow, once, number_in, numbers_of, linked_function, KeepsKinds}
@@ -61,12 +61,12 @@ returns-clause-holds c =
     let functions = c.loop-unit.invariant.0
     ∙ ap (λ units. map (linked_function c.in_ok-numbering.numbering.numbers.items) (map unit_function units)) (sym (map-id c.loop-unit.yielded) ∙ all.0)
     ∙ ap (λ ns. map (linked_function ns) (unit_functions c.args.units)) numbers in
-    λ i. record { version = 1; limits = c.args.limits; globals = 0; contents = c.new.ensures.items i; kinds = (c.in_ok-numbering.ensures.kinds ∙ kinds) i; functions = functions i }
+    λ i. record { version = 1; limits = c.args.limits; globals = c.args.units.globals; contents = c.without_zeros.ensures i; kinds = (c.in_ok-numbering.ensures.kinds ∙ kinds) i; functions = functions i }
 
 pub returns-clause-ranges : goal.returns-clause-ranges
 returns-clause-ranges c =
     let needs = c.requires in
-    subst IsImage (sym (returns-clause-holds c)) (linked-image c.args.units.kinds.items needs.kinds.0 (unit_functions c.args.units) c.args.limits needs.functions needs.count needs.start needs.kinds.1 needs.slabs needs.index)
+    subst IsImage (sym (returns-clause-holds c)) (linked-image (units_code c.args.units) c.args.limits needs.functions needs.count needs.start needs.kinds needs.globals needs.contents needs.bytes needs.slabs needs.index)
 
 pub returns-clause-same_kinds : goal.returns-clause-same_kinds
 returns-clause-same_kinds c =

@@ -1,19 +1,63 @@
-use Rattle.std.proofs.Common.{◌≡◌, IfOk, subst}
+use Rattle.std.proofs.Common.{◌≡◌, IfOk, ap, ◌∙◌, subst, sym}
 use Rattle.c_typed.specs.DefinitionViews.{program_of}
+use Rattle.tac_ir.specs.Views.{tac_of}
+use Rattle.pool_ir.specs.Views.{code_of}
+use Rattle.pool_isa.specs.Machine as M
+use Rattle.pool_rewrite.specs.Plan.{Plan}
+use Rattle.pool_rewrite.specs.Rewriting.{rewritten}
+use Rattle.pool_rewrite.specs.Views.{plan_of}
+use Rattle.pool_premises.proofs.Rewritable.{one_pool_rewritable}
+use Rattle.pool_stack.specs.Emitting.{emitted}
+use Rattle.pool_linker.specs.Linking.{linked}
+use Rattle.stack_code.specs.Units.{units_code}
 use Rattle.image_form.specs.declared.image.Image.{Image}
-use Rattle.image_form.specs.Form.{Form, form_of}
-use Rattle.stack_code.specs.Units.{unit_functions}
-use Rattle.integer_build.specs.Laws.{IsCompiled}
-use Rattle.integer_build.proofs.Simulation.{integer_parts}
-use Rattle.poolcc.proofs.Pipeline.{linked_code, image_if}
+use Rattle.image_form.specs.Form.{form_of}
+use Rattle.poolcc.proofs.Pipeline.{IsLinkable, emitted_linkable, made_fits, image_if}
 use Rattle.poolcc.proofs.compilation.compile.Goals as goal
+use Rattle.poolcc.proofs.compilation.compile.Goals.{In_ok-units}
+
+pub rewrite-requires : goal.rewrite-requires
+rewrite-requires c =
+    let known = c.requires.compilable in
+    one_pool_rewritable (program_of c.args.program) c.in_ok-tac.tac known.named c.in_ok-plan.plan c.in_ok-tac.ensures.code known.well_typed known.storable known.within
+    known.small c.in_ok-tac.ensures.literals c.in_ok-plan.ensures
+
+pub emit-requires : goal.emit-requires
+emit-requires c =
+    record {
+      fits =
+          made_fits (program_of c.args.program) (tac_of c.in_ok-tac.tac) c.requires.compilable c.in_ok-tac.ensures.code (plan_of c.in_ok-plan.plan) c.in_ok-plan.ensures
+          (code_of c.in_ok-code.code) c.in_ok-code.ensures;
+    }
+
+-- the units can be linked
+linkable : (c : In_ok-units) → IsLinkable (units_code c.in_ok-units.units)
+linkable c =
+    subst IsLinkable (sym c.in_ok-units.ensures.code)
+    (emitted_linkable (code_of c.in_ok-code.code)
+    (made_fits (program_of c.args.program) (tac_of c.in_ok-tac.tac) c.requires.compilable c.in_ok-tac.ensures.code (plan_of c.in_ok-plan.plan) c.in_ok-plan.ensures
+    (code_of c.in_ok-code.code) c.in_ok-code.ensures))
+
+pub link-requires-clause-functions : goal.link-requires-clause-functions
+link-requires-clause-functions c = (linkable c).functions
+
+pub link-requires-clause-count : goal.link-requires-clause-count
+link-requires-clause-count c = (linkable c).count
+
+pub link-requires-clause-globals : goal.link-requires-clause-globals
+link-requires-clause-globals c = (linkable c).globals
+
+pub link-requires-clause-contents : goal.link-requires-clause-contents
+link-requires-clause-contents c = (linkable c).contents
+
+pub link-requires-clause-bytes : goal.link-requires-clause-bytes
+link-requires-clause-bytes c = (linkable c).bytes
 
 pub returns : goal.returns
 returns c =
-    let program = program_of c.args.program.now in
-    let parts = integer_parts program c.requires.inside in
-    let tac = c.in_ok-tac.tac in
-    let units = c.in_ok-units.units in
-    let code : IsCompiled program tac = record { main = parts.0; alone = parts.1; named = parts.2; inside = parts.3; code = c.in_ok-tac.ensures.code parts.0 parts.1 } in
-    let linked = linked_code tac c.args.limits units.kinds.items (unit_functions units) c.in_ok-units.ensures.kinds c.in_ok-units.ensures.functions c.in_ok-units.ensures.ranges in
-    image_if program tac c.args.limits c.link.result (subst (λ (form : Form). IfOk c.link.result (λ (image : Image). form_of image ≡ form)) linked c.link.ensures.holds) c.link.ensures.ranges code c.in_ok-tac.ensures.fits
+    let program = program_of c.args.program in
+    let tac = tac_of c.in_ok-tac.tac in
+    let made : code_of c.in_ok-code.code ≡ rewritten (plan_of c.in_ok-plan.plan) tac = c.in_ok-code.ensures in
+    let same = c.in_ok-units.ensures.code ∙ ap emitted (made ∙ ap (λ (own : Plan). rewritten own tac) c.in_ok-plan.ensures) in
+    image_if program tac c.requires.compilable c.in_ok-tac.ensures.code c.args.limits c.link.result
+    (subst (λ (code : M.Code). IfOk c.link.result (λ (image : Image). form_of image ≡ linked code c.args.limits)) same c.link.ensures.holds) c.link.ensures.ranges

@@ -4,4 +4,4 @@ use Rattle.poolcc.proofs.Refusing.{stops_so}
 use Rattle.poolcc.proofs.text.divide.Goals as goal
 
 pub returns-in-Err-clause-stop : goal.returns-in-Err-clause-stop
-returns-in-Err-clause-stop c = subst (IsStop c.args.text.now) (sym c.stop_of.ensures.is) (stops_so c.args.text.now c.in-Err.error c.in-Err.ensures.refused)
+returns-in-Err-clause-stop c = subst (IsStop c.args.text.now) (sym c.stop_of.ensures) (stops_so c.args.text.now c.in-Err.error c.in-Err.ensures.refused)

@@ -61,7 +61,7 @@ returns-clause-ref_complete g c = λ file steps text left base program line hold
     (ref_completed text steps left base left' written' short program accepted c.command-answer.result (c.command-answer.ensures.answers.ref file steps text left base line holds told wrote) no_read no_write)
 
 pub returns-clause-ref_refused : goal.returns-clause-ref_refused
-returns-clause-ref_refused g c = λ file steps text left base refusal line holds short told wrote quiet_files quiet_input quiet_out quiet_err refused at_once.
+returns-clause-ref_refused g c = λ file steps text left base refusal line holds short told wrote quiet_files quiet_input quiet_out quiet_err refused.
     let left' = g.I.Source.left c.command-answer.new.input in
     let written' = g.O.Sink.written c.command-answer.new.out in
     let same = said_as_it_is c.command-answer.result c.say.result _ _ _ _ c.say.ensures.said quiet_err in
@@ -69,7 +69,7 @@ returns-clause-ref_refused g c = λ file steps text left base refusal line holds
     no_read_fault _ file (g.F.Files.faults c.args.files.now) (g.F.Files.faults c.command-answer.new.files) _ _ (subst (λ l. Names l file) (sym line) refl) quiet_files quiet_input (c.command-answer.ensures.read_cause e) in
     let no_write = λ (e : c.command-answer.result ≡ S.WriteFault). quiet_out (c.command-answer.ensures.write_cause e) in
     subst (λ (status : Status). (status ≡ S.OutOfMemory) ⊎ (status ≡ S.Refused refusal)) (sym same)
-    (ref_refuses text steps left base left' written' short refusal refused at_once c.command-answer.result (c.command-answer.ensures.answers.ref file steps text left base line holds told wrote) no_read no_write)
+    (ref_refuses text steps left base left' written' short refusal refused c.command-answer.result (c.command-answer.ensures.answers.ref file steps text left base line holds told wrote) no_read no_write)
 
 pub returns-clause-build_complete : goal.returns-clause-build_complete
 returns-clause-build_complete g c = λ file limits text base program line holds short wrote quiet_files quiet_input quiet_out quiet_err accepted.

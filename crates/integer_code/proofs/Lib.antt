@@ -1,2 +1,0 @@
--- What is proved of runs of three-address code.
-pub mod Limits

@@ -1,0 +1,2 @@
+//! Lowered code has few operands at once. A crate of proofs alone.
+#![tactic(auto)]

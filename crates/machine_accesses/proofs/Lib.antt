@@ -1,0 +1,4 @@
+-- Each access of a run is safe.
+pub mod LivingObjects
+pub mod SafeAccesses
+pub mod Rows

@@ -1,0 +1,4 @@
+pub mod Emitting
+pub mod Standing
+pub mod Fitting
+pub mod Following

@@ -1,0 +1,2 @@
+//! Rewritten code fits into frames of the machine. A crate of proofs alone.
+#![tactic(auto)]

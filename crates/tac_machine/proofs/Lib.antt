@@ -1,0 +1,2 @@
+pub mod DefinedRuns
+pub mod MachineRuns

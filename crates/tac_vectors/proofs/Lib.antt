@@ -1,4 +1,0 @@
--- What is proved of the interpreter beside its functions.
-pub mod Standing
-pub mod Tests
-pub mod Programs
