@@ -1,6 +1,5 @@
 pub mod Lists
 pub mod Frames
-pub mod Values
 pub mod Entry
 pub mod Accesses
 pub mod Calling

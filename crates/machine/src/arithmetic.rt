@@ -1,48 +1,14 @@
-// The operators on words: each converts its operands to its type first.
+// The instructions that put what an operator on words gives in the place of its operands.
 
 ghost use Rattle.std.specs.Prelude.{◌≡◌, ◌+◌, ◌^◌, ◌<◌};
-ghost use Rattle.pool_isa.specs.Machine.{binary_word, negated_word, complement_word, compared_word, next_start};
+ghost use Rattle.pool_isa.specs.Machine.{next_start};
 
 use crate::activation::Activation;
 use crate::ends::Step;
-use crate::words::converted_word;
-use c_num::{BinOp, IntType, Relation, value_of_word, word, wrap_binary, wrap_negate};
+use c_num::{BinOp, IntType, Relation};
 use pool_isa::Instr;
 use run_theory::TrapKind;
-
-/// The word of what a binary operator gives.
-fn binary_word(operator: BinOp, int_type: IntType, left: u64, right: u64) -> u64
-    ensures { result ≡ binary_word operator int_type left right }
-{
-    let left = value_of_word(left, int_type);
-    let right = value_of_word(right, int_type);
-    word(wrap_binary(operator, int_type, left, right), int_type)
-}
-
-/// The word of the negative.
-fn negated_word(int_type: IntType, operand: u64) -> u64
-    ensures { result ≡ negated_word int_type operand }
-{
-    let value = value_of_word(operand, int_type);
-    word(wrap_negate(int_type, value), int_type)
-}
-
-/// The word of the bitwise complement.
-fn complement_word(int_type: IntType, operand: u64) -> u64
-    ensures { result ≡ complement_word int_type operand }
-{
-    let value = value_of_word(operand, int_type);
-    word(c_num::complement(int_type, value), int_type)
-}
-
-/// 1 where the relation holds, otherwise 0.
-fn compared_word(relation: Relation, int_type: IntType, left: u64, right: u64) -> u64
-    ensures { result ≡ compared_word relation int_type left right }
-{
-    let left = value_of_word(left, int_type);
-    let right = value_of_word(right, int_type);
-    u64::from(c_num::compare(relation, left, right))
-}
+use word_arithmetic::{binary_word, compared_word, complement_word, converted_word, negated_word};
 
 impl Activation {
     ghost use Rattle.pool_isa.specs.Machine as machine;

@@ -1,8 +1,7 @@
 // Words of memory: the sizes of types, and the words of values.
 
-ghost use Rattle.std.specs.Prelude.{◌≡◌, ℕ, ◌^◌, ◌<◌, ◌≤◌, pos, List, length, Option};
+ghost use Rattle.std.specs.Prelude.{◌≡◌, ℕ, ◌^◌, ◌<◌, ◌≤◌, List, length, Option};
 ghost use Rattle.byteorder.specs.Endian.{little_number};
-ghost use Rattle.c_num.specs.Conversion.{word_of};
 ghost use Rattle.pcc_outside.specs.Outside.{TakesByte};
 ghost use Rattle.pool_isa.specs.Machine.{size_of, bytes_in};
 ghost use Rattle.machine.specs.Promises.{TakesWord};
@@ -10,6 +9,7 @@ ghost use Rattle.machine.specs.Promises.{TakesWord};
 use byteorder::{ByteOrder, LittleEndian};
 use c_num::IntType;
 use pool_isa::Width;
+pub(crate) use word_arithmetic::converted_word;
 
 /// The bytes of a value.
 pub(crate) fn size_of(int_type: IntType) -> usize
@@ -45,11 +45,12 @@ pub(crate) fn number_in(bytes: &[u8]) -> u64
     ensures word { result ≡ little_number (length bytes.now) bytes.now }
     ensures small { result < 256 ^ length bytes.now }
 {
-    let size = bytes.len();
-    if size == 8 {
-        LittleEndian::read_u64(bytes)
-    } else {
-        LittleEndian::read_uint(bytes, size)
+    match bytes.len() {
+        4 => u64::from(LittleEndian::read_u32(bytes)),
+        8 => LittleEndian::read_u64(bytes),
+        1 => u64::from(bytes[0]),
+        2 => u64::from(LittleEndian::read_u16(bytes)),
+        size => LittleEndian::read_uint(bytes, size),
     }
 }
 
@@ -58,16 +59,4 @@ pub(crate) fn input_word(byte: Option<u8>) -> u64
     ensures { (before after : Option (List ℕ)) → TakesByte before byte after → TakesWord result before after }
 {
     byte.map_or(u64::MAX, u64::from)
-}
-
-/// The word of a number that is converted to a type: of the value whose bits are the number's lowest ones.
-#[tactic(auto, using(crate::proofs::Values::wide_word), unfolding(c_num::specs::Conversion::word_of, c_num::specs::Conversion::convert_to))]
-pub(crate) fn converted_word(number: u64, int_type: IntType) -> u64
-    ensures { result ≡ word_of int_type (pos number) }
-{
-    match int_type {
-        // A word is the bits of its value.
-        IntType::Long | IntType::ULong => number,
-        _ => c_num::word(i128::from(number), int_type),
-    }
 }
