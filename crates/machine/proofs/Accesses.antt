@@ -5,12 +5,13 @@ use Rattle.std.specs.Option.{option_map}
 use Rattle.std.proofs.lemmas.Bool.{false≢true}
 use Rattle.std.proofs.lemmas.List.{append-nil}
 use Rattle.byteorder.specs.Endian.{little_bytes, little_number}
-use Rattle.run_theory.specs.Runs.{Event, Trace, output_of, Loaded, Stored, Move, To}
+use Rattle.run_theory.specs.Runs.{Event, Trace, output_of, Loaded, Stored, Move, To, Halt, Trapped}
+use Rattle.run_theory.specs.declared.ends.TrapKind.TheVariants as traps
 use Rattle.run_theory.proofs.Traces.{output_of-append}
 use Rattle.slab_space.specs.Pool.{Object}
 use Rattle.slab_space.specs.Pools.{object_at}
 use Rattle.pool_isa.specs.Machine.{Activation, Heap, State, happened, in_globals, number_of, access_of, heap_access, bytes_at, with_bytes_at, heap_word, with_heap_word, advanced, resumed, with_one, with_two, with_three, loaded, load_with, load, stored, store_with, store}
-use Rattle.machine.specs.Steps.{first_of, fetched, PutsIn, Puts, GoesInside}
+use Rattle.machine.specs.Steps.{first_of, fetched, PutsIn, Puts, GoesInside, HaltsInside}
 
 -- ---- events
 
@@ -67,6 +68,11 @@ module _ (word_for : ℕ → ℕ) (address size : ℕ) (operands : List ℕ) (to
       goes_with (load word_for address size operands top callers state) (told found) state (record state { activations = after }) (quiet_told found) refl refl
       (load_is found ∙ ap (λ n. loaded word_for n (told found) operands top callers state) (sym e) ∙ resumes (told found) after)
 
+  load_missed : None ≡ fetched (top ∷ callers) state.heap address size → load word_for address size operands top callers state ≡ Halt (Trapped traps.BadAccess) state
+  load_missed e =
+      let found : Option (List ℕ) = bytes_at (top ∷ callers) address size in
+      load_is found ∙ ap (λ n. loaded word_for n (told found) operands top callers state) (sym e)
+
 module _ (address size number : ℕ) (top after : Activation) (callers : List Activation) (state : State) (read : Some number ≡ fetched (top ∷ callers) state.heap address size) where
   pub load_one : (word_for : ℕ → ℕ) → top.operands ≡ address ∷ drop 1 top.operands → after ≡ advanced top (word_for number ∷ drop 1 top.operands)
       → GoesInside (with_one top.operands state (λ a rest. load word_for a size rest top callers state)) state (after ∷ callers) state.heap
@@ -79,6 +85,20 @@ module _ (address size number : ℕ) (top after : Activation) (callers : List Ac
   load_two word_for pool last is =
       subst (λ os. GoesInside (with_two os state (λ a p rest. load (word_for p) a size rest top callers state)) state (after ∷ callers) state.heap) (sym last)
       (subst (λ f. GoesInside (load (word_for pool) address size (drop 2 top.operands) top callers state) state (f ∷ callers) state.heap) (sym is) (load_on (word_for pool) address size (drop 2 top.operands) top callers state number read))
+
+pub load_one_missed : (word_for : ℕ → ℕ) (address size : ℕ) (top : Activation) (callers : List Activation) (state : State)
+    → None ≡ fetched (top ∷ callers) state.heap address size → top.operands ≡ address ∷ drop 1 top.operands
+    → with_one top.operands state (λ a rest. load word_for a size rest top callers state) ≡ Halt (Trapped traps.BadAccess) state
+load_one_missed word_for address size top callers state missed last =
+    subst (λ os. with_one os state (λ a rest. load word_for a size rest top callers state) ≡ Halt (Trapped traps.BadAccess) state) (sym last)
+    (load_missed word_for address size (drop 1 top.operands) top callers state missed)
+
+pub load_two_missed : (word_for : ℕ → ℕ → ℕ) (pool address size : ℕ) (top : Activation) (callers : List Activation) (state : State)
+    → None ≡ fetched (top ∷ callers) state.heap address size → top.operands ≡ pool ∷ address ∷ drop 2 top.operands
+    → with_two top.operands state (λ a p rest. load (word_for p) a size rest top callers state) ≡ Halt (Trapped traps.BadAccess) state
+load_two_missed word_for pool address size top callers state missed last =
+    subst (λ os. with_two os state (λ a p rest. load (word_for p) a size rest top callers state) ≡ Halt (Trapped traps.BadAccess) state) (sym last)
+    (load_missed (word_for pool) address size (drop 2 top.operands) top callers state missed)
 
 -- ---- stores
 
@@ -95,6 +115,12 @@ module _ (address size word : ℕ) (before : List Activation) (state : State) (a
   store_on : Puts before state.heap address size word true after heap' → GoesInside (store address size word before state) state after heap'
   store_on h = stores (with_bytes_at before address (little_bytes size word)) (with_heap_word state.heap address size word) refl h
 
+  store_missed : (frames : Option (List Activation)) (changed : Option Heap) → with_heap_word state.heap address size word ≡ changed → PutsIn frames changed false before state.heap after heap'
+      → HaltsInside (store_with frames address size word before state) (Trapped traps.BadAccess) state heap'
+  store_missed (Some frames) changed e h = absurd (false≢true h.0)
+  store_missed None (Some heap) e h = absurd (false≢true h.0)
+  store_missed None None e h = record { halts = ap (λ m. stored m (heap_access Stored state address size) before state) e; heap_is = h.2 }
+
 module _ (address size : ℕ) (top left : Activation) (callers : List Activation) (state : State) (after : List Activation) (heap' : Heap) where
   pub store_two : (word : ℕ) → top.operands ≡ word ∷ address ∷ drop 2 top.operands → left ≡ advanced top (drop 2 top.operands) → Puts (left ∷ callers) state.heap address size word true after heap'
       → GoesInside (with_two top.operands state (λ a w rest. store a size w (advanced top rest ∷ callers) state)) state after heap'
@@ -107,3 +133,20 @@ module _ (address size : ℕ) (top left : Activation) (callers : List Activation
   store_three word_for value pool last is puts =
       subst (λ os. GoesInside (with_three os state (λ a v p rest. store a size (word_for p v) (advanced top rest ∷ callers) state)) state after heap') (sym last)
       (store_on address size (word_for pool value) (advanced top (drop 3 top.operands) ∷ callers) state after heap' (subst (λ f. Puts (f ∷ callers) state.heap address size (word_for pool value) true after heap') is puts))
+
+  pub store_two_missed : (word : ℕ) → top.operands ≡ word ∷ address ∷ drop 2 top.operands → left ≡ advanced top (drop 2 top.operands) → Puts (left ∷ callers) state.heap address size word false after heap'
+      → HaltsInside (with_two top.operands state (λ a w rest. store a size w (advanced top rest ∷ callers) state)) (Trapped traps.BadAccess) state heap'
+  store_two_missed word last is puts =
+      let before : List Activation = advanced top (drop 2 top.operands) ∷ callers in
+      subst (λ os. HaltsInside (with_two os state (λ a w rest. store a size w (advanced top rest ∷ callers) state)) (Trapped traps.BadAccess) state heap') (sym last)
+      (store_missed address size word before state after heap' (with_bytes_at before address (little_bytes size word)) (with_heap_word state.heap address size word) refl
+      (subst (λ f. Puts (f ∷ callers) state.heap address size word false after heap') is puts))
+
+  pub store_three_missed : (word_for : ℕ → ℕ → ℕ) (value pool : ℕ) → top.operands ≡ pool ∷ value ∷ address ∷ drop 3 top.operands → left ≡ advanced top (drop 3 top.operands)
+      → Puts (left ∷ callers) state.heap address size (word_for pool value) false after heap'
+      → HaltsInside (with_three top.operands state (λ a v p rest. store a size (word_for p v) (advanced top rest ∷ callers) state)) (Trapped traps.BadAccess) state heap'
+  store_three_missed word_for value pool last is puts =
+      let before : List Activation = advanced top (drop 3 top.operands) ∷ callers in
+      subst (λ os. HaltsInside (with_three os state (λ a v p rest. store a size (word_for p v) (advanced top rest ∷ callers) state)) (Trapped traps.BadAccess) state heap') (sym last)
+      (store_missed address size (word_for pool value) before state after heap' (with_bytes_at before address (little_bytes size (word_for pool value))) (with_heap_word state.heap address size (word_for pool value)) refl
+      (subst (λ f. Puts (f ∷ callers) state.heap address size (word_for pool value) false after heap') is puts))

@@ -5,7 +5,7 @@ use Rattle.std.specs.List.{flat_map}
 use Rattle.std.specs.Bool.{if◌then◌else◌}
 use Rattle.std.proofs.lemmas.Bool.Decides.{nat_tests}
 use Rattle.byteorder.specs.Endian.{little_bytes}
-use Rattle.run_theory.specs.Runs.{output_of, Returned, DepthReached, Move, Halt}
+use Rattle.run_theory.specs.Runs.{output_of, Returned, DepthReached, Trapped, Move, Halt}
 use Rattle.run_theory.specs.declared.ends.TrapKind.TheVariants as traps
 use Rattle.pool_isa.specs.Machine.{Function, Activation, State, trap, with_one, advanced, resumed, next_start, call_event, entered, left, called, function_word, named_by, returned}
 use Rattle.machine.specs.Steps.{GoesInside}
@@ -40,6 +40,25 @@ called_on callee found function operands top innermost callers callers' state th
       input = refl;
       output = output_kept state.trace (call_event callee ∷ []) (no_output callee);
     }
+
+-- a call of a function that lacks parameters, or that would be nested too deep
+module _ (callee : ℕ) (found : Option Function) (function : Function) (operands : List ℕ) (top : Activation) (callers : List Activation) (state : State) (there : found ≡ Some function) where
+  abbrev goes : Move State
+  goes = resumed (at_entry callee function operands top ∷ advanced top (drop function.parameters operands) ∷ callers) (entered callee state)
+
+  chosen : (short : Bool) → nat_lt (length operands) function.parameters ≡ short
+      → called callee found operands top callers state ≡ (if short then trap traps.StackEmpty state else if nat_lt (length callers) 10000 then goes else Halt DepthReached state)
+  chosen short e =
+      ap (λ f. called callee f operands top callers state) there
+      ∙ ap (λ (b : Bool). if b then trap traps.StackEmpty state else if nat_lt (length callers) 10000 then goes else Halt DepthReached state) e
+
+  pub called_short : length operands < function.parameters → called callee found operands top callers state ≡ Halt (Trapped traps.StackEmpty) state
+  called_short few = chosen true (grind (arith, nat_tests))
+
+  pub called_deep : function.parameters ≤ length operands → 10000 ≤ length callers → called callee found operands top callers state ≡ Halt DepthReached state
+  called_deep enough deep =
+      let many : nat_lt (length callers) 10000 ≡ false = grind (arith, nat_tests) in
+      chosen false (grind (arith, nat_tests)) ∙ ap (λ (b : Bool). if b then goes else Halt DepthReached state) many
 
 -- a state in which a function has returned to these activations
 pub goes_left : (move : Move State) (activations : List Activation) (state : State) → move ≡ resumed activations (left state) → GoesInside move state activations state.heap

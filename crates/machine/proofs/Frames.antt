@@ -5,7 +5,7 @@ use Rattle.std.proofs.lemmas.Bool.Decides.{nat_tests}
 use Rattle.std.proofs.lemmas.Option.{none-some, same_Some}
 use Rattle.std.proofs.lemmas.List.{append_assoc, reverse-append, take_more, drop_more, set_split}
 use Rattle.pool_isa.specs.Machine.{Activation, covers, spliced, beneath, with_bytes_at, next_start}
-use Rattle.machine.specs.Steps.{IsRoomy}
+use Rattle.machine.specs.Steps.{IsStacked, end_of}
 use Rattle.machine.proofs.Lists.{length-spliced}
 
 -- frames that were passed over, in front of what was found
@@ -13,16 +13,16 @@ abbrev pub behind : List Activation → Option (List Activation) → Option (Lis
 behind passed None = None
 behind passed (Some frames) = Some (passed ++ frames)
 
-behind-beneath : (passed : List Activation) (frame : Activation) (found : Option (List Activation)) → behind passed (beneath frame found) ≡ behind (passed ++ frame ∷ []) found
+pub behind-beneath : (passed : List Activation) (frame : Activation) (found : Option (List Activation)) → behind passed (beneath frame found) ≡ behind (passed ++ frame ∷ []) found
 behind-beneath passed frame None = refl
 behind-beneath passed frame (Some frames) = ap Some (sym (append_assoc passed (frame ∷ []) frames))
 
-behind_none : (found : Option (List Activation)) → found ≡ behind [] found
+pub behind_none : (found : Option (List Activation)) → found ≡ behind [] found
 behind_none None = refl
 behind_none (Some frames) = refl
 
 -- the next frame of a list that is read from its end
-reverse-take_more : (xs : List Activation) (i k : ℕ) (x : Activation) → i ≡ k + 1 → k < length xs → x ≡ get_or xs k x → reverse (take i xs) ≡ x ∷ reverse (take k xs)
+pub reverse-take_more : (xs : List Activation) (i k : ℕ) (x : Activation) → i ≡ k + 1 → k < length xs → x ≡ get_or xs k x → reverse (take i xs) ≡ x ∷ reverse (take k xs)
 reverse-take_more xs i k x e lt is = ap (λ n. reverse (take n xs)) e ∙ ap reverse (take_more xs k x lt ∙ ap (λ y. take k xs ++ y ∷ []) (sym is)) ∙ reverse-append (take k xs) (x ∷ [])
 
 reverse-drop_more : (xs : List Activation) (i k : ℕ) (x : Activation) → i ≡ k + 1 → k < length xs → x ≡ get_or xs k x → reverse (drop k xs) ≡ reverse (drop i xs) ++ x ∷ []
@@ -39,7 +39,7 @@ module _ (frame : Activation) (frames : List Activation) (address size : ℕ) (n
   found_here : covers frame address size ≡ true → with_bytes_at (frame ∷ frames) address new ≡ Some (record frame { bytes = spliced frame.bytes (address - frame.start) new } ∷ frames)
   found_here e = ap (λ b. if b then Some (record frame { bytes = spliced frame.bytes (address - frame.start) new } ∷ frames) else beneath frame (with_bytes_at frames address new)) (ap (covers frame address) sized ∙ e)
 
-  found_beyond : covers frame address size ≡ false → with_bytes_at (frame ∷ frames) address new ≡ beneath frame (with_bytes_at frames address new)
+  pub found_beyond : covers frame address size ≡ false → with_bytes_at (frame ∷ frames) address new ≡ beneath frame (with_bytes_at frames address new)
   found_beyond e = ap (λ b. if b then Some (record frame { bytes = spliced frame.bytes (address - frame.start) new } ∷ frames) else beneath frame (with_bytes_at frames address new)) (ap (covers frame address) sized ∙ e)
 
 module _ (xs : List Activation) (i k address size : ℕ) (x : Activation) (new : List ℕ) (sized : length new ≡ size) (e : i ≡ k + 1) (lt : k < length xs) (is : x ≡ get_or xs k x) where
@@ -81,27 +81,31 @@ module _ (address : ℕ) (new : List ℕ) where
       ap (λ n. frame.start + (n + 15) / 16 * 16) (length-spliced frame.bytes new (address - frame.start) le)
 
   abbrev Keeps : List Activation → List Activation → Type 0
-  Keeps frames after = (length after ≡ length frames) × IsRoomy after
+  Keeps frames after = (length after ≡ length frames) × (end_of after ≡ end_of frames) × IsStacked after
 
-  keeps_front : (frame frame' : Activation) (frames frames' after : List Activation) → next_start frame ≤ 2 ^ 40 + 2 ^ 36 * (length frames + 1) → next_start frame' ≡ next_start frame → Keeps frames frames' → Some (frame' ∷ frames') ≡ Some after → Keeps (frame ∷ frames) after
-  keeps_front frame frame' frames frames' after room same kept e =
-      subst (Keeps (frame ∷ frames)) (same_Some _ _ e) (ap suc kept.0, (omega (arith, room, same, kept.0), kept.1))
+  keeps_front : (frame frame' : Activation) (frames frames' after : List Activation) → next_start frame ≤ 2 ^ 40 + 2 ^ 36 * (length frames + 1) → end_of frames ≤ frame.start
+      → frame'.start ≡ frame.start → next_start frame' ≡ next_start frame → Keeps frames frames' → Some (frame' ∷ frames') ≡ Some after → Keeps (frame ∷ frames) after
+  keeps_front frame frame' frames frames' after room above begins same kept e =
+      subst (Keeps (frame ∷ frames)) (same_Some _ _ e) (ap suc kept.0, same, (omega (arith, room, same, kept.0), omega (arith, above, begins, kept.1), kept.2))
 
-  keeps_behind : (frame : Activation) (frames after : List Activation) (found : Option (List Activation)) → next_start frame ≤ 2 ^ 40 + 2 ^ 36 * (length frames + 1) → ((frames' : List Activation) → found ≡ Some frames' → Keeps frames frames') → beneath frame found ≡ Some after → Keeps (frame ∷ frames) after
-  keeps_behind frame frames after None room inner e = absurd (none-some after e)
-  keeps_behind frame frames after (Some frames') room inner e = keeps_front frame frame frames frames' after room refl (inner frames' refl) e
+  keeps_behind : (frame : Activation) (frames after : List Activation) (found : Option (List Activation)) → next_start frame ≤ 2 ^ 40 + 2 ^ 36 * (length frames + 1) → end_of frames ≤ frame.start
+      → ((frames' : List Activation) → found ≡ Some frames' → Keeps frames frames') → beneath frame found ≡ Some after → Keeps (frame ∷ frames) after
+  keeps_behind frame frames after None room above inner e = absurd (none-some after e)
+  keeps_behind frame frames after (Some frames') room above inner e = keeps_front frame frame frames frames' after room above refl refl (inner frames' refl) e
 
-  pub roomy_written : (frames after : List Activation) → IsRoomy frames → with_bytes_at frames address new ≡ Some after → Keeps frames after
-  roomy_written [] after room e = absurd (none-some after e)
-  roomy_written (frame ∷ frames) after room e = by_cover (covers frame address (length new)) refl (roomy_written frames)
+  pub stacked_written : (frames after : List Activation) → IsStacked frames → with_bytes_at frames address new ≡ Some after → Keeps frames after
+  stacked_written [] after stacked e = absurd (none-some after e)
+  stacked_written (frame ∷ frames) after stacked e = by_cover (covers frame address (length new)) refl (stacked_written frames)
     where
-      by_cover : (b : Bool) → covers frame address (length new) ≡ b → ((frames' : List Activation) → IsRoomy frames → with_bytes_at frames address new ≡ Some frames' → Keeps frames frames') → Keeps (frame ∷ frames) after
-      by_cover true covered inner = keeps_front frame _ frames frames after room.0 (next_start-spliced frame covered) (refl, room.1) (sym (found_here frame frames address (length new) new refl covered) ∙ e)
-      by_cover false missed inner = keeps_behind frame frames after (with_bytes_at frames address new) room.0 (λ frames'. inner frames' room.1) (sym (found_beyond frame frames address (length new) new refl missed) ∙ e)
+      by_cover : (b : Bool) → covers frame address (length new) ≡ b → ((frames' : List Activation) → IsStacked frames → with_bytes_at frames address new ≡ Some frames' → Keeps frames frames') → Keeps (frame ∷ frames) after
+      by_cover true covered inner =
+          keeps_front frame _ frames frames after stacked.0 stacked.1 refl (next_start-spliced frame covered) (refl, refl, stacked.2) (sym (found_here frame frames address (length new) new refl covered) ∙ e)
+      by_cover false missed inner =
+          keeps_behind frame frames after (with_bytes_at frames address new) stacked.0 stacked.1 (λ frames'. inner frames' stacked.2) (sym (found_beyond frame frames address (length new) new refl missed) ∙ e)
 
-  pub roomy_tried : (found : Bool) (frames after : List Activation) → IsRoomy frames → MatchBool found (with_bytes_at frames address new ≡ Some after) (with_bytes_at frames address new ≡ None) → OnFalse found (after ≡ frames) → IsRoomy after
-  roomy_tried true frames after room written kept = (roomy_written frames after room written).1
-  roomy_tried false frames after room written kept = subst IsRoomy (sym kept) room
+  pub stacked_tried : (found : Bool) (frames after : List Activation) → IsStacked frames → MatchBool found (with_bytes_at frames address new ≡ Some after) (with_bytes_at frames address new ≡ None) → OnFalse found (after ≡ frames) → IsStacked after
+  stacked_tried true frames after stacked written kept = (stacked_written frames after stacked written).2
+  stacked_tried false frames after stacked written kept = subst IsStacked (sym kept) stacked
 
 pub on_false : {P Q : Type 0} (found : Bool) → (P → Q) → OnFalse found P → OnFalse found Q
 on_false true f h = tt

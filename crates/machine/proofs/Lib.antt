@@ -1,5 +1,8 @@
 pub mod Lists
+pub mod WordPieces
+pub mod PageBytes
 pub mod Frames
+pub mod FrameSearch
 pub mod Entry
 pub mod Accesses
 pub mod Calling

@@ -25,7 +25,7 @@ abbrev pub tally_of : Tally → counted.Tally
 tally_of tally = record { counts = counts_in tally.counts; origin = origin_in tally.origins; made = tally.made; objects = tally.objects; free = tally.free }
 
 abbrev pub heap_of : Heap → machine.Heap
-heap_of heap = record { globals = heap.globals.items; pools = heap.pools; tally = tally_of heap.tally }
+heap_of heap = record { globals = heap.globals; pools = heap.pools; tally = tally_of heap.tally }
 
 -- ---- pools
 

@@ -1,3 +1,5 @@
+pub mod Pages
+pub mod Regions
 pub mod Steps
 pub mod Heaps
 pub mod Run

@@ -1,5 +1,6 @@
 -- What one step of the machine does, and what holds of the activations throughout.
-use Rattle.std.specs.Prelude.{◌≡◌, ℕ, ◌+◌, ◌*◌, ◌^◌, ◌≤◌, Bool, IsTrue, IsFalse, List, [], ◌∷◌, ◌++◌, length, option_map, Option, Some, None}
+use Rattle.std.specs.Prelude.{◌≡◌, ℕ, ◌+◌, ◌*◌, ◌^◌, ◌<◌, ◌≤◌, Bool, IsTrue, IsFalse, List, [], ◌∷◌, ◌++◌, length, option_map, Option, Some, None}
+use Rattle.std.specs.List.Sorted.{IsPartitionPoint}
 use Rattle.byteorder.specs.Endian.{little_bytes, little_number}
 use Rattle.run_theory.specs.Runs as runs
 use Rattle.run_theory.specs.Runs.{Trace, output_of, Move, To, Halt, Final}
@@ -216,7 +217,17 @@ PushesNext (Over ends.ReadFault) old left new left' = (new ≡ old) × (left' �
 PushesNext (Over ends.OutOfMemory) old left new left' = (new ≡ old) × (left' ≡ left)
 PushesNext (Over _) old left new left' = ⊥
 
--- No frame ends past where that many frames of 2 ^ 36 bytes would: parameters and extra bytes are fewer.
-abbrev pub IsRoomy : List Activation → Type 0
-IsRoomy [] = Unit {0}
-IsRoomy (frame ∷ frames) = (next_start frame ≤ 2 ^ 40 + 2 ^ 36 * (length frames + 1)) × IsRoomy frames
+-- where the innermost of some frames ends
+abbrev pub end_of : List Activation → ℕ
+end_of [] = 0
+end_of (frame ∷ frames) = next_start frame
+
+-- Frames lie one after another, each where its caller's ends or behind. None ends past where that many frames of 2 ^ 36 bytes
+-- would: parameters and extra bytes are fewer.
+abbrev pub IsStacked : List Activation → Type 0
+IsStacked [] = Unit {0}
+IsStacked (frame ∷ frames) = (next_start frame ≤ 2 ^ 40 + 2 ^ 36 * (length frames + 1)) × (end_of frames ≤ frame.start) × IsStacked frames
+
+-- Of these frames, the outermost one first, so many begin at an address or before it, and the others behind it.
+abbrev pub BeginUpTo : ℕ → List Activation → ℕ → Type 0
+BeginUpTo address frames count = IsPartitionPoint (λ (frame : Activation). frame.start ≤ address) (λ (frame : Activation). address < frame.start) frames count

@@ -1,6 +1,7 @@
 // A function that was called and has not returned: its place, its operands and its frame.
 
 ghost use Rattle.std.specs.Prelude.{◌≡◌, ◌≢◌, suc, ◌+◌, ◌-◌, ◌%◌, ◌^◌, ◌<◌, ◌≤◌, [], ◌∷◌, length, take, drop, reverse, Some, None};
+ghost use Rattle.std.specs.Bool.{OnFalse};
 ghost use Rattle.std.specs.Prelude.{IfOk, IfSome, OnOk, OnErr, IsTrue, ◌↔◌, MatchOption, if◌then◌else◌};
 ghost use Rattle.byteorder.specs.Endian.{little_bytes};
 ghost use Rattle.pcc_outside.specs.Outside.{Rose};
@@ -11,7 +12,9 @@ ghost use Rattle.machine.specs.Promises.{entry_of, frame_number, with_frame_word
 
 use crate::ends::{RunEnd, Step};
 use crate::heap::Heap;
-use crate::words::{input_word, number_in};
+use crate::pages::Spare;
+use crate::region::{Region, is_small};
+use crate::words::input_word;
 use byteorder::{ByteOrder, LittleEndian};
 use image_form::PoolKind;
 use pcc_outside::{Source, read_byte};
@@ -32,7 +35,7 @@ pub(crate) struct Activation {
     /// The address of the frame.
     start: u64,
     /// The frame.
-    bytes: Vec<u8>,
+    bytes: Region,
 }
 
 impl Model for Activation {
@@ -41,7 +44,7 @@ impl Model for Activation {
 
     ghost Value = { machine.Activation };
 
-    ghost view = { λ a. record { function = a.function; place = a.place; operands = reverse a.operands.items; start = a.start; bytes = a.bytes.items } };
+    ghost view = { λ a. record { function = a.function; place = a.place; operands = reverse a.operands.items; start = a.start; bytes = a.bytes } };
 }
 
 impl Activation {
@@ -57,13 +60,19 @@ impl Activation {
     ) -> Result<Activation, AllocError>
         ensures { IfOk result (λ a. a ≡ entry_of function start parameters.now extra) }
     {
-        let mut bytes = Vec::with_capacity(alloc, 8 * parameters.len() + extra as usize)?;
+        let len = 8 * parameters.len() + extra as usize;
+        let room = if is_small(len) {
+            len
+        } else {
+            8 * parameters.len()
+        };
+        let mut bytes = Vec::with_capacity(alloc, room)?;
         let mut word_bytes = [0u8; 8];
         for word in parameters {
             LittleEndian::write_u64(&mut word_bytes, *word);
             bytes.extend_from_slice(&word_bytes)?;
         }
-        bytes.resize(bytes.len() + extra as usize, 0)?;
+        let bytes = Region::new(alloc, bytes, extra as usize)?;
         Ok(Activation {
             function,
             place: 0,
@@ -144,6 +153,7 @@ impl Activation {
         requires { self.old.place + 1 < 2 ^ 64 }
         ensures pushed { PushesNext result self.old (I.left input.old) self.new (I.left input.new) }
         ensures frame { next_start self.new ≡ next_start self.old }
+        ensures start { self.new.start ≡ self.old.start }
         ensures fault { result ≡ Step.Over RunEnd.ReadFault → Rose (I.faults input.old) (I.faults input.new) }
         ensures faultless { result ≢ Step.Over RunEnd.ReadFault → I.faults input.new ≡ I.faults input.old }
         ensures other { result ≢ Step.Over RunEnd.WriteFault }
@@ -267,6 +277,13 @@ impl Activation {
         self.start.wrapping_add(offset)
     }
 
+    /// Where the frame begins.
+    pub(crate) fn start(&self) -> u64
+        ensures { result ≡ self.now.start }
+    {
+        self.start
+    }
+
     /// Where the next frame begins.
     pub(crate) fn next_start(&self) -> u64
         requires { next_start self.now < 2 ^ 64 }
@@ -296,29 +313,21 @@ impl Activation {
         ensures small { IfSome result (λ number. number < 256 ^ size) }
     {
         let offset = self.offset_of(address, size)?;
-        Some(number_in(&self.bytes[offset..offset + size]))
-    }
-
-    /// Writes the lowest `size` bytes of a word so many bytes behind the start of the frame.
-    fn put(&mut self, offset: usize, word: u64, size: usize)
-        requires high { size ≤ 8 }
-        requires inside { offset + size ≤ length self.old.bytes }
-        ensures { self.new ≡ record self.old { bytes = spliced self.old.bytes offset (little_bytes size word) } }
-    {
-        let mut word_bytes = [0u8; 8];
-        LittleEndian::write_u64(&mut word_bytes, word);
-        self.bytes[offset..offset + size].copy_from_slice(&word_bytes[..size]);
+        Some(self.bytes.read(offset, size))
     }
 
     /// Writes the lowest `size` bytes of a word from `address` on, if they lie in the frame, and says whether they do.
-    pub(crate) fn write(&mut self, address: u64, word: u64, size: usize) -> bool
-        requires { size ≤ 8 }
+    pub(crate) fn write(&mut self, address: u64, word: u64, size: usize, spare: &mut Spare) -> bool
+        requires low { 1 ≤ size }
+        requires high { size ≤ 8 }
+        requires spare { 2 ≤ spare.old }
         ensures written { result ≡ covers self.old address size }
         ensures bytes { self.new ≡ with_frame_word self.old address size word }
+        ensures spare { OnFalse result (spare.new ≡ spare.old) }
     {
         match self.offset_of(address, size) {
             Some(offset) => {
-                self.put(offset, word, size);
+                self.bytes.write(offset, word, size, spare);
                 true
             }
             None => false,

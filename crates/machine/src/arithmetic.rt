@@ -19,6 +19,7 @@ impl Activation {
         requires { self.old.place + 1 < 2 ^ 64 }
         ensures performs { (function : machine.Function) → PerformsAlone function (Instr.Binary operator int_type) self.old result self.new }
         ensures frame { next_start self.new ≡ next_start self.old }
+        ensures start { self.new.start ≡ self.old.start }
     {
         let Some((left, right)) = self.last_two() else {
             return Step::trap(TrapKind::StackEmpty);
@@ -32,6 +33,7 @@ impl Activation {
         requires { self.old.place + 1 < 2 ^ 64 }
         ensures performs { (function : machine.Function) → PerformsAlone function (Instr.Compare relation int_type) self.old result self.new }
         ensures frame { next_start self.new ≡ next_start self.old }
+        ensures start { self.new.start ≡ self.old.start }
     {
         let Some((left, right)) = self.last_two() else {
             return Step::trap(TrapKind::StackEmpty);
@@ -45,6 +47,7 @@ impl Activation {
         requires { self.old.place + 1 < 2 ^ 64 }
         ensures performs { (function : machine.Function) → PerformsAlone function (Instr.Negate int_type) self.old result self.new }
         ensures frame { next_start self.new ≡ next_start self.old }
+        ensures start { self.new.start ≡ self.old.start }
     {
         let Some(operand) = self.last() else {
             return Step::trap(TrapKind::StackEmpty);
@@ -58,6 +61,7 @@ impl Activation {
         requires { self.old.place + 1 < 2 ^ 64 }
         ensures performs { (function : machine.Function) → PerformsAlone function (Instr.Complement int_type) self.old result self.new }
         ensures frame { next_start self.new ≡ next_start self.old }
+        ensures start { self.new.start ≡ self.old.start }
     {
         let Some(operand) = self.last() else {
             return Step::trap(TrapKind::StackEmpty);
@@ -71,6 +75,7 @@ impl Activation {
         requires { self.old.place + 1 < 2 ^ 64 }
         ensures performs { (function : machine.Function) → PerformsAlone function (Instr.Convert int_type) self.old result self.new }
         ensures frame { next_start self.new ≡ next_start self.old }
+        ensures start { self.new.start ≡ self.old.start }
     {
         let Some(operand) = self.last() else {
             return Step::trap(TrapKind::StackEmpty);

@@ -14,6 +14,7 @@ use crate::activation::Activation;
 use crate::ends::{RunEnd, Step};
 use crate::heap::Heap;
 use crate::memory::{read_from, write_to};
+use crate::pages::Spare;
 use crate::words::{bytes_in, converted_word, size_of};
 use c_num::IntType;
 use image_form::{Function, Image, PoolKind};
@@ -61,13 +62,13 @@ pub(crate) struct Calls {
 
 impl Model for Calls {
     ghost use Rattle.std.specs.Prelude.{◌∷◌, reverse};
-    ghost use Rattle.machine.specs.Steps.{CallStack, IsRoomy};
+    ghost use Rattle.machine.specs.Steps.{CallStack, IsStacked};
 
     ghost Value = { CallStack };
 
     ghost view = { λ c. record { innermost = c.innermost; callers = reverse c.callers.items } };
 
-    ghost invariant = { λ c. IsRoomy (c.innermost ∷ reverse c.callers.items) };
+    ghost invariant = { λ c. IsStacked (c.innermost ∷ reverse c.callers.items) };
 }
 
 impl Calls {
@@ -105,17 +106,28 @@ impl Calls {
         if number.is_some() {
             return number;
         }
+        if self.innermost.start() <= address {
+            return None;
+        }
         read_from(&self.callers, address, size)
     }
 
     /// Writes the lowest `size` bytes of a word from `address` on, if they lie in one living frame, and says whether they do.
-    fn write(&mut self, address: u64, word: u64, size: usize) -> bool
-        requires { size ≤ 8 }
+    fn write(&mut self, address: u64, word: u64, size: usize, spare: &mut Spare) -> bool
+        requires low { 1 ≤ size }
+        requires high { size ≤ 8 }
+        requires spare { 2 ≤ spare.old }
         ensures written { Writes result (with_bytes_at (activations_of self.old) address (little_bytes size word)) (activations_of self.new) }
         ensures kept { OnFalse result (self.new ≡ self.old) }
+        ensures spare { OnFalse result (spare.new ≡ spare.old) }
     {
-        self.innermost.write(address, word, size)
-            || write_to(&mut self.callers, address, word, size)
+        if self.innermost.write(address, word, size, spare) {
+            return true;
+        }
+        if self.innermost.start() <= address {
+            return false;
+        }
+        write_to(&mut self.callers, address, word, size, spare)
     }
 
     /// The number in the `size` bytes from `address` on, if they lie in one living frame, in the globals, or in one live
@@ -138,9 +150,10 @@ impl Calls {
     fn put(&mut self, heap: &mut Heap, address: u64, word: u64, size: usize) -> bool
         requires low { 1 ≤ size }
         requires high { size ≤ 8 }
+        requires spare { 2 ≤ heap.old.spare }
         ensures { Puts (activations_of self.old) (heap_of heap.old) address size word result (activations_of self.new) (heap_of heap.new) }
     {
-        self.write(address, word, size) || heap.write(address, word, size)
+        self.write(address, word, size, &mut heap.spare) || heap.write(address, word, size)
     }
 
     /// Loads a value in the place of its address.
@@ -166,6 +179,9 @@ impl Calls {
         let Some((address, word)) = self.innermost.last_two() else {
             return Step::trap(TrapKind::StackEmpty);
         };
+        if heap.spare.fill().is_err() {
+            return Step::Over(RunEnd::OutOfMemory);
+        }
         self.innermost.discard(2);
         if self.put(heap, address, word, bytes_in(width)) {
             Step::On
@@ -198,6 +214,9 @@ impl Calls {
         let Some((address, value, pool)) = self.innermost.last_three() else {
             return Step::trap(TrapKind::StackEmpty);
         };
+        if heap.spare.fill().is_err() {
+            return Step::Over(RunEnd::OutOfMemory);
+        }
         let index = heap.pools.index(PoolId(pool), value);
         self.innermost.discard(3);
         if self.put(heap, address, u64::from(index), LINK) {

@@ -10,9 +10,9 @@ ghost use Rattle.pool_isa.specs.Machine.{in_globals, globals_start, heap_word, w
 ghost use Rattle.machine.specs.Heaps.{heap_of, PlacesAt, FreesTo};
 ghost use Rattle.machine.specs.Promises.{heap_within, Writes};
 
+use crate::pages::Spare;
+use crate::region::Region;
 use crate::tally::Tally;
-use crate::words::number_in;
-use byteorder::{ByteOrder, LittleEndian};
 use image_form::{Globals, MachineLimits};
 use pool_isa::Site;
 use pool_runtime::{AllocEnd, OutOfMemory, PoolId, PoolKind, Pools};
@@ -24,9 +24,11 @@ const GLOBALS_START: u64 = 4096;
 /// Globals and pools.
 #[derive(Drop)]
 pub(crate) struct Heap {
-    pub(crate) globals: Vec<u8>,
+    pub(crate) globals: Region,
     pub(crate) pools: Pools,
     pub(crate) tally: Tally,
+    /// For the next write.
+    pub(crate) spare: Spare,
 }
 
 impl Heap {
@@ -42,20 +44,19 @@ impl Heap {
         requires index { 1 ≤ limits.index }
         ensures { IfOk result (λ heap. heap_of heap ≡ heap_within globals.now limits) }
     {
-        let size = globals.size as usize;
-        let mut bytes = Vec::with_capacity(alloc, size)?;
-        bytes.extend_from_slice(&globals.contents)?;
-        bytes.resize(size, 0)?;
+        let contents = Vec::from_slice(alloc, &globals.contents)?;
+        let behind = globals.size as usize - contents.len();
         Ok(Heap {
-            globals: bytes,
+            globals: Region::new(alloc, contents, behind)?,
             pools: Pools::new(alloc, limits.slabs, limits.index),
             tally: Tally::new(alloc, limits.slabs),
+            spare: Spare::new(alloc),
         })
     }
 
     /// Where the `size` bytes from `address` on stand in the globals, if they lie there.
     fn offset_of(&self, address: u64, size: usize) -> Option<usize>
-        ensures { result ≡ (if in_globals self.now.globals.items address size then Some (address - globals_start) else None) }
+        ensures { result ≡ (if in_globals self.now.globals address size then Some (address - globals_start) else None) }
     {
         let offset = address.checked_sub(GLOBALS_START)?;
         let behind = (self.globals.len() as u64).checked_sub(offset)?;
@@ -76,20 +77,7 @@ impl Heap {
         let Some(offset) = self.offset_of(address, size) else {
             return self.pools.load(address, size);
         };
-        Some(number_in(&self.globals[offset..offset + size]))
-    }
-
-    /// Writes the lowest `size` bytes of a word so many bytes behind the start of the globals.
-    fn put(&mut self, offset: usize, word: u64, size: usize)
-        requires high { size ≤ 8 }
-        requires inside { offset + size ≤ length self.old.globals.items }
-        ensures globals { self.new.globals.items ≡ spliced self.old.globals.items offset (little_bytes size word) }
-        ensures pools { self.new.pools ≡ self.old.pools }
-        ensures tally { self.new.tally ≡ self.old.tally }
-    {
-        let mut word_bytes = [0u8; 8];
-        LittleEndian::write_u64(&mut word_bytes, word);
-        self.globals[offset..offset + size].copy_from_slice(&word_bytes[..size]);
+        Some(self.globals.read(offset, size))
     }
 
     /// Writes the lowest `size` bytes of a word from `address` on, if they lie in the globals or in one live cell or
@@ -97,12 +85,13 @@ impl Heap {
     pub(crate) fn write(&mut self, address: u64, word: u64, size: usize) -> bool
         requires low { 1 ≤ size }
         requires high { size ≤ 8 }
+        requires spare { 2 ≤ self.old.spare }
         ensures written { Writes result (with_heap_word (heap_of self.old) address size word) (heap_of self.new) }
         ensures kept { OnFalse result (heap_of self.new ≡ heap_of self.old) }
     {
         match self.offset_of(address, size) {
             Some(offset) => {
-                self.put(offset, word, size);
+                self.globals.write(offset, word, size, &mut self.spare);
                 true
             }
             None => self.pools.store(address, size, word),

@@ -17,6 +17,7 @@ impl Activation {
         requires { self.old.place + 1 < 2 ^ 64 }
         ensures performs { (function : machine.Function) → function.height ≡ height → PerformsAlone function (Instr.Constant word) self.old result self.new }
         ensures frame { next_start self.new ≡ next_start self.old }
+        ensures start { self.new.start ≡ self.old.start }
     {
         if self.is_full(height) {
             return Step::trap(TrapKind::StackFull);
@@ -32,6 +33,7 @@ impl Activation {
         requires { self.old.place + 1 < 2 ^ 64 }
         ensures performs { (function : machine.Function) → function.height ≡ height → PerformsAlone function Instr.Duplicate self.old result self.new }
         ensures frame { next_start self.new ≡ next_start self.old }
+        ensures start { self.new.start ≡ self.old.start }
     {
         match self.last() {
             Some(word) => self.push_if_room(word, height),
@@ -44,6 +46,7 @@ impl Activation {
         requires { self.old.place + 1 < 2 ^ 64 }
         ensures performs { (function : machine.Function) → PerformsAlone function Instr.Discard self.old result self.new }
         ensures frame { next_start self.new ≡ next_start self.old }
+        ensures start { self.new.start ≡ self.old.start }
     {
         if self.height() == 0 {
             return Step::trap(TrapKind::StackEmpty);
@@ -57,6 +60,7 @@ impl Activation {
         requires { self.old.place + 1 < 2 ^ 64 }
         ensures performs { (function : machine.Function) → PerformsAlone function Instr.Swap self.old result self.new }
         ensures frame { next_start self.new ≡ next_start self.old }
+        ensures start { self.new.start ≡ self.old.start }
     {
         let Some((first, last)) = self.last_two() else {
             return Step::trap(TrapKind::StackEmpty);
@@ -82,6 +86,7 @@ impl Activation {
         requires { self.old.place + 1 < 2 ^ 64 }
         ensures performs { (function : machine.Function) → PerformsAlone function (Instr.JumpIfZero target) self.old result self.new }
         ensures frame { next_start self.new ≡ next_start self.old }
+        ensures start { self.new.start ≡ self.old.start }
     {
         let Some(word) = self.last() else {
             return Step::trap(TrapKind::StackEmpty);
@@ -95,6 +100,7 @@ impl Activation {
         requires { self.old.place + 1 < 2 ^ 64 }
         ensures performs { (function : machine.Function) → PerformsAlone function (Instr.JumpIfNotZero target) self.old result self.new }
         ensures frame { next_start self.new ≡ next_start self.old }
+        ensures start { self.new.start ≡ self.old.start }
     {
         let Some(word) = self.last() else {
             return Step::trap(TrapKind::StackEmpty);
@@ -119,6 +125,7 @@ impl Activation {
         requires alone { IsAlone instr }
         ensures performs { (function : machine.Function) → function.height ≡ height → PerformsAlone function instr self.old result self.new }
         ensures frame { next_start self.new ≡ next_start self.old }
+        ensures start { self.new.start ≡ self.old.start }
     {
         match instr {
             Instr::Constant(word) => self.push_if_room(word, height),

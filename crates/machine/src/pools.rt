@@ -39,6 +39,7 @@ impl Activation {
         requires kinds { AllByRecursion IsKind kinds.now }
         ensures performs { PoolsWithKinds kinds.now height (Instr.PoolInit kind) self.old (heap_of heap.old) result self.new (heap_of heap.new) }
         ensures frame { next_start self.new ≡ next_start self.old }
+        ensures start { self.new.start ≡ self.old.start }
     {
         let Some(kind) = kinds.get(kind as usize) else {
             return Step::trap(TrapKind::Reached);
@@ -57,6 +58,7 @@ impl Activation {
         requires { self.old.place + 1 < 2 ^ 64 }
         ensures performs { PoolsAnywhere Instr.PoolDestroy self.old (heap_of heap.old) result self.new (heap_of heap.new) }
         ensures frame { next_start self.new ≡ next_start self.old }
+        ensures start { self.new.start ≡ self.old.start }
     {
         let Some(pool) = self.last() else {
             return Step::trap(TrapKind::StackEmpty);
@@ -75,6 +77,7 @@ impl Activation {
         requires { self.old.place + 1 < 2 ^ 64 }
         ensures performs { PoolsAnywhere Instr.PoolAlloc self.old (heap_of heap.old) result self.new (heap_of heap.new) }
         ensures frame { next_start self.new ≡ next_start self.old }
+        ensures start { self.new.start ≡ self.old.start }
     {
         let Some((pool, bytes)) = self.last_two() else {
             return Step::trap(TrapKind::StackEmpty);
@@ -102,6 +105,7 @@ impl Activation {
         requires { self.old.place + 1 < 2 ^ 64 }
         ensures performs { PoolsAnywhere Instr.PoolFree self.old (heap_of heap.old) result self.new (heap_of heap.new) }
         ensures frame { next_start self.new ≡ next_start self.old }
+        ensures start { self.new.start ≡ self.old.start }
     {
         let Some((pool, address)) = self.last_two() else {
             return Step::trap(TrapKind::StackEmpty);

@@ -459,6 +459,131 @@ fn calls_take_parameters_and_reach_outer_frames(rt: HostRuntime) -> Result<(), F
     Ok(())
 }
 
+// A callee's frame begins with its caller's address and a number; the innermost one doubles the numbers, from itself outward.
+#[test]
+fn frames_of_outer_functions_are_found(rt: HostRuntime) -> Result<(), Fail> {
+    let alloc = rt.alloc();
+    let chain = [
+        Instr::Local(8),
+        Instr::Load(IntType::ULong),
+        Instr::JumpIfZero(10),
+        Instr::Local(0),
+        Instr::Local(8),
+        Instr::Load(IntType::ULong),
+        Instr::Constant(1),
+        Instr::Binary(BinOp::Sub, IntType::ULong),
+        Instr::Call(1),
+        Instr::Return,
+        // The caller's number is doubled and written out.
+        Instr::Local(0),
+        Instr::Load(IntType::ULong),
+        Instr::JumpIfZero(34),
+        Instr::Local(0),
+        Instr::Load(IntType::ULong),
+        Instr::Constant(8),
+        Instr::Binary(BinOp::Add, IntType::ULong),
+        Instr::Duplicate,
+        Instr::Load(IntType::UChar),
+        Instr::Duplicate,
+        Instr::Binary(BinOp::Add, IntType::UChar),
+        Instr::Store(Width::One),
+        Instr::Local(0),
+        Instr::Load(IntType::ULong),
+        Instr::Constant(8),
+        Instr::Binary(BinOp::Add, IntType::ULong),
+        Instr::Load(IntType::UChar),
+        Instr::PutChar,
+        Instr::Discard,
+        // The caller's caller is next.
+        Instr::Local(0),
+        Instr::Duplicate,
+        Instr::Load(IntType::ULong),
+        Instr::Load(IntType::ULong),
+        Instr::Store(Width::Eight),
+        Instr::Local(0),
+        Instr::Load(IntType::ULong),
+        Instr::JumpIfNotZero(10),
+    ];
+    let start = [Instr::Constant(0), Instr::Constant(9), Instr::Call(1)];
+    let mut calls = image(alloc, &start, 2, &chain)?;
+    calls.functions[1].height = 3;
+    let (end, _, written) = ran(alloc, &calls, b"", &[], 1000)?;
+    assert_eq!(rt; end, RunEnd::Ended(0));
+    assert_eq!(rt; written, [2, 4, 6, 8, 10, 12, 14, 16, 18].to_vec(alloc)?);
+    Ok(())
+}
+
+// Such a frame lies in pages of 4,096 bytes, which are zero until they are written.
+#[test]
+fn words_of_a_large_frame_cross_pages(rt: HostRuntime) -> Result<(), Fail> {
+    let alloc = rt.alloc();
+    let mut code = [
+        Instr::Local(4092),
+        Instr::Constant(0x0807_0605_0403_0201),
+        Instr::Store(Width::Eight),
+    ]
+    .to_vec(alloc)?;
+    for offset in 4092..4101 {
+        code.extend_from_slice(&[
+            Instr::Local(offset),
+            Instr::Load(IntType::UChar),
+            Instr::PutChar,
+            Instr::Discard,
+        ])?;
+    }
+    // A word across the pages is moved to the end of the frame.
+    code.extend_from_slice(&[
+        Instr::Local(69_992),
+        Instr::Local(4091),
+        Instr::Load(IntType::ULong),
+        Instr::Store(Width::Eight),
+        Instr::Local(69_992),
+        Instr::Load(IntType::ULong),
+        Instr::Constant(0x0706_0504_0302_0100),
+        Instr::Compare(Relation::Eq, IntType::ULong),
+        Instr::Exit,
+    ])?;
+    let mut large = image(alloc, &code, 0, &[])?;
+    large.functions[0].extra = 70_000;
+    let (end, _, written) = ran(alloc, &large, b"", &[], 1000)?;
+    assert_eq!(rt; end, RunEnd::Ended(1));
+    assert_eq!(rt; written, [1, 2, 3, 4, 5, 6, 7, 8, 0].to_vec(alloc)?);
+    let table = [
+        (40_956, RunEnd::Ended(0)),
+        (69_992, RunEnd::Ended(0)),
+        (69_993, RunEnd::Trapped(TrapKind::BadAccess)),
+    ];
+    for (offset, wanted) in table {
+        let code = [
+            Instr::Local(offset),
+            Instr::Load(IntType::ULong),
+            Instr::Exit,
+        ];
+        large.functions[0].code = code.to_vec(alloc)?;
+        assert_eq!(rt; ran(alloc, &large, b"", &[], 10)?.0, wanted, "{offset}");
+    }
+    Ok(())
+}
+
+// The contents reach into the second page.
+#[test]
+fn large_globals_begin_with_their_contents(rt: HostRuntime) -> Result<(), Fail> {
+    let alloc = rt.alloc();
+    let across = [
+        Instr::Constant(4096 + 4094),
+        Instr::Load(IntType::UInt),
+        Instr::Constant(256 * 256 - 1),
+        Instr::Binary(BinOp::Rem, IntType::UInt),
+        Instr::Exit,
+    ];
+    let mut large = image(alloc, &across, 0, &[])?;
+    large.globals.size = 100_000;
+    large.globals.contents.resize(4097, 9)?;
+    // 9 + 9 * 256 + 9 * 65,536, modulo 65,535 and then 256.
+    assert_eq!(rt; ran(alloc, &large, b"", &[], 1000)?.0, RunEnd::Ended(18));
+    Ok(())
+}
+
 #[test]
 fn the_call_at_depth_10_000_ends_the_run(rt: HostRuntime) -> Result<(), Fail> {
     let alloc = rt.alloc();

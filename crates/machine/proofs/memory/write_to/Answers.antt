@@ -1,41 +1,33 @@
-use Rattle.std.proofs.Common.{◌≡◌, ◌-◌, List, true, false, Some, get_or, take, drop, set, reverse, subst, sym, ap, ◌∙◌, arith}
-use Rattle.std.proofs.lemmas.List.{set-get_or}
+use Rattle.std.proofs.Common.{◌≡◌, ◌+◌, sym, ap, ◌∙◌, arith}
 use Rattle.byteorder.specs.Endian.{little_bytes}
 use Rattle.byteorder.specs.Numbers.{length-bytes_low_first}
-use Rattle.pool_isa.specs.Machine.{Activation, covers, with_bytes_at}
-use Rattle.machine.proofs.Frames.{behind, write_found, write_on, after_found, after_missed}
+use Rattle.pool_isa.specs.Machine.{covers}
+use Rattle.machine.specs.Promises.{with_frame_word}
+use Rattle.machine.proofs.FrameSearch.{write_none, written_last, kept_last}
 use Rattle.machine.proofs.memory.write_to.Goals as goal
 
-pub returns-then-write-clause-written : goal.returns-then-write-clause-written
-returns-then-write-clause-written c =
-    let xs = c.loop-index.callers in
-    let i = c.loop-index.index in
-    let k = i - 1 in
-    let x = c.index-callers-index.result in
-    let address = c.args.address in
-    let size = c.args.size in
-    let new = little_bytes size c.args.word in
-    let is = c.index-callers-index.is in
-    let covered : covers x address size ≡ true = ap (λ f. covers f address size) is ∙ sym c.write.ensures.written ∙ c.if-write.true in
-    let found = write_found xs i k address size x new (length-bytes_low_first 0 size c.args.word) (omega arith) (omega arith) is covered c.loop-index.invariant.searched in
-    let after = after_found x (get_or xs k x) c.write.new.self address size new is c.write.ensures.bytes covered in
-    ap (λ fs. with_bytes_at (reverse fs) address new) (sym c.loop-index.invariant.same) ∙ found ∙ ap (λ f. Some (reverse (set xs k f))) (sym after)
+pub returns-in-Some-clause-written : goal.returns-in-Some-clause-written
+returns-in-Some-clause-written c =
+    let count = c.begun_at.result in let last = c.in-Some.last in let x = c.index-callers-last.result in
+    let address = c.args.address in let size = c.args.size in let word = c.args.word in
+    let e : count ≡ last + 1 = omega arith in
+    let is = c.index-callers-last.is in
+    written_last c.args.callers.now address size count c.requires.low c.requires.stacked c.begun_at.ensures.within c.begun_at.ensures.point last x e is
+    (little_bytes size word) (length-bytes_low_first 0 size word) c.write.result c.write.new.self
+    (c.write.ensures.written ∙ ap (λ f. covers f address size) (sym is)) (c.write.ensures.bytes ∙ ap (λ f. with_frame_word f address size word) (sym is))
 
-pub loop-index-preserved : goal.loop-index-preserved
-loop-index-preserved c =
-    let xs = c.loop-index.callers in
-    let i = c.loop-index.index in
-    let k = i - 1 in
-    let x = c.index-callers-index.result in
-    let address = c.args.address in
+pub returns-in-Some-clause-kept : goal.returns-in-Some-clause-kept
+returns-in-Some-clause-kept c =
+    let count = c.begun_at.result in let last = c.in-Some.last in let x = c.index-callers-last.result in
+    let address = c.args.address in let size = c.args.size in let word = c.args.word in
+    let e : count ≡ last + 1 = omega arith in
+    let is = c.index-callers-last.is in
+    kept_last c.args.callers.now address size count c.requires.low c.requires.stacked c.begun_at.ensures.within c.begun_at.ensures.point last x e is
+    (little_bytes size word) (length-bytes_low_first 0 size word) c.write.result c.write.new.self
+    (c.write.ensures.written ∙ ap (λ f. covers f address size) (sym is)) (c.write.ensures.bytes ∙ ap (λ f. with_frame_word f address size word) (sym is))
+
+pub returns-in-None-clause-written : goal.returns-in-None-clause-written
+returns-in-None-clause-written c =
     let size = c.args.size in
-    let new = little_bytes size c.args.word in
-    let is = c.index-callers-index.is in
-    let missed : covers x address size ≡ false = ap (λ f. covers f address size) is ∙ sym c.write.ensures.written ∙ c.if-write.false in
-    let on = write_on xs i k address size x new (length-bytes_low_first 0 size c.args.word) (omega arith) (omega arith) is missed c.loop-index.invariant.searched in
-    let after = after_missed x (get_or xs k x) c.write.new.self address size new is c.write.ensures.bytes missed in
-    let kept : set xs k c.write.new.self ≡ xs = ap (set xs k) after ∙ set-get_or xs k x in
-    record {
-      same = kept ∙ c.loop-index.invariant.same;
-      searched = subst (λ (ys : List Activation). with_bytes_at (reverse ys) address new ≡ behind (reverse (drop k ys)) (with_bytes_at (reverse (take k ys)) address new)) (sym kept) on;
-    }
+    write_none c.args.callers.now c.args.address size c.begun_at.result c.requires.low c.requires.stacked c.begun_at.ensures.within c.begun_at.ensures.point
+    (little_bytes size c.args.word) (length-bytes_low_first 0 size c.args.word) (omega arith)

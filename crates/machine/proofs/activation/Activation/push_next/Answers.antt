@@ -11,4 +11,4 @@ returns-in-Ok-clause-pushed g c = λ input told.
     let pushed : c.push.new.self.items ≡ words ++ c.input_word.result ∷ [] = search rules in
     let turned : reverse c.push.new.self.items ≡ input_word input ∷ reverse words =
     ap reverse pushed ∙ (reverse-append words (c.input_word.result ∷ []) ∙ ap (λ word. word ∷ reverse words) taken.0) in
-    (rw (← c.self.view_is) (ap (λ (operands : List ℕ). record { function = inside.function; place = inside.place + 1; operands = operands; start = inside.start; bytes = inside.bytes.items }) turned), taken.1)
+    (rw (← c.self.view_is) (ap (λ (operands : List ℕ). record { function = inside.function; place = inside.place + 1; operands = operands; start = inside.start; bytes = inside.bytes }) turned), taken.1)

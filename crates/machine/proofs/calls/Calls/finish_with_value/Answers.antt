@@ -3,7 +3,7 @@ use Rattle.std.specs.Prelude.{slice_get}
 use Rattle.std.proofs.lemmas.Bool.Decides.{nat_tests}
 use Rattle.image_form.specs.Form.{function_of}
 use Rattle.pool_isa.specs.Machine.{Activation, with_one, returned_value}
-use Rattle.machine.specs.Steps.{IsRoomy, GoesInside, state_of}
+use Rattle.machine.specs.Steps.{IsStacked, GoesInside, state_of}
 use Rattle.machine.proofs.Lists.{reverse-set_last}
 use Rattle.machine.proofs.Returning.{reverse-last, function_there, function_missing, return_reached, return_full, return_on}
 use Rattle.machine.proofs.calls.Calls.finish_with_value.Goals as goal
@@ -48,8 +48,8 @@ invariant_of-self-in-Ok c =
     let at : c.len-last.result - 1 ≡ length callers - 1 = omega arith in
     let turned : reverse (set callers (c.len-last.result - 1) c.give.new.self) ≡ given ∷ drop 1 (reverse callers) =
     ap (λ n. reverse (set callers n c.give.new.self)) at ∙ reverse-set_last callers c.give.new.self there ∙ ap (λ (f : Activation). f ∷ drop 1 (reverse callers)) c.in-Ok.ensures.ok in
-    let room : IsRoomy (innermost ∷ given ∷ drop 1 (reverse callers)) = subst (λ (fs : List Activation). IsRoomy (innermost ∷ fs)) front c.self.invariant in
-    subst (λ (fs : List Activation). IsRoomy (innermost ∷ fs)) (sym turned) room
+    let room : IsStacked (innermost ∷ given ∷ drop 1 (reverse callers)) = subst (λ (fs : List Activation). IsStacked (innermost ∷ fs)) front c.self.invariant in
+    subst (λ (fs : List Activation). IsStacked (innermost ∷ fs)) (sym turned) room
 
 pub returns-in-Ok : goal.returns-in-Ok
 returns-in-Ok c = λ code function heap h history input trace.

@@ -2,7 +2,7 @@ use Rattle.std.proofs.Common.{◌∷◌, reverse}
 use Rattle.pool_isa.specs.Machine.{bytes_in}
 use Rattle.machine.specs.Steps.{state_of, activations_of}
 use Rattle.machine.specs.Heaps.{heap_of}
-use Rattle.machine.proofs.Accesses.{store_two}
+use Rattle.machine.proofs.Accesses.{store_two, store_two_missed}
 use Rattle.machine.proofs.calls.Calls.store.Goals as goal
 
 pub returns-then-put : goal.returns-then-put
@@ -12,3 +12,12 @@ returns-then-put c = λ code function history input trace.
     let state = state_of (top ∷ callers) (heap_of c.args.heap.now) history input trace in
     let puts = rw c.bytes_in.ensures.size at c.if-put.ensures in
     rw (← c.self.view_is) (store_two c.in-Some.address (bytes_in c.args.width) top c.discard.new.self callers state (activations_of c.put.new.self) (heap_of c.put.new.heap) c.in-Some.word c.in-Some.ensures c.discard.ensures puts)
+
+pub returns-else-put : goal.returns-else-put
+returns-else-put c = λ code function history input trace.
+    let top = c.self.inside.innermost in
+    let callers = reverse c.self.inside.callers.items in
+    let state = state_of (top ∷ callers) (heap_of c.args.heap.now) history input trace in
+    let puts = rw c.bytes_in.ensures.size at c.if-put.ensures in
+    rw (← c.self.view_is, c.trap-else-put.ensures)
+    (store_two_missed c.in-Some.address (bytes_in c.args.width) top c.discard.new.self callers state (activations_of c.put.new.self) (heap_of c.put.new.heap) c.in-Some.word c.in-Some.ensures c.discard.ensures puts)
