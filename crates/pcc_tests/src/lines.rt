@@ -79,9 +79,23 @@ fn no_lines(rt: HostRuntime) -> Result<(), Fail> {
         "poolcc exec help f",
         "poolcc exec f --file g",
         "poolcc exec f --=5",
+        "poolcc exec f --one-pool --one-pool",
+        "poolcc build --one-pool f --one-pool",
+        "poolcc exec f --one-pool=x",
+        "poolcc exec f --one-pool=",
+        "poolcc build f --one-pool=true",
+        "poolcc exec f --one-pool true",
+        "poolcc exec f -one-pool",
+        "poolcc build f --one-poo",
+        "poolcc exec f --one-pools",
+        "poolcc exec --one-pool",
+        "poolcc exec f --steps --one-pool",
+        "poolcc exec f -- --one-pool",
         "poolcc run f --slabs 1",
         "poolcc run f --index 1",
+        "poolcc run f --one-pool",
         "poolcc ref f --slabs 1",
+        "poolcc ref --one-pool f",
         "poolcc build f --steps 1",
         "poolcc build",
         "poolcc ref",
@@ -101,7 +115,25 @@ fn exec(file: &str, steps: u64) -> Line<'_> {
     Line::Exec {
         file,
         limits: LIMITS,
+        one_pool: false,
         steps,
+    }
+}
+
+fn exec_with_one_pool(file: &str, steps: u64) -> Line<'_> {
+    Line::Exec {
+        file,
+        limits: LIMITS,
+        one_pool: true,
+        steps,
+    }
+}
+
+fn build(file: &str, limits: Limits, one_pool: bool) -> Line<'_> {
+    Line::Build {
+        file,
+        limits,
+        one_pool,
     }
 }
 
@@ -132,34 +164,54 @@ fn lines(rt: HostRuntime) -> Result<(), Fail> {
             Line::Exec {
                 file: "f",
                 limits,
+                one_pool: false,
                 steps: 2,
             },
         ),
+        ("poolcc exec f --one-pool", exec_with_one_pool("f", STEPS)),
+        ("poolcc exec --one-pool f", exec_with_one_pool("f", STEPS)),
+        (
+            "poolcc exec --steps 5 --one-pool f",
+            exec_with_one_pool("f", 5),
+        ),
+        (
+            "poolcc exec --one-pool f --steps=5",
+            exec_with_one_pool("f", 5),
+        ),
+        (
+            "poolcc exec --one-pool -- --one-pool",
+            exec_with_one_pool("--one-pool", STEPS),
+        ),
+        ("poolcc exec -- --one-pool", exec("--one-pool", STEPS)),
         (
             "poolcc build f --slabs 1 --index 3",
-            Line::Build { file: "f", limits },
+            build("f", limits, false),
         ),
         (
             "poolcc build --index 3 f --slabs 1",
-            Line::Build { file: "f", limits },
+            build("f", limits, false),
+        ),
+        (
+            "poolcc build --index 3 --one-pool f --slabs 1",
+            build("f", limits, true),
+        ),
+        (
+            "poolcc build f --one-pool --index 3 --slabs 1",
+            build("f", limits, true),
         ),
         (
             "poolcc build f --slabs 1048576 --index 4294967295",
-            Line::Build {
-                file: "f",
-                limits: Limits {
+            build(
+                "f",
+                Limits {
                     slabs: 1_048_576,
                     index: 4_294_967_295,
                 },
-            },
+                false,
+            ),
         ),
-        (
-            "poolcc build f",
-            Line::Build {
-                file: "f",
-                limits: LIMITS,
-            },
-        ),
+        ("poolcc build f", build("f", LIMITS, false)),
+        ("poolcc build one-pool", build("one-pool", LIMITS, false)),
         (
             "poolcc run f",
             Line::Run {

@@ -1,13 +1,15 @@
 -- The line that the code makes of what was found.
-use Rattle.std.proofs.Common.{◌≡◌, ◌∙◌, Bool, true, false, refl, sym, ap, List, Option, Some, None, codes}
-use Rattle.std.specs.Prelude.{option_map}
+use Rattle.std.proofs.Common.{◌≡◌, ◌∙◌, ◌||◌, Bool, cond, true, false, refl, sym, ap, List, [], ◌∷◌, map, Option, Some, None, codes, is_some}
+use Rattle.std.specs.Prelude.{find, option_map}
 use Rattle.std.specs.Option.{option_map_or}
 use Rattle.std.specs.Str.{bytes_eq}
 use Rattle.std.specs.Box.{box_value}
-use Rattle.clap.specs.Matches.{found_of, subcommand_name_of}
+use Rattle.clap.specs.Matches.{found_of, matched_of, subcommand_name_of}
 use Rattle.clap.specs.Simple.{subcommand_rows_of}
-use Rattle.clap.specs.Walk.{Row, Text, first_of, rows_of}
+use Rattle.clap.specs.Facts.{Entry}
+use Rattle.clap.specs.Walk.{Row, Text, first_of, has_row, row_of, rows_of}
 use Rattle.clap.specs.declared.parser.matches.ArgMatches.{ArgMatches}
+use Rattle.clap.specs.declared.parser.matches.Found.{Found}
 use Rattle.clap.specs.declared.parser.matches.ArgMatches.TheViews.{out-ArgMatches, out-SubCommand}
 use Rattle.pcc_words.specs.Line.{NoCommand, NoLine}
 use Rattle.pcc_words.specs.Found.{file_line, found_line}
@@ -36,3 +38,16 @@ not_text a b differ = go (bytes_eq a b) refl
 pub no_command : (name : Text) (rows : List Row) (file : Text) → (name ≡ codes "build" → ⊥) → (name ≡ codes "exec" → ⊥) → (name ≡ codes "run" → ⊥) → (name ≡ codes "ref" → ⊥)
     → NoCommand ≡ file_line name rows file
 no_command name rows file a b c d = rw (not_text name (codes "build") a, not_text name (codes "exec") b, not_text name (codes "run") c, not_text name (codes "ref") d) refl
+
+-- an id has an entry where it has a row
+pub given_row : (found : Found) (id : Text) → is_some (matched_of found id) ≡ has_row id (rows_of found)
+given_row found id = go found.entries.items
+  where
+    go : (entries : List Entry) → is_some (option_map (λ (e : Entry). e.1) (find (λ (e : Entry). bytes_eq e.0.now id) entries)) ≡ has_row id (map row_of entries)
+    go [] = refl
+    go (e ∷ entries) = pick (bytes_eq e.0.now id) (go entries)
+      where
+        pick : (b : Bool) → is_some (option_map (λ (e : Entry). e.1) (find (λ (e : Entry). bytes_eq e.0.now id) entries)) ≡ has_row id (map row_of entries)
+            → is_some (option_map (λ (e : Entry). e.1) (cond b (Some e) (find (λ (e : Entry). bytes_eq e.0.now id) entries))) ≡ (b || has_row id (map row_of entries))
+        pick true ih = refl
+        pick false ih = ih

@@ -1,3 +1,4 @@
+pub mod FlagRule
 pub mod FoundLine
 pub mod NumberReads
 pub mod NumberRule

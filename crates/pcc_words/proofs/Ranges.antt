@@ -7,7 +7,7 @@ use Rattle.clap.specs.Walk.{Text}
 use Rattle.clap.proofs.WalkLemmas.{both}
 use Rattle.pcc_words.specs.declared.line.Line.{Line as CodeLine}
 use Rattle.pcc_words.specs.declared.line.Line.TheVariants as code
-use Rattle.pcc_words.specs.Line.{Limits, Line, NoCommand, NoLine, Build, Exec, Run, Ref, Part, Setting, Slabs, Index, Steps, build_line, command_line, default_of, exec_line, limits_in, line_from, line_of, most_of, name_of, number_in, number_of, part_at, ref_line, run_line, words_joined}
+use Rattle.pcc_words.specs.Line.{Limits, Line, NoCommand, NoLine, Build, Exec, Run, Ref, Choice, Part, Setting, Slabs, Index, Steps, build_choices, exec_choices, run_choices, build_line, command_line, default_of, exec_line, limits_in, line_from, line_of, most_of, name_of, number_in, number_of, part_at, ref_line, run_line, words_joined}
 use Rattle.pcc_words.specs.Seen.{HasRanges, line_seen}
 use Rattle.pcc_words.proofs.WordNumbers.{AllGood, GoodIf, good_at, good_words}
 
@@ -38,8 +38,8 @@ AreWithin limits = IsWithin 1048576 limits.slabs × IsWithin 4294967295 limits.i
 abbrev IsRanged : Line → Type 0
 IsRanged NoCommand = Unit {0}
 IsRanged NoLine = Unit {0}
-IsRanged (Build file limits) = AreWithin limits
-IsRanged (Exec file limits steps) = AreWithin limits × IsWithin (2 ^ 62) steps
+IsRanged (Build file limits one_pool) = AreWithin limits
+IsRanged (Exec file limits one_pool steps) = AreWithin limits × IsWithin (2 ^ 62) steps
 IsRanged (Run file steps) = IsWithin (2 ^ 62) steps
 IsRanged (Ref file steps) = IsWithin (2 ^ 62) steps
 
@@ -58,8 +58,8 @@ module _ (make : List Part → Text → Line) (ranged : (parts : List Part) (fil
       go None = tt
       go (Some file) = ranged parts file good
 
-  command_ranged : (settings : List Setting) (words : List Text) → IsRanged (command_line make settings words)
-  command_ranged settings words = from_ranged (words_joined settings words None []) (good_words settings words None [] tt)
+  command_ranged : (choices : List Choice) (words : List Text) → IsRanged (command_line make choices words)
+  command_ranged choices words = from_ranged (words_joined choices words None []) (good_words choices words None [] tt)
 
 either_ranged : (b : Bool) (one other : Line) → IsRanged one → IsRanged other → IsRanged (cond b one other)
 either_ranged true one other is is_other = is
@@ -69,16 +69,16 @@ line_ranged : (words : List Text) → IsRanged (line_of words)
 line_ranged [] = tt
 line_ranged (name ∷ []) = tt
 line_ranged (name ∷ command ∷ words) =
-    either_ranged (bytes_eq (codes "build") command) _ _ (command_ranged build_line (λ parts file all. limits_within parts all) (Slabs ∷ Index ∷ []) words)
-    (either_ranged (bytes_eq (codes "exec") command) _ _ (command_ranged exec_line (λ parts file all. (limits_within parts all, steps_within parts all)) (Slabs ∷ Index ∷ Steps ∷ []) words)
-    (either_ranged (bytes_eq (codes "run") command) _ _ (command_ranged run_line (λ parts file all. steps_within parts all) (Steps ∷ []) words)
-    (either_ranged (bytes_eq (codes "ref") command) _ _ (command_ranged ref_line (λ parts file all. steps_within parts all) (Steps ∷ []) words) tt)))
+    either_ranged (bytes_eq (codes "build") command) _ _ (command_ranged build_line (λ parts file all. limits_within parts all) build_choices words)
+    (either_ranged (bytes_eq (codes "exec") command) _ _ (command_ranged exec_line (λ parts file all. (limits_within parts all, steps_within parts all)) exec_choices words)
+    (either_ranged (bytes_eq (codes "run") command) _ _ (command_ranged run_line (λ parts file all. steps_within parts all) run_choices words)
+    (either_ranged (bytes_eq (codes "ref") command) _ _ (command_ranged ref_line (λ parts file all. steps_within parts all) run_choices words) tt)))
 
 seen_ranged : (line : CodeLine) → IsRanged (line_seen line) → HasRanges line
 seen_ranged code.NoCommand is = tt
 seen_ranged code.NoLine is = tt
-seen_ranged (code.Build file limits) is = record { slabs = is.0; index = is.1 }
-seen_ranged (code.Exec file limits steps) is = (record { slabs = is.0.0; index = is.0.1 }, is.1)
+seen_ranged (code.Build file limits one_pool) is = record { slabs = is.0; index = is.1 }
+seen_ranged (code.Exec file limits one_pool steps) is = (record { slabs = is.0.0; index = is.0.1 }, is.1)
 seen_ranged (code.Run file steps) is = is
 seen_ranged (code.Ref file steps) is = is
 

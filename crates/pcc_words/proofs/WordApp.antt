@@ -11,7 +11,7 @@ use Rattle.clap.specs.Simple.{App, Shape, built, entered, label_of, names_of, ne
 use Rattle.clap.specs.declared.error.kind.ErrorKind.TheVariants.{DisplayHelp, InvalidSubcommand, MissingSubcommand, UnknownArgument}
 use Rattle.clap.proofs.WalkLemmas.{walk_stopped}
 use Rattle.clap.proofs.FaultLemmas.{stopped_fault}
-use Rattle.pcc_words.specs.Line.{Line, Look, Dashes, Named, Valued, Letters, Plain, NoCommand, NoLine, Build, Exec, Run, Ref, Part, Setting, Slabs, Index, Steps, build_line, exec_line, run_line, ref_line, command_line, line_from, line_of, look_of, part_at, words_joined}
+use Rattle.pcc_words.specs.Line.{Line, Look, Dashes, Named, Valued, Letters, Plain, NoCommand, NoLine, Build, Exec, Run, Ref, Choice, OnePool, Part, build_choices, exec_choices, run_choices, build_line, exec_line, run_line, ref_line, command_line, line_from, line_of, look_of, part_at, words_joined}
 use Rattle.pcc_words.specs.Clap.{app, names_command}
 use Rattle.pcc_words.specs.Found.{file_line, found_line}
 use Rattle.pcc_words.proofs.WordRules.{built_shape, rows_with, rules_with, some_kind}
@@ -19,7 +19,7 @@ use Rattle.pcc_words.proofs.WordLooks.{HasFlags, LooksLike, dashes, seen}
 use Rattle.pcc_words.proofs.WordWalk.{standing}
 use Rattle.pcc_words.proofs.WordTurns.{AllText}
 use Rattle.pcc_words.proofs.WordLine.{LevelSays, first_part, level_says}
-use Rattle.pcc_words.proofs.WordNumbers.{AllGood, GoodIf, good_words, limits_are, steps_are}
+use Rattle.pcc_words.proofs.WordNumbers.{AllGood, GoodIf, flag_agrees, good_words, limits_are, steps_are}
 
 abbrev pub built_top : Shape
 built_top = record (new_shape (codes "poolcc")) {
@@ -33,8 +33,8 @@ built_top = record (new_shape (codes "poolcc")) {
 abbrev pub built_app : App
 built_app = record {
   top = built_top;
-  subs = built_shape (codes "build") (Slabs ∷ Index ∷ []) ∷ built_shape (codes "exec") (Slabs ∷ Index ∷ Steps ∷ [])
-      ∷ built_shape (codes "run") (Steps ∷ []) ∷ built_shape (codes "ref") (Steps ∷ []) ∷ [];
+  subs = built_shape (codes "build") build_choices ∷ built_shape (codes "exec") exec_choices
+      ∷ built_shape (codes "run") run_choices ∷ built_shape (codes "ref") run_choices ∷ [];
 }
 
 pub app_built : built app ≡ built_app
@@ -95,20 +95,20 @@ module _ (command : Text) (rest : List Text) where
   all_faults = built_fault built_app nothing_held (command ∷ rest)
 
   -- the faults are those of the command's own level
-  known_faults : (name : Text) (settings : List Setting) → subcommand_met names idle command ≡ Some name → bytes_eq name (codes "help") ≡ false
-      → find (λ (s : Shape). answers_to name (label_of s)) built_app.subs ≡ Some (built_shape name settings)
-      → all_faults ≡ or_else (level_fault (built_shape name settings) [] nothing_held rest false []) []
+  known_faults : (name : Text) (choices : List Choice) → subcommand_met names idle command ≡ Some name → bytes_eq name (codes "help") ≡ false
+      → find (λ (s : Shape). answers_to name (label_of s)) built_app.subs ≡ Some (built_shape name choices)
+      → all_faults ≡ or_else (level_fault (built_shape name choices) [] nothing_held rest false []) []
   unfolding defaults_fault
-  known_faults name settings met plain is =
+  known_faults name choices met plain is =
       ap (λ k. or_else k (faults_after stop_walk)) (walk_faults name met plain)
       ∙ ap (λ (w : Walk). faults_after w) (walk_is name met)
       ∙ ap (λ (o : Option Shape). or_else (option_map_or (λ (s : Shape). level_fault s [] nothing_held rest false []) o [])
       (or_else [] (or_else [] (check_fault built_top [] (is_some (option_map (λ (s : Shape). rows_at s rest) o)))))) is
 
-  known_rows : (name : Text) (settings : List Setting) → subcommand_met names idle command ≡ Some name
-      → find (λ (s : Shape). answers_to name (label_of s)) built_app.subs ≡ Some (built_shape name settings)
-      → entered built_app stop_walk.stopped ≡ Some (name, rows_after (rules_with settings) [] rest)
-  known_rows name settings met is =
+  known_rows : (name : Text) (choices : List Choice) → subcommand_met names idle command ≡ Some name
+      → find (λ (s : Shape). answers_to name (label_of s)) built_app.subs ≡ Some (built_shape name choices)
+      → entered built_app stop_walk.stopped ≡ Some (name, rows_after (rules_with choices) [] rest)
+  known_rows name choices met is =
       ap (λ (w : Walk). entered built_app w.stopped) (walk_is name met) ∙ ap (λ (o : Option Shape). option_map (λ (s : Shape). rows_at s rest) o) is
 
   -- ---- it is none
@@ -217,23 +217,23 @@ module _ (program command : Text) (rest : List Text) (utf8 : IsUtf8 command) (te
   abbrev sub_found : Option (Text × List Row)
   sub_found = entered built_app (walk [] names nothing_held (command ∷ rest)).stopped
 
-  one_command : (make : List Part → Text → Line) (name : Text) (settings : List Setting) → subcommand_met names idle command ≡ Some name → bytes_eq name (codes "help") ≡ false
-      → find (λ (s : Shape). answers_to name (label_of s)) built_app.subs ≡ Some (built_shape name settings)
+  one_command : (make : List Part → Text → Line) (name : Text) (choices : List Choice) → subcommand_met names idle command ≡ Some name → bytes_eq name (codes "help") ≡ false
+      → find (λ (s : Shape). answers_to name (label_of s)) built_app.subs ≡ Some (built_shape name choices)
       → ((parts : List Part) (file : Text) → AllGood parts → file_line name (rows_with parts) file ≡ make parts file)
-      → Says (command_line make settings rest) kinds_found sub_found true
-  one_command make name settings met plain is same =
-      let level = level_line make name (words_joined settings rest None []) (level_fault (built_shape name settings) [] nothing_held rest false []) (rows_after (rules_with settings) [] rest) same
-      (level_says name settings rest texts) (good_words settings rest None [] tt) in
-      let faults = known_faults command rest name settings met plain is in (
-        λ none. ap (λ s. found_line s) (known_rows command rest name settings met is) ∙ level.0 (first_none _ [] (sym faults ∙ none)),
+      → Says (command_line make choices rest) kinds_found sub_found true
+  one_command make name choices met plain is same =
+      let level = level_line make name (words_joined choices rest None []) (level_fault (built_shape name choices) [] nothing_held rest false []) (rows_after (rules_with choices) [] rest) same
+      (level_says name choices rest texts) (good_words choices rest None [] tt) in
+      let faults = known_faults command rest name choices met plain is in (
+        λ none. ap (λ s. found_line s) (known_rows command rest name choices met is) ∙ level.0 (first_none _ [] (sym faults ∙ none)),
         λ some. level.1 (λ none. some (faults ∙ ap (λ k. or_else k []) none)),
       )
 
   same_build : (parts : List Part) (file : Text) → AllGood parts → file_line (codes "build") (rows_with parts) file ≡ build_line parts file
-  same_build parts file all = ap (λ l. Build file l) (limits_are parts all)
+  same_build parts file all = λ i. Build file (limits_are parts all i) (flag_agrees OnePool parts i)
 
   same_exec : (parts : List Part) (file : Text) → AllGood parts → file_line (codes "exec") (rows_with parts) file ≡ exec_line parts file
-  same_exec parts file all = λ i. Exec file (limits_are parts all i) (steps_are parts all i)
+  same_exec parts file all = λ i. Exec file (limits_are parts all i) (flag_agrees OnePool parts i) (steps_are parts all i)
 
   same_run : (parts : List Part) (file : Text) → AllGood parts → file_line (codes "run") (rows_with parts) file ≡ run_line parts file
   same_run parts file all = ap (λ n. Run file n) (steps_are parts all)
@@ -247,17 +247,17 @@ module _ (program command : Text) (rest : List Text) (utf8 : IsUtf8 command) (te
       go : (a b c d : Bool) → bytes_eq (codes "build") command ≡ a → bytes_eq (codes "exec") command ≡ b → bytes_eq (codes "run") command ≡ c → bytes_eq (codes "ref") command ≡ d
           → Says (line_of (program ∷ command ∷ rest)) kinds_found sub_found (names_command app (program ∷ command ∷ rest))
       go true b c d ea eb ec ed =
-          says_as (line_of (program ∷ command ∷ rest)) (command_line build_line (Slabs ∷ Index ∷ []) rest) kinds_found sub_found (names_command app (program ∷ command ∷ rest)) true (rw ea refl) (rw ea refl)
-          (one_command build_line (codes "build") (Slabs ∷ Index ∷ []) (rw ea refl) refl refl same_build)
+          says_as (line_of (program ∷ command ∷ rest)) (command_line build_line build_choices rest) kinds_found sub_found (names_command app (program ∷ command ∷ rest)) true (rw ea refl) (rw ea refl)
+          (one_command build_line (codes "build") build_choices (rw ea refl) refl refl same_build)
       go false true c d ea eb ec ed =
-          says_as (line_of (program ∷ command ∷ rest)) (command_line exec_line (Slabs ∷ Index ∷ Steps ∷ []) rest) kinds_found sub_found (names_command app (program ∷ command ∷ rest)) true (rw (ea, eb) refl) (rw (ea, eb) refl)
-          (one_command exec_line (codes "exec") (Slabs ∷ Index ∷ Steps ∷ []) (rw (ea, eb) refl) refl refl same_exec)
+          says_as (line_of (program ∷ command ∷ rest)) (command_line exec_line exec_choices rest) kinds_found sub_found (names_command app (program ∷ command ∷ rest)) true (rw (ea, eb) refl) (rw (ea, eb) refl)
+          (one_command exec_line (codes "exec") exec_choices (rw (ea, eb) refl) refl refl same_exec)
       go false false true d ea eb ec ed =
-          says_as (line_of (program ∷ command ∷ rest)) (command_line run_line (Steps ∷ []) rest) kinds_found sub_found (names_command app (program ∷ command ∷ rest)) true (rw (ea, eb, ec) refl) (rw (ea, eb, ec) refl)
-          (one_command run_line (codes "run") (Steps ∷ []) (rw (ea, eb, ec) refl) refl refl same_run)
+          says_as (line_of (program ∷ command ∷ rest)) (command_line run_line run_choices rest) kinds_found sub_found (names_command app (program ∷ command ∷ rest)) true (rw (ea, eb, ec) refl) (rw (ea, eb, ec) refl)
+          (one_command run_line (codes "run") run_choices (rw (ea, eb, ec) refl) refl refl same_run)
       go false false false true ea eb ec ed =
-          says_as (line_of (program ∷ command ∷ rest)) (command_line ref_line (Steps ∷ []) rest) kinds_found sub_found (names_command app (program ∷ command ∷ rest)) true (rw (ea, eb, ec, ed) refl) (rw (ea, eb, ec, ed) refl)
-          (one_command ref_line (codes "ref") (Steps ∷ []) (rw (ea, eb, ec, ed) refl) refl refl same_ref)
+          says_as (line_of (program ∷ command ∷ rest)) (command_line ref_line run_choices rest) kinds_found sub_found (names_command app (program ∷ command ∷ rest)) true (rw (ea, eb, ec, ed) refl) (rw (ea, eb, ec, ed) refl)
+          (one_command ref_line (codes "ref") run_choices (rw (ea, eb, ec, ed) refl) refl refl same_ref)
       go false false false false ea eb ec ed =
           says_as (line_of (program ∷ command ∷ rest)) NoCommand kinds_found sub_found (names_command app (program ∷ command ∷ rest)) false (rw (ea, eb, ec, ed) refl) (rw (ea, eb, ec, ed) refl)
           (λ none. absurd (unknown command rest (rw (ea, eb, ec, ed) refl) (look_of command) (seen command utf8) none), λ some. refl)

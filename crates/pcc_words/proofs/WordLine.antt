@@ -13,8 +13,8 @@ use Rattle.clap.specs.Simple.{Shape}
 use Rattle.clap.specs.declared.error.kind.ErrorKind.TheVariants.{MissingRequiredArgument}
 use Rattle.clap.proofs.WalkLemmas.{both, find-map}
 use Rattle.clap.proofs.SimpleLemmas.{is_nil}
-use Rattle.pcc_words.specs.Line.{Part, Setting, part_at, words_joined}
-use Rattle.pcc_words.proofs.WordRules.{built_setting, built_shape, row_with, rows_with, rules_with, some_kind}
+use Rattle.pcc_words.specs.Line.{Choice, Part, part_at, words_joined}
+use Rattle.pcc_words.proofs.WordRules.{built_choice, built_shape, row_with, rows_with, rules_with, some_kind}
 use Rattle.pcc_words.proofs.WordWalk.{Agrees, end_rows, total}
 use Rattle.pcc_words.proofs.WordTurns.{AllText, words_end}
 
@@ -48,9 +48,9 @@ no_defaults (a ∷ c) rows e =
       ap (λ rs. fold with_default rs c) one.1 ∙ rest.1,
     )
 
-settings_default : (settings : List Setting) → has_no_defaults (map built_setting settings) ≡ true
-settings_default [] = refl
-settings_default (s ∷ ss) = settings_default ss
+choices_default : (choices : List Choice) → has_no_defaults (map built_choice choices) ≡ true
+choices_default [] = refl
+choices_default (s ∷ ss) = choices_default ss
 
 -- ---- the file is required
 
@@ -78,19 +78,19 @@ one_part label parts = ap (λ o. option_and_then row_text o) (part_row label par
     go None = refl
     go (Some p) = refl
 
-module _ (name : Text) (settings : List Setting) where
+module _ (name : Text) (choices : List Choice) where
   abbrev shape : Shape
-  shape = built_shape name settings
+  shape = built_shape name choices
 
   abbrev rules : List Rule
-  rules = rules_with settings
+  rules = rules_with choices
 
-  none_required : (rows : List Row) (ss : List Setting) → list_any (λ (a : Rule). a.required && not (is_given a.id rows)) (map built_setting ss) ≡ false
+  none_required : (rows : List Row) (ss : List Choice) → list_any (λ (a : Rule). a.required && not (is_given a.id rows)) (map built_choice ss) ≡ false
   none_required rows [] = refl
   none_required rows (s ∷ ss) = none_required rows ss
 
   check_is : (rows : List Row) → check_fault shape rows false ≡ cond (not (is_given (codes "file") rows)) (MissingRequiredArgument ∷ []) []
-  check_is rows = ap (λ b. cond (not (is_given (codes "file") rows) || b) (MissingRequiredArgument ∷ []) []) (none_required rows settings) ∙ go (is_given (codes "file") rows)
+  check_is rows = ap (λ b. cond (not (is_given (codes "file") rows) || b) (MissingRequiredArgument ∷ []) []) (none_required rows choices) ∙ go (is_given (codes "file") rows)
     where
       go : (b : Bool) → ◌≡◌ {A = Kinds} (cond (not b || false) (MissingRequiredArgument ∷ []) []) (cond (not b) (MissingRequiredArgument ∷ []) [])
       go true = refl
@@ -108,21 +108,21 @@ module _ (name : Text) (settings : List Setting) where
       ≡ or_else (total shape (walk_from nothing_held) words) (cond (not (is_given (codes "file") (end_rows shape (walk_from nothing_held) words))) (MissingRequiredArgument ∷ []) [])
   level_is words =
       let rows : List Row = end_rows shape (walk_from nothing_held) words in
-      let plain = no_defaults rules rows (settings_default settings) in
+      let plain = no_defaults rules rows (choices_default choices) in
       split (walk_fault shape [] (walk_from nothing_held) words) (settle_fault rules false (end words)) (or_else (defaults_fault rows rules) (check_fault shape (finished rules (end words)) false))
       ∙ ap₂ (λ k rs. or_else (total shape (walk_from nothing_held) words) (or_else k (check_fault shape rs false))) plain.0 plain.1
       ∙ ap (λ k. or_else (total shape (walk_from nothing_held) words) k) (check_is rows)
 
   rows_are : (words : List Text) → rows_after rules [] words ≡ end_rows shape (walk_from nothing_held) words
-  rows_are words = (no_defaults rules (end_rows shape (walk_from nothing_held) words) (settings_default settings)).1
+  rows_are words = (no_defaults rules (end_rows shape (walk_from nothing_held) words) (choices_default choices)).1
 
   -- the line of the words, where they have one; the level agrees with it
   abbrev pub LevelSays : Option (List Part) → Kinds → List Row → Type 0
   LevelSays None kinds rows = kinds ≡ [] → ⊥
   LevelSays (Some parts) kinds rows = (is_some (part_at (codes "file") parts) ≡ true → (kinds ≡ []) × (rows ≡ rows_with parts)) × (is_some (part_at (codes "file") parts) ≡ false → kinds ≡ [] → ⊥)
 
-  pub level_says : (words : List Text) → AllText words → LevelSays (words_joined settings words None []) (level_fault shape [] nothing_held words false []) (rows_after rules [] words)
-  level_says words texts = go (words_joined settings words None []) (words_end name settings words texts)
+  pub level_says : (words : List Text) → AllText words → LevelSays (words_joined choices words None []) (level_fault shape [] nothing_held words false []) (rows_after rules [] words)
+  level_says words texts = go (words_joined choices words None []) (words_end name choices words texts)
     where
       first_none : (a b : Kinds) → or_else a b ≡ [] → a ≡ []
       first_none [] b e = refl

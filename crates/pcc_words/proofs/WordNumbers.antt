@@ -6,9 +6,9 @@ use Rattle.std.specs.Str.{bytes_eq}
 use Rattle.std.proofs.lemmas.Bool.{leb-true, lt-ltb}
 use Rattle.clap.specs.Walk.{Text}
 use Rattle.clap.proofs.WalkLemmas.{both}
-use Rattle.pcc_words.specs.Line.{Look, Dashes, Named, Valued, Letters, Plain, Part, Setting, Slabs, Index, Steps, Wanting, default_of, file_joined, files_joined, has_part, is_number, joined, limits_in, look_of, most_of, name_of, number_in, number_of, part_at, setting_joined, setting_named, word_joined, words_joined}
-use Rattle.pcc_words.specs.Found.{found_number, is_unsigned, limits_found, number_or}
-use Rattle.pcc_words.proofs.WordRules.{not_file, rows_with, same_name, some-same, some≢none}
+use Rattle.pcc_words.specs.Line.{Look, Dashes, Named, Valued, Letters, Plain, Choice, Numbered, Flagged, Flag, Part, Setting, Slabs, Index, Steps, Wanting, default_of, file_joined, files_joined, flag_in, flag_joined, flag_name, has_part, is_number, joined, limits_in, look_of, most_of, name_of, named_joined, number_in, number_of, part_at, setting_joined, choice_named, valued_joined, word_joined, words_joined}
+use Rattle.pcc_words.specs.Found.{flag_found, found_number, is_unsigned, limits_found, number_or}
+use Rattle.pcc_words.proofs.WordRules.{has_rows, no_setting, not_file, rows_with, same_name, some-same, some≢none}
 use Rattle.pcc_words.proofs.WordLine.{one_part}
 
 -- a value of an option is a number in its range
@@ -45,10 +45,13 @@ good_joined ok label v parts all good = go (has_part label parts) ok good
     go false false good = tt
 
 good_file : (v : Text) (parts : List Part) → AllGood parts → GoodIf (file_joined v parts)
-good_file v parts all = good_joined true (codes "file") v parts all (λ right s is. absurd (true≢false (sym is ∙ not_file s)))
+good_file v parts all = good_joined true (codes "file") v parts all (λ right s is. absurd (true≢false (sym is ∙ not_file (Numbered s))))
 
 good_setting : (s : Setting) (v : Text) (parts : List Part) → AllGood parts → GoodIf (setting_joined s v parts)
 good_setting s v parts all = good_joined (is_number (most_of s) v) (name_of s) v parts all (λ right t is. subst (λ x. is_number (most_of x) v ≡ true) (same_name s t is) right)
+
+good_flag : (flag : Flag) (parts : List Part) → AllGood parts → GoodIf (flag_joined flag parts)
+good_flag flag parts all = good_joined true (flag_name flag) (codes "true") parts all (λ right s is. absurd (true≢false (sym is ∙ no_setting flag s)))
 
 good_then : (f : List Part → Option (List Part)) (r : Option (List Part)) → GoodIf r → ((parts : List Part) → AllGood parts → GoodIf (f parts)) → GoodIf (option_and_then f r)
 good_then f None good next = tt
@@ -58,28 +61,30 @@ good_files : (words : List Text) (parts : List Part) → AllGood parts → GoodI
 good_files [] parts all = all
 good_files (word ∷ words) parts all = good_then (files_joined words) (file_joined word parts) (good_file word parts all) (good_files words)
 
-module _ (settings : List Setting) where
-  good_word : (l : Look) (word : Text) (words : List Text) → ((want : Wanting) (parts : List Part) → AllGood parts → GoodIf (words_joined settings words want parts))
-      → (parts : List Part) → AllGood parts → GoodIf (word_joined settings word l (words_joined settings words) (files_joined words) parts)
+module _ (choices : List Choice) where
+  good_word : (l : Look) (word : Text) (words : List Text) → ((want : Wanting) (parts : List Part) → AllGood parts → GoodIf (words_joined choices words want parts))
+      → (parts : List Part) → AllGood parts → GoodIf (word_joined choices word l (words_joined choices words) (files_joined words) parts)
   good_word Dashes word words ih parts all = good_files words parts all
-  good_word (Named n) word words ih parts all = go (setting_named settings n)
+  good_word (Named n) word words ih parts all = go (choice_named choices n)
     where
-      go : (o : Option Setting) → GoodIf (option_and_then (λ setting. words_joined settings words (Some setting) parts) o)
+      go : (o : Option Choice) → GoodIf (option_and_then (λ choice. named_joined choice (words_joined choices words) parts) o)
       go None = tt
-      go (Some s) = ih (Some s) parts all
-  good_word (Valued n v) word words ih parts all = go (setting_named settings n)
+      go (Some (Numbered s)) = ih (Some s) parts all
+      go (Some (Flagged f)) = good_then (words_joined choices words None) (flag_joined f parts) (good_flag f parts all) (ih None)
+  good_word (Valued n v) word words ih parts all = go (choice_named choices n)
     where
-      go : (o : Option Setting) → GoodIf (option_and_then (λ setting. option_and_then (words_joined settings words None) (setting_joined setting v parts)) o)
+      go : (o : Option Choice) → GoodIf (option_and_then (λ choice. option_and_then (words_joined choices words None) (valued_joined choice v parts)) o)
       go None = tt
-      go (Some s) = good_then (words_joined settings words None) (setting_joined s v parts) (good_setting s v parts all) (ih None)
+      go (Some (Flagged f)) = tt
+      go (Some (Numbered s)) = good_then (words_joined choices words None) (setting_joined s v parts) (good_setting s v parts all) (ih None)
   good_word Letters word words ih parts all = tt
-  good_word Plain word words ih parts all = good_then (words_joined settings words None) (file_joined word parts) (good_file word parts all) (ih None)
+  good_word Plain word words ih parts all = good_then (words_joined choices words None) (file_joined word parts) (good_file word parts all) (ih None)
 
-  pub good_words : (words : List Text) (want : Wanting) (parts : List Part) → AllGood parts → GoodIf (words_joined settings words want parts)
+  pub good_words : (words : List Text) (want : Wanting) (parts : List Part) → AllGood parts → GoodIf (words_joined choices words want parts)
   good_words [] None parts all = all
   good_words [] (Some s) parts all = tt
   good_words (word ∷ words) None parts all = good_word (look_of word) word words (good_words words) parts all
-  good_words (word ∷ words) (Some s) parts all = good_then (words_joined settings words None) (setting_joined s word parts) (good_setting s word parts all) (good_words words None)
+  good_words (word ∷ words) (Some s) parts all = good_then (words_joined choices words None) (setting_joined s word parts) (good_setting s word parts all) (good_words words None)
 
 number_fits : (bits most : ℕ) (t : Text) → most < 2 ^ bits → is_number most t ≡ true → is_unsigned bits t ≡ true
 number_fits bits most t fits e =
@@ -102,3 +107,6 @@ limits_are parts all = λ i. record { slabs = number_is 32 Slabs parts (omega ar
 
 pub steps_are : (parts : List Part) → AllGood parts → found_number 64 Steps (rows_with parts) ≡ number_in Steps parts
 steps_are parts all = number_is 64 Steps parts (omega arith) all
+
+pub flag_agrees : (flag : Flag) (parts : List Part) → flag_found flag (rows_with parts) ≡ flag_in flag parts
+flag_agrees flag parts = has_rows (flag_name flag) parts

@@ -16,7 +16,7 @@ use Rattle.clap.specs.declared.builder.value_parser.ValueParser.TheVariants.{Str
 use Rattle.clap.specs.declared.parser.matches.ValueSource.TheVariants.{CommandLine}
 use Rattle.clap.specs.declared.builder.value_parser.Reading.TheVariants.{AsWritten}
 use Rattle.clap.proofs.WalkLemmas.{list_any-map}
-use Rattle.pcc_words.specs.Line.{Part, Setting, Slabs, Index, Steps, has_part, most_of, name_of, setting_named}
+use Rattle.pcc_words.specs.Line.{Choice, Numbered, Flagged, Flag, OnePool, Part, Setting, Slabs, Index, Steps, choice_name, choice_named, flag_name, has_part, most_of, name_of}
 
 -- an argument with one value a use
 abbrev pub plain_rule : Text → Option Text → Option ℕ → ValueParser → Bool → Rule
@@ -43,14 +43,31 @@ plain_rule id long index parser required = record {
 abbrev pub built_file : Rule
 built_file = plain_rule (codes "file") None (Some 1) String true
 
-abbrev pub built_setting : Setting → Rule
-built_setting setting = plain_rule (name_of setting) (Some (name_of setting)) None (Unsigned 1 (most_of setting)) false
+-- how many values an option takes
+abbrev pub count_of : Choice → ℕ
+count_of (Numbered setting) = 1
+count_of (Flagged flag) = 0
 
-abbrev pub rules_with : List Setting → List Rule
-rules_with settings = built_file ∷ map built_setting settings
+-- the values of a use with none
+abbrev pub missing_of : Choice → List Text
+missing_of (Numbered setting) = []
+missing_of (Flagged flag) = codes "true" ∷ []
 
-abbrev pub built_shape : Text → List Setting → Shape
-built_shape name settings = record (new_shape name) { rules = rules_with settings; disable_help_flag = true; disable_help_subcommand = true; is_built = true }
+abbrev pub parser_of : Choice → ValueParser
+parser_of (Numbered setting) = Unsigned 1 (most_of setting)
+parser_of (Flagged flag) = String
+
+abbrev pub built_choice : Choice → Rule
+built_choice choice = record (plain_rule (choice_name choice) (Some (choice_name choice)) None (parser_of choice) false) {
+  range = Some (record { start_inclusive = count_of choice; end_inclusive = count_of choice });
+  missing = missing_of choice;
+}
+
+abbrev pub rules_with : List Choice → List Rule
+rules_with choices = built_file ∷ map built_choice choices
+
+abbrev pub built_shape : Text → List Choice → Shape
+built_shape name choices = record (new_shape name) { rules = rules_with choices; disable_help_flag = true; disable_help_subcommand = true; is_built = true }
 
 pub some≢none : {X : Type 0} (x : X) → Some x ≡ None → ⊥
 some≢none x e = true≢false (ap (λ o. is_some o) e)
@@ -77,15 +94,34 @@ own_name Slabs = refl
 own_name Index = refl
 own_name Steps = refl
 
-pub not_file : (s : Setting) → bytes_eq (codes "file") (name_of s) ≡ false
-not_file Slabs = refl
-not_file Index = refl
-not_file Steps = refl
+pub flag_own_name : (f : Flag) → bytes_eq (flag_name f) (flag_name f) ≡ true
+flag_own_name OnePool = refl
 
-pub no_file : (s : Setting) → bytes_eq (name_of s) (codes "file") ≡ false
-no_file Slabs = refl
-no_file Index = refl
-no_file Steps = refl
+choice_own_name : (c : Choice) → bytes_eq (choice_name c) (choice_name c) ≡ true
+choice_own_name (Numbered s) = own_name s
+choice_own_name (Flagged f) = flag_own_name f
+
+pub not_file : (c : Choice) → bytes_eq (codes "file") (choice_name c) ≡ false
+not_file (Numbered Slabs) = refl
+not_file (Numbered Index) = refl
+not_file (Numbered Steps) = refl
+not_file (Flagged OnePool) = refl
+
+pub no_file : (c : Choice) → bytes_eq (choice_name c) (codes "file") ≡ false
+no_file (Numbered Slabs) = refl
+no_file (Numbered Index) = refl
+no_file (Numbered Steps) = refl
+no_file (Flagged OnePool) = refl
+
+no_flag : (s : Setting) (f : Flag) → bytes_eq (name_of s) (flag_name f) ≡ false
+no_flag Slabs OnePool = refl
+no_flag Index OnePool = refl
+no_flag Steps OnePool = refl
+
+pub no_setting : (f : Flag) (s : Setting) → bytes_eq (flag_name f) (name_of s) ≡ false
+no_setting OnePool Slabs = refl
+no_setting OnePool Index = refl
+no_setting OnePool Steps = refl
 
 pub same_name : (a b : Setting) → bytes_eq (name_of a) (name_of b) ≡ true → a ≡ b
 same_name Slabs Slabs e = refl
@@ -98,51 +134,60 @@ same_name Steps Slabs e = absurd (true≢false (sym e))
 same_name Steps Index e = absurd (true≢false (sym e))
 same_name Steps Steps e = refl
 
+same_flag : (a b : Flag) → bytes_eq (flag_name a) (flag_name b) ≡ true → a ≡ b
+same_flag OnePool OnePool e = refl
+
+same_choice : (a b : Choice) → bytes_eq (choice_name a) (choice_name b) ≡ true → a ≡ b
+same_choice (Numbered s) (Numbered t) e = ap (λ x. Numbered x) (same_name s t e)
+same_choice (Numbered s) (Flagged f) e = absurd (true≢false (sym e ∙ no_flag s f))
+same_choice (Flagged f) (Numbered s) e = absurd (true≢false (sym e ∙ no_setting f s))
+same_choice (Flagged f) (Flagged g) e = ap (λ x. Flagged x) (same_flag f g e)
+
 -- ---- look-ups
 
-pub by_long : (settings : List Setting) (name : Text) → arg_by_long (rules_with settings) name ≡ option_map built_setting (setting_named settings name)
-by_long settings name = among settings
+pub by_long : (choices : List Choice) (name : Text) → arg_by_long (rules_with choices) name ≡ option_map built_choice (choice_named choices name)
+by_long choices name = among choices
   where
-    among : (ss : List Setting) → find (λ (a : Rule). not (is_some a.index) && has_long a name) (map built_setting ss) ≡ option_map built_setting (setting_named ss name)
+    among : (ss : List Choice) → find (λ (a : Rule). not (is_some a.index) && has_long a name) (map built_choice ss) ≡ option_map built_choice (choice_named ss name)
     among [] = refl
-    among (s ∷ ss) = go (bytes_eq (name_of s) name) (among ss)
+    among (s ∷ ss) = go (bytes_eq (choice_name s) name) (among ss)
       where
-        go : (b : Bool) → find (λ (a : Rule). not (is_some a.index) && has_long a name) (map built_setting ss) ≡ option_map built_setting (setting_named ss name)
-            → cond (b || false) (Some (built_setting s)) (find (λ (a : Rule). not (is_some a.index) && has_long a name) (map built_setting ss))
-            ≡ option_map built_setting (cond b (Some s) (setting_named ss name))
+        go : (b : Bool) → find (λ (a : Rule). not (is_some a.index) && has_long a name) (map built_choice ss) ≡ option_map built_choice (choice_named ss name)
+            → cond (b || false) (Some (built_choice s)) (find (λ (a : Rule). not (is_some a.index) && has_long a name) (map built_choice ss))
+            ≡ option_map built_choice (cond b (Some s) (choice_named ss name))
         go true e = refl
         go false e = e
 
-pub by_short : (settings : List Setting) (x : ℕ) → arg_by_short (rules_with settings) x ≡ None
-by_short settings x = among settings
+pub by_short : (choices : List Choice) (x : ℕ) → arg_by_short (rules_with choices) x ≡ None
+by_short choices x = among choices
   where
-    among : (ss : List Setting) → find (λ (a : Rule). not (is_some a.index) && has_short a x) (map built_setting ss) ≡ None
+    among : (ss : List Choice) → find (λ (a : Rule). not (is_some a.index) && has_short a x) (map built_choice ss) ≡ None
     among [] = refl
     among (s ∷ ss) = among ss
 
-pub by_second : (settings : List Setting) → arg_by_index (rules_with settings) 2 ≡ None
-by_second settings = among settings
+pub by_second : (choices : List Choice) → arg_by_index (rules_with choices) 2 ≡ None
+by_second choices = among choices
   where
-    among : (ss : List Setting) → find (λ (a : Rule). option_map_or (λ k. k == 2) a.index false) (map built_setting ss) ≡ None
+    among : (ss : List Choice) → find (λ (a : Rule). option_map_or (λ k. k == 2) a.index false) (map built_choice ss) ≡ None
     among [] = refl
     among (s ∷ ss) = among ss
 
-id_among : (settings : List Setting) (s : Setting) (name : Text) → setting_named settings name ≡ Some s
-    → find (λ (a : Rule). bytes_eq a.id (name_of s)) (map built_setting settings) ≡ Some (built_setting s)
+id_among : (choices : List Choice) (s : Choice) (name : Text) → choice_named choices name ≡ Some s
+    → find (λ (a : Rule). bytes_eq a.id (choice_name s)) (map built_choice choices) ≡ Some (built_choice s)
 id_among [] s name e = absurd (some≢none s (sym e))
-id_among (t ∷ ts) s name e = go (bytes_eq (name_of t) (name_of s)) (bytes_eq (name_of t) name) refl e (id_among ts s name)
+id_among (t ∷ ts) s name e = go (bytes_eq (choice_name t) (choice_name s)) (bytes_eq (choice_name t) name) refl e (id_among ts s name)
   where
-    go : (b d : Bool) → bytes_eq (name_of t) (name_of s) ≡ b → cond d (Some t) (setting_named ts name) ≡ Some s
-        → (setting_named ts name ≡ Some s → find (λ (a : Rule). bytes_eq a.id (name_of s)) (map built_setting ts) ≡ Some (built_setting s))
-        → cond b (Some (built_setting t)) (find (λ (a : Rule). bytes_eq a.id (name_of s)) (map built_setting ts)) ≡ Some (built_setting s)
-    go true d eq e ih = ap (λ x. Some (built_setting x)) (same_name t s eq)
+    go : (b d : Bool) → bytes_eq (choice_name t) (choice_name s) ≡ b → cond d (Some t) (choice_named ts name) ≡ Some s
+        → (choice_named ts name ≡ Some s → find (λ (a : Rule). bytes_eq a.id (choice_name s)) (map built_choice ts) ≡ Some (built_choice s))
+        → cond b (Some (built_choice t)) (find (λ (a : Rule). bytes_eq a.id (choice_name s)) (map built_choice ts)) ≡ Some (built_choice s)
+    go true d eq e ih = ap (λ x. Some (built_choice x)) (same_choice t s eq)
     go false true eq e ih =
-        absurd (true≢false (sym (own_name s) ∙ ap (λ x. bytes_eq (name_of x) (name_of s)) (sym (some-same t s e)) ∙ eq))
+        absurd (true≢false (sym (choice_own_name s) ∙ ap (λ x. bytes_eq (choice_name x) (choice_name s)) (sym (some-same t s e)) ∙ eq))
     go false false eq e ih = ih e
 
-pub by_id : (settings : List Setting) (s : Setting) (name : Text) → setting_named settings name ≡ Some s → arg_by_id (rules_with settings) (name_of s) ≡ Some (built_setting s)
-by_id settings s name e =
-    ap (λ b. cond b (Some built_file) (find (λ (a : Rule). bytes_eq a.id (name_of s)) (map built_setting settings))) (not_file s) ∙ id_among settings s name e
+pub by_id : (choices : List Choice) (s : Choice) (name : Text) → choice_named choices name ≡ Some s → arg_by_id (rules_with choices) (choice_name s) ≡ Some (built_choice s)
+by_id choices s name e =
+    ap (λ b. cond b (Some built_file) (find (λ (a : Rule). bytes_eq a.id (choice_name s)) (map built_choice choices))) (not_file s) ∙ id_among choices s name e
 
 -- ---- rows
 

@@ -14,15 +14,15 @@ use Rattle.clap.specs.declared.builder.value_parser.ValueParser.TheVariants.{Str
 use Rattle.clap.specs.declared.builder.value_parser.Reading.{Reading}
 use Rattle.clap.specs.declared.builder.value_parser.Reading.TheVariants.{AsWritten}
 use Rattle.clap.specs.declared.parser.matches.ValueSource.TheVariants.{CommandLine}
-use Rattle.pcc_words.specs.Line.{Part, Setting, file_joined, files_joined, has_part, joined, name_of}
+use Rattle.pcc_words.specs.Line.{Choice, Part, choice_name, file_joined, files_joined, has_part, joined}
 use Rattle.pcc_words.proofs.WordRules.{and_false, or_true, no_file, by_second, built_file, built_shape, rules_with, plain_rule, has_part_after, has_rows, row_with, rows_with, some_kind, use_again, use_right, use_wrong, used_new}
 
 -- ---- what the words have come to
 
 -- the parts, or none where they are no line; what is held in the walk agrees
-abbrev pub Holds : List Setting → Option (List Part) → Held → Type 0
-Holds settings None h = (h.skip ≡ 0) × (settle_fault (rules_with settings) false h ≡ [] → ⊥)
-Holds settings (Some parts) h = (h.skip ≡ 0) × (settle_fault (rules_with settings) false h ≡ []) × ((settled (rules_with settings) h).rows ≡ rows_with parts)
+abbrev pub Holds : List Choice → Option (List Part) → Held → Type 0
+Holds choices None h = (h.skip ≡ 0) × (settle_fault (rules_with choices) false h ≡ [] → ⊥)
+Holds choices (Some parts) h = (h.skip ≡ 0) × (settle_fault (rules_with choices) false h ≡ []) × ((settled (rules_with choices) h).rows ≡ rows_with parts)
 
 -- whether the file was given
 abbrev pub IsFull : Option (List Part) → Bool → Type 0
@@ -81,9 +81,9 @@ valued id v rows = record { rows = rows; pending = Some (id, v ∷ []); skip = 0
 
 -- ---- parts
 
-module _ (settings : List Setting) where
+module _ (choices : List Choice) where
   abbrev rules : List Rule
-  rules = rules_with settings
+  rules = rules_with choices
 
   module _ (id : Text) (long : Option Text) (index : Option ℕ) (parser : ValueParser) (required : Bool) where
     abbrev rule : Rule
@@ -99,7 +99,7 @@ module _ (settings : List Setting) where
 
     -- a value that waits to be settled
     pub holds_pending : (v : Text) (parts : List Part) (rows : List Row) → reading_of parser ≡ AsWritten → arg_by_id rules id ≡ Some rule → rows ≡ rows_with parts
-        → Holds settings (joined (accepts false parser v) id v parts) (valued id v rows)
+        → Holds choices (joined (accepts false parser v) id v parts) (valued id v rows)
     holds_pending v parts rows how found same = go (has_part id parts) (accepts false parser v) refl refl
       where
         faults : settle_fault rules false (valued id v rows) ≡ use_fault false rule (v ∷ []) (rows_with parts)
@@ -109,7 +109,7 @@ module _ (settings : List Setting) where
         rows_are = ap (λ o. used_by_id o (v ∷ []) rows) found ∙ ap (λ rs. used rule (v ∷ []) rs) same
 
         go : (b d : Bool) → has_part id parts ≡ b → accepts false parser v ≡ d
-            → Holds settings (cond (not b && d) (Some (parts ++ record { label = id; value = v } ∷ [])) None) (valued id v rows)
+            → Holds choices (cond (not b && d) (Some (parts ++ record { label = id; value = v } ∷ [])) None) (valued id v rows)
         go true d e a = (refl, λ none. use_again id long index parser required v (rows_with parts) (has_rows id parts ∙ e) (sym faults ∙ none))
         go false true e a = (refl, faults ∙ use_right id long index parser required v (rows_with parts) (has_rows id parts ∙ e) a, rows_are ∙ rows_after_use v parts how e)
         go false false e a = (refl, λ none. use_wrong id long index parser required v (rows_with parts) (has_rows id parts ∙ e) a (sym faults ∙ none))
@@ -121,15 +121,15 @@ module _ (settings : List Setting) where
       go true = has_part_after (codes "file") (codes "file") v parts ∙ or_true (has_part (codes "file") parts)
       go false = tt
 
-  pub full_kept : (ok : Bool) (s : Setting) (v : Text) (parts : List Part) (full : Bool) → has_part (codes "file") parts ≡ full → IsFull (joined ok (name_of s) v parts) full
-  full_kept ok s v parts full e = go (not (has_part (name_of s) parts) && ok)
+  pub full_kept : (ok : Bool) (s : Choice) (v : Text) (parts : List Part) (full : Bool) → has_part (codes "file") parts ≡ full → IsFull (joined ok (choice_name s) v parts) full
+  full_kept ok s v parts full e = go (not (has_part (choice_name s) parts) && ok)
     where
       or_none : (b : Bool) → (b || false) ≡ b
       or_none true = refl
       or_none false = refl
 
-      go : (b : Bool) → IsFull (cond b (Some (parts ++ record { label = name_of s; value = v } ∷ [])) None) full
-      go true = has_part_after (codes "file") (name_of s) v parts ∙ ap (λ b. has_part (codes "file") parts || (b || false)) (no_file s) ∙ or_none _ ∙ e
+      go : (b : Bool) → IsFull (cond b (Some (parts ++ record { label = choice_name s; value = v } ∷ [])) None) full
+      go true = has_part_after (codes "file") (choice_name s) v parts ∙ ap (λ b. has_part (codes "file") parts || (b || false)) (no_file s) ∙ or_none _ ∙ e
       go false = tt
 
   pub joined_again : (ok : Bool) (id v : Text) (parts : List Part) → has_part id parts ≡ true → joined ok id v parts ≡ None
@@ -148,7 +148,7 @@ module _ (settings : List Setting) where
 
   module _ (name : Text) where
     abbrev shape : Shape
-    shape = built_shape name settings
+    shape = built_shape name choices
 
     positional_is : (h : Held) → positional_fault rules false built_file h ≡ settle_fault rules false h
     positional_is h = ap (λ b. cond b [] (settle_fault rules false h)) (and_false (is_pending built_file h.pending))
@@ -160,14 +160,14 @@ module _ (settings : List Setting) where
 
     -- the word goes to the file, and the walk goes on
     pub file_word : (h : Held) (waiting : Waiting) (full trailing : Bool) (word : Text) (words : List Text) (r : Option (List Part)) (f : List Part → Option (List Part))
-        → Holds settings r h → IsFull r full
+        → Holds choices r h → IsFull r full
         → turn_fault shape [] (standing h waiting full trailing) word ≡ step_fault shape (cond full 2 1) h value
         → walked rules [] (standing h waiting full trailing) word ≡ to_positional rules (arg_by_index rules (cond full 2 1)) word (standing h waiting full trailing) h
-        → ((q : Option (List Part)) (k : Held) → Holds settings q k → IsFull q true → Agrees (option_and_then f q) (total shape (standing k idle true (trailing || false)) words) (end_rows shape (standing k idle true (trailing || false)) words))
+        → ((q : Option (List Part)) (k : Held) → Holds choices q k → IsFull q true → Agrees (option_and_then f q) (total shape (standing k idle true (trailing || false)) words) (end_rows shape (standing k idle true (trailing || false)) words))
         → Agrees (option_and_then (λ parts. option_and_then f (file_joined word parts)) r) (total shape (standing h waiting full trailing) (word ∷ words)) (end_rows shape (standing h waiting full trailing) (word ∷ words))
     file_word h waiting true trailing word words r f holds is_full turn next on =
         agrees_none _ _ _ (none r is_full) (refuses shape _ word words
-        (some_kind _ _ (turn ∙ ap (λ o. option_map_or (λ a. positional_fault rules false a h) o (stray_fault shape)) (by_second settings)) refl))
+        (some_kind _ _ (turn ∙ ap (λ o. option_map_or (λ a. positional_fault rules false a h) o (stray_fault shape)) (by_second choices)) refl))
       where
         none : (q : Option (List Part)) → IsFull q true → option_and_then (λ parts. option_and_then f (file_joined word parts)) q ≡ None
         none None e = refl
@@ -178,8 +178,8 @@ module _ (settings : List Setting) where
         goes_on shape _ _ word words _ (turn ∙ positional_is h ∙ holds.1) (next ∙ file_next h waiting trailing word)
         (on (file_joined word parts) _ held (full_after true word parts))
       where
-        held : Holds settings (file_joined word parts) (record { rows = (settled rules h).rows; pending = Some (codes "file", word ∷ []); skip = h.skip })
-        held = subst (λ n. Holds settings (file_joined word parts) (record { rows = (settled rules h).rows; pending = Some (codes "file", word ∷ []); skip = n })) (sym holds.0)
+        held : Holds choices (file_joined word parts) (record { rows = (settled rules h).rows; pending = Some (codes "file", word ∷ []); skip = h.skip })
+        held = subst (λ n. Holds choices (file_joined word parts) (record { rows = (settled rules h).rows; pending = Some (codes "file", word ∷ []); skip = n })) (sym holds.0)
             (holds_pending (codes "file") None (Some 1) String true word parts (settled rules h).rows refl refl holds.2)
 
     walked_trailing : (h : Held) (waiting : Waiting) (full : Bool) (word : Text)
@@ -188,7 +188,7 @@ module _ (settings : List Setting) where
     walked_trailing h waiting full word = refl
 
     -- behind `--`
-    pub trailing_ok : (words : List Text) (r : Option (List Part)) (h : Held) (waiting : Waiting) (full : Bool) → Holds settings r h → IsFull r full
+    pub trailing_ok : (words : List Text) (r : Option (List Part)) (h : Held) (waiting : Waiting) (full : Bool) → Holds choices r h → IsFull r full
         → Agrees (option_and_then (files_joined words) r) (total shape (standing h waiting full true) words) (end_rows shape (standing h waiting full true) words)
     trailing_ok [] None h waiting full holds is_full = λ none. holds.1 (sym (total_ends shape (standing h waiting full true)) ∙ none)
     trailing_ok [] (Some parts) h waiting full holds is_full = (total_ends shape (standing h waiting full true) ∙ holds.1, holds.2)

@@ -15,17 +15,24 @@ pub record Limits : Type 0 where
 pub data Line : Type 0 where
   NoCommand : Line
   NoLine : Line
-  Build : (file : List ℕ) (limits : Limits) → Line
-  Exec : (file : List ℕ) (limits : Limits) (steps : ℕ) → Line
+  Build : (file : List ℕ) (limits : Limits) (one_pool : Bool) → Line
+  Exec : (file : List ℕ) (limits : Limits) (one_pool : Bool) (steps : ℕ) → Line
   Run : (file : List ℕ) (steps : ℕ) → Line
   Ref : (file : List ℕ) (steps : ℕ) → Line
 
--- ---- the options, each with a number
+-- ---- the options: a setting has a number, a flag no value
 
 pub data Setting : Type 0 where
   Slabs : Setting
   Index : Setting
   Steps : Setting
+
+pub data Flag : Type 0 where
+  OnePool : Flag
+
+pub data Choice : Type 0 where
+  Numbered : (setting : Setting) → Choice
+  Flagged : (flag : Flag) → Choice
 
 -- what stands behind the dashes of the option
 abbrev pub name_of : Setting → List ℕ
@@ -33,13 +40,20 @@ name_of Slabs = codes "slabs"
 name_of Index = codes "index"
 name_of Steps = codes "steps"
 
--- the greatest number that it takes; the least is 1
+abbrev pub flag_name : Flag → List ℕ
+flag_name OnePool = codes "one-pool"
+
+abbrev pub choice_name : Choice → List ℕ
+choice_name (Numbered setting) = name_of setting
+choice_name (Flagged flag) = flag_name flag
+
+-- the greatest number that a setting takes; the least is 1
 abbrev pub most_of : Setting → ℕ
 most_of Slabs = 1048576
 most_of Index = 4294967295
 most_of Steps = 2 ^ 62
 
--- the number where the option is not given
+-- the number where the setting is not given
 abbrev pub default_of : Setting → ℕ
 default_of Slabs = 65536
 default_of Index = 4294967295
@@ -57,12 +71,23 @@ abbrev pub is_number : ℕ → List ℕ → Bool
 is_number most text = is_numeral (without_leading_plus text) && (nat_lt (number_of text) (2 ^ 64) && (nat_le 1 (number_of text) && nat_le (number_of text) most))
 
 -- the option of this name, among those that a command takes
-abbrev pub setting_named : List Setting → List ℕ → Option Setting
-setting_named settings name = find (λ setting. bytes_eq (name_of setting) name) settings
+abbrev pub choice_named : List Choice → List ℕ → Option Choice
+choice_named choices name = find (λ choice. bytes_eq (choice_name choice) name) choices
+
+-- the options of the commands
+abbrev pub build_choices : List Choice
+build_choices = Numbered Slabs ∷ Numbered Index ∷ Flagged OnePool ∷ []
+
+abbrev pub exec_choices : List Choice
+exec_choices = Numbered Slabs ∷ Numbered Index ∷ Flagged OnePool ∷ Numbered Steps ∷ []
+
+-- of `run` and of `ref`
+abbrev pub run_choices : List Choice
+run_choices = Numbered Steps ∷ []
 
 -- ---- the parts of a line
 
--- a file, under the label `file`, or a value, under the name of its option
+-- a file, under the label `file`; a number, under the name of its setting; or a flag, under its name, which has the value `true`
 pub record Part : Type 0 where
   pub label : List ℕ
   pub value : List ℕ
@@ -82,6 +107,9 @@ file_joined = joined true (codes "file")
 
 abbrev pub setting_joined : Setting → List ℕ → List Part → Option (List Part)
 setting_joined setting value = joined (is_number (most_of setting) value) (name_of setting) value
+
+abbrev pub flag_joined : Flag → List Part → Option (List Part)
+flag_joined flag = joined true (flag_name flag) (codes "true")
 
 -- what a word is by its looks: `--`; `--name`; `--name=value`; `-letters`; or another, as `-` or the empty word
 pub data Look : Type 0 where
@@ -114,26 +142,36 @@ abbrev pub files_joined : List (List ℕ) → List Part → Option (List Part)
 files_joined [] parts = Some parts
 files_joined (word ∷ words) parts = option_and_then (files_joined words) (file_joined word parts)
 
--- what waits for the next word: nothing, or an option for its value
+-- what waits for the next word: nothing, or a setting for its number
 abbrev pub Wanting : Type 0
 Wanting = Option Setting
 
-abbrev pub word_joined : List Setting → List ℕ → Look → (Wanting → List Part → Option (List Part)) → (List Part → Option (List Part)) → List Part → Option (List Part)
-word_joined settings word Dashes next files parts = files parts
-word_joined settings word (Named name) next files parts = option_and_then (λ setting. next (Some setting) parts) (setting_named settings name)
-word_joined settings word (Valued name value) next files parts =
-    option_and_then (λ setting. option_and_then (next None) (setting_joined setting value parts)) (setting_named settings name)
-word_joined settings word Letters next files parts = None
-word_joined settings word Plain next files parts = option_and_then (next None) (file_joined word parts)
+-- `--name`: a setting waits for its number, and a flag is given
+abbrev pub named_joined : Choice → (Wanting → List Part → Option (List Part)) → List Part → Option (List Part)
+named_joined (Numbered setting) next parts = next (Some setting) parts
+named_joined (Flagged flag) next parts = option_and_then (next None) (flag_joined flag parts)
 
--- the parts so far and those of the words, where these are a line. An option is `--name value` or `--name=value`; the
--- options stand before the file or behind it, in any order. A file begins with no dash, but is `-` alone, or stands
+-- `--name=value`: no flag takes a value
+abbrev pub valued_joined : Choice → List ℕ → List Part → Option (List Part)
+valued_joined (Numbered setting) value parts = setting_joined setting value parts
+valued_joined (Flagged flag) value parts = None
+
+abbrev pub word_joined : List Choice → List ℕ → Look → (Wanting → List Part → Option (List Part)) → (List Part → Option (List Part)) → List Part → Option (List Part)
+word_joined choices word Dashes next files parts = files parts
+word_joined choices word (Named name) next files parts = option_and_then (λ choice. named_joined choice next parts) (choice_named choices name)
+word_joined choices word (Valued name value) next files parts =
+    option_and_then (λ choice. option_and_then (next None) (valued_joined choice value parts)) (choice_named choices name)
+word_joined choices word Letters next files parts = None
+word_joined choices word Plain next files parts = option_and_then (next None) (file_joined word parts)
+
+-- the parts so far and those of the words, where these are a line. A setting is `--name value` or `--name=value`, a
+-- flag `--name`, each at most once; they stand before the file or behind it, in any order. A file begins with no dash, but is `-` alone, or stands
 -- behind `--`, where no option is
-abbrev pub words_joined : List Setting → List (List ℕ) → Wanting → List Part → Option (List Part)
-words_joined settings [] None parts = Some parts
-words_joined settings [] (Some setting) parts = None
-words_joined settings (word ∷ words) None parts = word_joined settings word (look_of word) (words_joined settings words) (files_joined words) parts
-words_joined settings (word ∷ words) (Some setting) parts = option_and_then (words_joined settings words None) (setting_joined setting word parts)
+abbrev pub words_joined : List Choice → List (List ℕ) → Wanting → List Part → Option (List Part)
+words_joined choices [] None parts = Some parts
+words_joined choices [] (Some setting) parts = None
+words_joined choices (word ∷ words) None parts = word_joined choices word (look_of word) (words_joined choices words) (files_joined words) parts
+words_joined choices (word ∷ words) (Some setting) parts = option_and_then (words_joined choices words None) (setting_joined setting word parts)
 
 -- ---- lines
 
@@ -143,11 +181,14 @@ number_in setting parts = option_map_or number_of (part_at (name_of setting) par
 abbrev pub limits_in : List Part → Limits
 limits_in parts = record { slabs = number_in Slabs parts; index = number_in Index parts }
 
+abbrev pub flag_in : Flag → List Part → Bool
+flag_in flag parts = has_part (flag_name flag) parts
+
 abbrev pub build_line : List Part → List ℕ → Line
-build_line parts file = Build file (limits_in parts)
+build_line parts file = Build file (limits_in parts) (flag_in OnePool parts)
 
 abbrev pub exec_line : List Part → List ℕ → Line
-exec_line parts file = Exec file (limits_in parts) (number_in Steps parts)
+exec_line parts file = Exec file (limits_in parts) (flag_in OnePool parts) (number_in Steps parts)
 
 abbrev pub run_line : List Part → List ℕ → Line
 run_line parts file = Run file (number_in Steps parts)
@@ -160,15 +201,15 @@ abbrev pub line_from : (List Part → List ℕ → Line) → Option (List Part) 
 line_from make None = NoLine
 line_from make (Some parts) = option_map_or (make parts) (part_at (codes "file") parts) NoLine
 
-abbrev pub command_line : (List Part → List ℕ → Line) → List Setting → List (List ℕ) → Line
-command_line make settings words = line_from make (words_joined settings words None [])
+abbrev pub command_line : (List Part → List ℕ → Line) → List Choice → List (List ℕ) → Line
+command_line make choices words = line_from make (words_joined choices words None [])
 
 abbrev pub line_of : List (List ℕ) → Line
 line_of [] = NoCommand
 line_of (name ∷ []) = NoCommand
 line_of (name ∷ command ∷ words) =
-    if bytes_eq (codes "build") command then command_line build_line (Slabs ∷ Index ∷ []) words
-    else if bytes_eq (codes "exec") command then command_line exec_line (Slabs ∷ Index ∷ Steps ∷ []) words
-    else if bytes_eq (codes "run") command then command_line run_line (Steps ∷ []) words
-    else if bytes_eq (codes "ref") command then command_line ref_line (Steps ∷ []) words
+    if bytes_eq (codes "build") command then command_line build_line build_choices words
+    else if bytes_eq (codes "exec") command then command_line exec_line exec_choices words
+    else if bytes_eq (codes "run") command then command_line run_line run_choices words
+    else if bytes_eq (codes "ref") command then command_line ref_line run_choices words
     else NoCommand

@@ -11,8 +11,8 @@ limits_seen limits = record { slabs = limits.slabs; index = limits.index }
 abbrev pub line_seen : CodeLine → Line
 line_seen code.NoCommand = NoCommand
 line_seen code.NoLine = NoLine
-line_seen (code.Build file limits) = Build file.now (limits_seen limits)
-line_seen (code.Exec file limits steps) = Exec file.now (limits_seen limits) steps
+line_seen (code.Build file limits one_pool) = Build file.now (limits_seen limits) one_pool
+line_seen (code.Exec file limits one_pool steps) = Exec file.now (limits_seen limits) one_pool steps
 line_seen (code.Run file steps) = Run file.now steps
 line_seen (code.Ref file steps) = Ref file.now steps
 
@@ -28,7 +28,7 @@ AreSteps steps = (1 ≤ steps) × (steps ≤ 2 ^ 62)
 abbrev pub HasRanges : CodeLine → Type 0
 HasRanges code.NoCommand = Unit {0}
 HasRanges code.NoLine = Unit {0}
-HasRanges (code.Build file limits) = AreLimits limits
-HasRanges (code.Exec file limits steps) = AreLimits limits × AreSteps steps
+HasRanges (code.Build file limits one_pool) = AreLimits limits
+HasRanges (code.Exec file limits one_pool steps) = AreLimits limits × AreSteps steps
 HasRanges (code.Run file steps) = AreSteps steps
 HasRanges (code.Ref file steps) = AreSteps steps

@@ -1,11 +1,11 @@
 //! The commands of `poolcc`, as `clap` knows them.
 ghost use Rattle.std.specs.Prelude.{◌≡◌, ◌∷◌, [], IfOk, codes};
 ghost use Rattle.clap.specs.Words.{app_of, new_app, with_rule};
-ghost use Rattle.pcc_words.specs.Line.{Index, Slabs, Steps};
-ghost use Rattle.pcc_words.specs.Clap.{IsLocal, app, file_rule, leaf, number_rule, setting_rule};
+ghost use Rattle.pcc_words.specs.Line.{Index, OnePool, Slabs, Steps, build_choices, flag_name};
+ghost use Rattle.pcc_words.specs.Clap.{IsLocal, app, file_rule, flag_rule, leaf, number_rule, setting_rule};
 
 use clap::builder::ValueParser;
-use clap::{Arg, Command};
+use clap::{Arg, ArgAction, Command};
 use std::alloc::{AllocError, Global};
 
 /// The most slabs that the memory of a program may have.
@@ -21,8 +21,8 @@ const MOST_STEPS: u64 = 1 << 62;
 pub(crate) fn poolcc<'a>(alloc: Global) -> Result<Command<'a>, AllocError>
     ensures { IfOk result (λ command. app_of command ≡ app) }
 {
-    let build = with_limits(alloc, of_file(alloc, "build")?)?;
-    let exec = with_steps(alloc, with_limits(alloc, of_file(alloc, "exec")?)?)?;
+    let build = compiling(alloc, "build")?;
+    let exec = with_steps(alloc, compiling(alloc, "exec")?)?;
     let run = with_steps(alloc, of_file(alloc, "run")?)?;
     let reference = with_steps(alloc, of_file(alloc, "ref")?)?;
     Command::new(alloc, "poolcc")
@@ -33,6 +33,14 @@ pub(crate) fn poolcc<'a>(alloc: Global) -> Result<Command<'a>, AllocError>
         .subcommand(exec)?
         .subcommand(run)?
         .subcommand(reference)
+}
+
+// A command that compiles its file.
+fn compiling<'a>(alloc: Global, name: &'a str) -> Result<Command<'a>, AllocError>
+    ensures { IfOk result (λ command. IsLocal command
+        × (app_of command ≡ leaf name.entry.now build_choices)) }
+{
+    with_flags(alloc, with_limits(alloc, of_file(alloc, name)?)?)
 }
 
 // A command that takes a file.
@@ -51,6 +59,13 @@ fn with_limits<'a>(alloc: Global, command: Command<'a>) -> Result<Command<'a>, A
 {
     let command = with_number(alloc, command, "slabs", MOST_SLABS)?;
     with_number(alloc, command, "index", MOST_INDEX)
+}
+
+fn with_flags<'a>(alloc: Global, command: Command<'a>) -> Result<Command<'a>, AllocError>
+    ensures { IfOk result (λ after. (IsLocal command.entry → IsLocal after)
+        × (app_of after ≡ with_rule (app_of command.entry) (flag_rule (flag_name OnePool)))) }
+{
+    with_flag(alloc, command, "one-pool")
 }
 
 fn with_steps<'a>(alloc: Global, command: Command<'a>) -> Result<Command<'a>, AllocError>
@@ -74,4 +89,21 @@ fn with_number<'a>(
         .long(name)
         .value_parser(ValueParser::unsigned(1, most));
     command.arg(number)
+}
+
+// The command with an option `--name` that takes no value.
+fn with_flag<'a>(
+    alloc: Global,
+    command: Command<'a>,
+    name: &'a str,
+) -> Result<Command<'a>, AllocError>
+    ensures { IfOk result (λ after. (IsLocal command.entry → IsLocal after)
+        × (app_of after ≡ with_rule (app_of command.entry) (flag_rule name.entry.now))) }
+{
+    let flag = Arg::new(alloc, name)
+        .long(name)
+        .action(ArgAction::Set)
+        .num_args(0_usize)
+        .default_missing_value("true");
+    command.arg(flag)
 }

@@ -31,11 +31,15 @@ pub enum Line<'a> {
     Build {
         file: &'a str,
         limits: Limits,
+        /// All objects come from one pool.
+        one_pool: bool,
     },
     /// `exec FILE`: compile it, and run the program on its machine.
     Exec {
         file: &'a str,
         limits: Limits,
+        /// All objects come from one pool.
+        one_pool: bool,
         steps: u64,
     },
     /// `run FILE`: run a program that was compiled before.

@@ -1,8 +1,8 @@
 //! What a parse that succeeds found.
 ghost use Rattle.std.specs.Prelude.{◌≡◌};
 ghost use Rattle.clap.specs.Words.{found_of, rows_of, subcommand_rows_of};
-ghost use Rattle.pcc_words.specs.Line.{Steps};
-ghost use Rattle.pcc_words.specs.Found.{found_line, found_number, limits_found};
+ghost use Rattle.pcc_words.specs.Line.{OnePool, Steps};
+ghost use Rattle.pcc_words.specs.Found.{flag_found, found_line, found_number, limits_found};
 ghost use Rattle.pcc_words.specs.Seen.{limits_seen, line_seen};
 
 use crate::line::{Limits, Line};
@@ -28,10 +28,12 @@ pub(crate) fn line_found<'a>(matches: &ArgMatches<'a>) -> Line<'a>
         "build" => Line::Build {
             file,
             limits: limits_in(found),
+            one_pool: one_pool_in(found),
         },
         "exec" => Line::Exec {
             file,
             limits: limits_in(found),
+            one_pool: one_pool_in(found),
             steps: steps_in(found),
         },
         "run" => Line::Run {
@@ -53,6 +55,12 @@ fn limits_in(found: &ArgMatches<'_>) -> Limits
         slabs: found.get_one("slabs").unwrap_or(DEFAULT_SLABS),
         index: found.get_one("index").unwrap_or(DEFAULT_INDEX),
     }
+}
+
+fn one_pool_in(found: &ArgMatches<'_>) -> bool
+    ensures { result ≡ flag_found OnePool (rows_of (found_of found.now)) }
+{
+    found.contains_id("one-pool")
 }
 
 fn steps_in(found: &ArgMatches<'_>) -> u64

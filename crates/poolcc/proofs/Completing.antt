@@ -117,8 +117,8 @@ module _ (text : List ℕ) (limits : MachineLimits) (steps : ℕ) (left base : L
 
 -- a line has one file
 same_file : (file other : List ℕ) (line : Line) → Names line file → Names line other → file ≡ other
-same_file file other (Build named limits) one two = sym one ∙ two
-same_file file other (Exec named limits steps) one two = sym one ∙ two
+same_file file other (Build named limits one_pool) one two = sym one ∙ two
+same_file file other (Exec named limits one_pool steps) one two = sym one ∙ two
 same_file file other (Run named steps) one two = sym one ∙ two
 same_file file other (Ref named steps) one two = sym one ∙ two
 same_file file other NoCommand one two = absurd one

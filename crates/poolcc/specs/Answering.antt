@@ -1,5 +1,5 @@
 -- What a whole command does.
-use Rattle.std.specs.Prelude.{◌≡◌, ℕ, ◌⊎◌, List, Option, Some}
+use Rattle.std.specs.Prelude.{◌≡◌, ℕ, ◌⊎◌, Bool, List, Option, Some}
 use Rattle.pcc_outside.specs.Outside.{Told, Missing, Holds}
 use Rattle.pcc_status.specs.declared.status.Status.{Status}
 use Rattle.pcc_status.specs.declared.status.Status.TheVariants as S
@@ -16,8 +16,8 @@ use Rattle.poolcc.specs.Ref.{RefGives}
 pub record IsAnswer (line : Line) (contents : List ℕ → Told) (left written left' written' : Option (List ℕ)) (answer : Status) : Type 0 where
   pub no_command : line ≡ NoCommand → ((answer ≡ S.Usage U.Command) ⊎ (answer ≡ S.OutOfMemory)) × (left' ≡ left) × (written' ≡ written)
   pub no_line : line ≡ NoLine → ((answer ≡ S.Usage U.Words) ⊎ (answer ≡ S.OutOfMemory)) × (left' ≡ left) × (written' ≡ written)
-  pub build : (file : List ℕ) (limits : Limits) (text base : List ℕ) → line ≡ Build file limits → contents file ≡ Holds text → written ≡ Some base → (left' ≡ left) × BuildGives text (machine_limits limits) base answer written'
-  pub exec : (file : List ℕ) (limits : Limits) (steps : ℕ) (text input base : List ℕ) → line ≡ Exec file limits steps → contents file ≡ Holds text → left ≡ Some input → written ≡ Some base → ExecGives text (machine_limits limits) steps input base answer left' written'
+  pub build : (file : List ℕ) (limits : Limits) (one_pool : Bool) (text base : List ℕ) → line ≡ Build file limits one_pool → contents file ≡ Holds text → written ≡ Some base → (left' ≡ left) × BuildGives text (machine_limits limits) base answer written'
+  pub exec : (file : List ℕ) (limits : Limits) (one_pool : Bool) (steps : ℕ) (text input base : List ℕ) → line ≡ Exec file limits one_pool steps → contents file ≡ Holds text → left ≡ Some input → written ≡ Some base → ExecGives text (machine_limits limits) steps input base answer left' written'
   pub run : (file : List ℕ) (steps : ℕ) (bytes input base : List ℕ) → line ≡ Run file steps → contents file ≡ Holds bytes → left ≡ Some input → written ≡ Some base → ImageGives bytes steps input base answer left' written'
   pub ref : (file : List ℕ) (steps : ℕ) (text input base : List ℕ) → line ≡ Ref file steps → contents file ≡ Holds text → left ≡ Some input → written ≡ Some base → RefGives text steps input base answer left' written'
   pub missing : (file : List ℕ) → Names line file → contents file ≡ Missing → ((answer ≡ S.ReadFault) ⊎ (answer ≡ S.OutOfMemory)) × (left' ≡ left) × (written' ≡ written)

@@ -5,8 +5,8 @@ use Rattle.pcc_words.specs.Line.{Line, Limits, Build, Exec, Run, Ref}
 
 -- the line is of this file
 abbrev pub Names : Line → List ℕ → Type 0
-Names (Build file limits) name = file ≡ name
-Names (Exec file limits steps) name = file ≡ name
+Names (Build file limits one_pool) name = file ≡ name
+Names (Exec file limits one_pool steps) name = file ≡ name
 Names (Run file steps) name = file ≡ name
 Names (Ref file steps) name = file ≡ name
 Names line name = ⊥

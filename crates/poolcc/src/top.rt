@@ -1,6 +1,6 @@
 // The top call.
 
-ghost use Rattle.std.specs.Prelude.{◌≡◌, ℕ, ◌<◌, ◌≤◌, ◌⊎◌, List, Some, length, map, string_bytes};
+ghost use Rattle.std.specs.Prelude.{◌≡◌, ℕ, Bool, ◌<◌, ◌≤◌, ◌⊎◌, List, Some, length, map, string_bytes};
 ghost use Rattle.pcc_outside.specs.Outside.{Rose};
 ghost use Rattle.pcc_status.specs.Said.{Said};
 ghost use Rattle.pcc_words.specs.Line.{Limits as SaidLimits, line_of, NoCommand, NoLine, Build, Exec, Run, Ref};
@@ -64,30 +64,30 @@ pub fn poolcc<F: Files, I: Source, O: Sink, E: Sink>(
         × NoneFailed (F.faults files.old) (F.faults files.new) (I.faults input.old) (I.faults input.new) (O.faults out.old) (O.faults out.new) }
     ensures long_cause { result ≡ Status.SourceTooLong → ReachesBeyond (line_said words.now) source_limit (F.reach files.new) }
     ensures image_long_cause { result ≡ Status.ImageTooLong → ReachesBeyond (line_said words.now) image_limit (F.reach files.new) }
-    ensures trapped_cause { (kind : TrapKind) (file : List ℕ) (limits : SaidLimits) (steps : ℕ) (text left base : List ℕ)
-        → result ≡ Status.Trapped kind → line_said words.now ≡ Exec file limits steps
+    ensures trapped_cause { (kind : TrapKind) (file : List ℕ) (limits : SaidLimits) (one_pool : Bool) (steps : ℕ) (text left base : List ℕ)
+        → result ≡ Status.Trapped kind → line_said words.now ≡ Exec file limits one_pool steps
         → F.contents files.old file ≡ Holds text → I.left input.old ≡ Some left → O.written out.old ≡ Some base
         → (program : ProgramTree) × IsAccepted text program × (n : ℕ) × IsUndefined (reference (typed_of program) left n) }
 
     // Where the text is accepted and nothing outside fails, the answer is what the machine gives, or memory ran out.
-    ensures complete { (file : List ℕ) (limits : SaidLimits) (steps : ℕ) (text left base : List ℕ) (program : ProgramTree)
-        → line_said words.now ≡ Exec file limits steps
+    ensures complete { (file : List ℕ) (limits : SaidLimits) (one_pool : Bool) (steps : ℕ) (text left base : List ℕ) (program : ProgramTree)
+        → line_said words.now ≡ Exec file limits one_pool steps
         → FromText source_limit (F.contents files.old file) text (I.left input.old) left (O.written out.old) base
         (Undisturbed (F.faults files.old file) (F.faults files.new file) (I.faults input.old) (I.faults input.new)
         (O.faults out.old) (O.faults out.new) (E.faults err.old) (E.faults err.new)
         (IsAccepted text program → RunsUnlessMemory text (machine_limits limits) steps left base result (O.written out.new))) }
 
     // Where the text has a fault and nothing outside fails, the answer is the fault's kind and place, or memory ran out.
-    ensures lexical { (file : List ℕ) (limits : SaidLimits) (steps : ℕ) (text left base : List ℕ) (kind : LexKind) (place : Pos)
-        → line_said words.now ≡ Exec file limits steps
+    ensures lexical { (file : List ℕ) (limits : SaidLimits) (one_pool : Bool) (steps : ℕ) (text left base : List ℕ) (kind : LexKind) (place : Pos)
+        → line_said words.now ≡ Exec file limits one_pool steps
         → FromText source_limit (F.contents files.old file) text (I.left input.old) left (O.written out.old) base
         (Undisturbed (F.faults files.old file) (F.faults files.new file) (I.faults input.old) (I.faults input.new)
         (O.faults out.old) (O.faults out.new) (E.faults err.old) (E.faults err.new)
         (Faults first_place text (fault_of kind place) → (result ≡ Status.OutOfMemory) ⊎ (result ≡ Status.Refused (Refusal.Lex kind place)))) }
 
     // Where the text is refused and nothing outside fails, the answer is that refusal, or memory ran out.
-    ensures refused { (file : List ℕ) (limits : SaidLimits) (steps : ℕ) (text left base : List ℕ) (refusal : Refusal)
-        → line_said words.now ≡ Exec file limits steps
+    ensures refused { (file : List ℕ) (limits : SaidLimits) (one_pool : Bool) (steps : ℕ) (text left base : List ℕ) (refusal : Refusal)
+        → line_said words.now ≡ Exec file limits one_pool steps
         → FromText source_limit (F.contents files.old file) text (I.left input.old) left (O.written out.old) base
         (Undisturbed (F.faults files.old file) (F.faults files.new file) (I.faults input.old) (I.faults input.new)
         (O.faults out.old) (O.faults out.new) (E.faults err.old) (E.faults err.new)
@@ -110,14 +110,14 @@ pub fn poolcc<F: Files, I: Source, O: Sink, E: Sink>(
 
     // Where the text of `build` is accepted and nothing outside fails, the bytes of its image are written, or memory ran out;
     // where it is refused, the answer is that refusal.
-    ensures build_complete { (file : List ℕ) (limits : SaidLimits) (text base : List ℕ) (program : ProgramTree)
-        → line_said words.now ≡ Build file limits
+    ensures build_complete { (file : List ℕ) (limits : SaidLimits) (one_pool : Bool) (text base : List ℕ) (program : ProgramTree)
+        → line_said words.now ≡ Build file limits one_pool
         → FromSource source_limit (F.contents files.old file) text (O.written out.old) base
         (Undisturbed (F.faults files.old file) (F.faults files.new file) (I.faults input.old) (I.faults input.new)
         (O.faults out.old) (O.faults out.new) (E.faults err.old) (E.faults err.new)
         (IsAccepted text program → IsBuiltUnlessMemory text (machine_limits limits) base result (O.written out.new))) }
-    ensures build_refused { (file : List ℕ) (limits : SaidLimits) (text base : List ℕ) (refusal : Refusal)
-        → line_said words.now ≡ Build file limits
+    ensures build_refused { (file : List ℕ) (limits : SaidLimits) (one_pool : Bool) (text base : List ℕ) (refusal : Refusal)
+        → line_said words.now ≡ Build file limits one_pool
         → FromSource source_limit (F.contents files.old file) text (O.written out.old) base
         (Undisturbed (F.faults files.old file) (F.faults files.new file) (I.faults input.old) (I.faults input.new)
         (O.faults out.old) (O.faults out.new) (E.faults err.old) (E.faults err.new)
@@ -177,11 +177,13 @@ fn command<F: Files, I: Source, O: Sink>(
     match line {
         Line::NoCommand => Status::Usage(UsageKind::Command),
         Line::NoLine => Status::Usage(UsageKind::Words),
-        Line::Build { file, limits } => build_file(alloc, file, limits_of(limits), files, out),
+        // Every program has one pool, whether the line asks for that or not.
+        Line::Build { file, limits, .. } => build_file(alloc, file, limits_of(limits), files, out),
         Line::Exec {
             file,
             limits,
             steps,
+            ..
         } => exec(alloc, file, limits_of(limits), steps, files, input, out),
         Line::Run { file, steps } => run_file(alloc, file, steps, files, input, out),
         Line::Ref { file, steps } => ref_file(alloc, file, steps, files, input, out),

@@ -913,7 +913,7 @@ const USAGE: &str =
     "poolcc: usage: poolcc build|run|exec|ref|graph|report FILE [options] or poolcc demo N\n";
 
 // Lines whose command is known, and whose other words are none of its.
-const NO_LINES: [&str; 33] = [
+const NO_LINES: [&str; 39] = [
     "poolcc exec",
     "poolcc exec -x",
     "poolcc exec a.c b.c",
@@ -947,6 +947,12 @@ const NO_LINES: [&str; 33] = [
     "poolcc build --steps 9",
     "poolcc run",
     "poolcc run --steps 9",
+    "poolcc exec a.c --one-pool --one-pool",
+    "poolcc exec a.c --one-pool=true",
+    "poolcc exec --one-pool",
+    "poolcc build a.c --one-pools",
+    "poolcc run a.c --one-pool",
+    "poolcc ref --one-pool a.c",
 ];
 
 fn is_usage(rt: &impl Abort, alloc: Global, line: &str, kind: UsageKind) -> Result<(), AllocError> {
@@ -974,7 +980,7 @@ const ZERO: &str = "int main(void) { return 0; }";
 
 // `return 0;` takes 14 steps: three to make the pool; the address of the register for what `main` returns, the pool's number in two, and the
 // call; 0, its conversion to the type of main, and the return; the store of what was returned; and three to exit with it.
-const LINES: [Row<'_>; 13] = [
+const LINES: [Row<'_>; 15] = [
     (
         "poolcc exec a.c --steps 1000",
         FOREVER,
@@ -1019,6 +1025,22 @@ const LINES: [Row<'_>; 13] = [
         "",
     ),
     (
+        "poolcc exec --one-pool --steps 14 a.c",
+        ZERO,
+        "",
+        0,
+        b"",
+        "",
+    ),
+    (
+        "poolcc exec a.c --slabs 1 --one-pool --steps 13",
+        ZERO,
+        "",
+        250,
+        b"",
+        "poolcc: steps spent\n",
+    ),
+    (
         "poolcc exec a.c --index 1 --steps 7 --slabs 1",
         "int main(void) { return 3; }",
         "",
@@ -1046,7 +1068,7 @@ fn options_are_read(rt: HostRuntime) -> Result<(), Fail> {
 }
 
 // The behaviour is undefined: any answer of a run will do.
-const UNDEFINED: [&str; 7] = [
+const UNDEFINED: [&str; 8] = [
     "int main(void) { return 1 / 0; }",
     "int main(void) { return 1 % 0; }",
     "int main(void) { return 2147483647 + 1; }",
@@ -1054,6 +1076,7 @@ const UNDEFINED: [&str; 7] = [
     "int main(void) { return (-2147483647-1) / -1; }",
     "int main(void) { return -(-2147483647-1); }",
     "int main(void) { int x; return x + 1; }",
+    "int main(void) { int *p = malloc(sizeof(int)); *p = 5; free(p); return *p; }",
 ];
 
 #[test]
@@ -1385,7 +1408,7 @@ fn images_are_built_and_run(rt: HostRuntime) -> Result<(), Fail> {
 }
 
 // Each line with the first bytes of the image.
-const LIMITED: [(&str, &[u8]); 2] = [
+const LIMITED: [(&str, &[u8]); 3] = [
     (
         "poolcc build a.c --index 2 --slabs 1048576",
         &[0x50, 0x41, 0x49, 0x4d, 0x01, 0x80, 0x80, 0x40, 0x02],
@@ -1395,6 +1418,10 @@ const LIMITED: [(&str, &[u8]); 2] = [
         &[
             0x50, 0x41, 0x49, 0x4d, 0x01, 0x01, 0xff, 0xff, 0xff, 0xff, 0x0f,
         ],
+    ),
+    (
+        "poolcc build --slabs 2 --one-pool a.c --index 3",
+        &[0x50, 0x41, 0x49, 0x4d, 0x01, 0x02, 0x03],
     ),
 ];
 

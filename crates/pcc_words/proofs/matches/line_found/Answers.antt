@@ -3,8 +3,8 @@ use Rattle.std.specs.Prelude.{option_map}
 use Rattle.clap.specs.Walk.{Text, rows_of}
 use Rattle.clap.specs.Words.{found_of, subcommand_rows_of}
 use Rattle.clap.proofs.WalkLemmas.{first_value-rows}
-use Rattle.pcc_words.specs.Line.{Build, Exec, Run, Ref}
-use Rattle.pcc_words.specs.Found.{file_line, limits_found}
+use Rattle.pcc_words.specs.Line.{Build, Exec, Run, Ref, OnePool}
+use Rattle.pcc_words.specs.Found.{file_line, flag_found, limits_found}
 use Rattle.pcc_words.proofs.FoundLine.{no_command, sub_is, with_file, with_none}
 use Rattle.pcc_words.proofs.matches.line_found.Goals as goal
 
@@ -20,7 +20,8 @@ returns-in-build c =
     let found = found_of c.in-Some.found.now in
     let name = c.in-Some.name.now in
     let file = c.in-Some-get_str.file.now in
-    ap (λ l. Build file l) c.limits_in.ensures
+    ap (λ l. Build file l c.one_pool_in.result) c.limits_in.ensures
+    ∙ ap (λ b. Build file (limits_found (rows_of found)) b) c.one_pool_in.ensures
     ∙ sym (ap (λ (n : Text). file_line n (rows_of found) file) c.in-build.is)
     ∙ with_file (subcommand_rows_of c.args.matches.now) name file (rows_of found)
     (sub_is c.args.matches.now name (rows_of found) c.in-Some.ensures.name c.in-Some.ensures.rows)
@@ -31,8 +32,9 @@ returns-in-exec c =
     let found = found_of c.in-Some.found.now in
     let name = c.in-Some.name.now in
     let file = c.in-Some-get_str.file.now in
-    ap (λ l. Exec file l c.steps_in.result) c.limits_in-in-exec.ensures
-    ∙ ap (λ n. Exec file (limits_found (rows_of found)) n) c.steps_in.ensures
+    ap (λ l. Exec file l c.one_pool_in-in-exec.result c.steps_in.result) c.limits_in-in-exec.ensures
+    ∙ ap (λ b. Exec file (limits_found (rows_of found)) b c.steps_in.result) c.one_pool_in-in-exec.ensures
+    ∙ ap (λ n. Exec file (limits_found (rows_of found)) (flag_found OnePool (rows_of found)) n) c.steps_in.ensures
     ∙ sym (ap (λ (n : Text). file_line n (rows_of found) file) c.in-exec.is)
     ∙ with_file (subcommand_rows_of c.args.matches.now) name file (rows_of found)
     (sub_is c.args.matches.now name (rows_of found) c.in-Some.ensures.name c.in-Some.ensures.rows)

@@ -1,0 +1,1 @@
+struct n { int v; struct n *next; }; struct n *makelist(int k) { struct n *h = NULL; while (k > 0) { struct n *p = malloc(sizeof(struct n)); p->v = k; p->next = h; putchar('.'); h = p; k = k - 1; } return h; } void leak(void) { struct n *l = makelist(3); } int main(void) { int i = 0; while (i < 100000) { leak(); i = i + 1; } return 0; }
