@@ -11,6 +11,7 @@ pub mod Written
 pub mod Pooling
 pub mod Performing
 pub mod Moves
+pub mod Advancing
 pub mod Running
 pub mod Reports
 pub mod Mach

@@ -1,5 +1,5 @@
 -- Where the steps of a machine lead, and what a run answers there.
-use Rattle.std.proofs.Common.{◌≡◌, ℕ, zero, suc, ◌≤◌, refl, ap, ◌∙◌, arith}
+use Rattle.std.proofs.Common.{◌≡◌, ℕ, zero, suc, ◌+◌, ◌≤◌, refl, ap, ◌∙◌, arith}
 use Rattle.run_theory.specs.Runs.{Trace, Final, Going, Over, Move, To, Halt, after, steps}
 use Rattle.run_theory.specs.Moves.{then_move, moves, answer_of}
 
@@ -16,6 +16,20 @@ module _ {S : Type 0} (act : S → Move S) where
       go : (move : Move S) → ((t : S) → moves act (suc n) t ≡ then_move act (moves act n t)) → then_move (moves act (suc n)) move ≡ then_move act (then_move (moves act n) move)
       go (To t) more = more t
       go (Halt final t) more = refl
+
+  -- some steps, and then others
+  pub moves-more : (n m k : ℕ) (s t : S) (move : Move S) → k ≡ n + m → moves act n s ≡ To t → moves act m t ≡ move → moves act k s ≡ move
+  moves-more zero m k s t move e here more =
+      let there : To s ≡ To t = here in
+      let same : s ≡ t = cc in
+      let count : k ≡ m = omega (arith, e) in
+      ap (λ j. moves act j s) count ∙ ap (moves act m) same ∙ more
+  moves-more (suc n) m zero s t move e here more = absurd (omega (arith, e))
+  moves-more (suc n) m (suc k) s t move e here more = go (act s) here (λ r h. moves-more n m k r t move (omega (arith, e)) h more)
+    where
+      go : (first : Move S) → then_move (moves act n) first ≡ To t → ((r : S) → moves act n r ≡ To t → moves act k r ≡ move) → then_move (moves act k) first ≡ move
+      go (To r) there on = on r there
+      go (Halt final r) there on = absurd cc
 
   -- what has halted stands still
   pub halted_stays : (m n : ℕ) (s last : S) (final : Final) → m ≤ n → moves act m s ≡ Halt final last → moves act n s ≡ Halt final last

@@ -14,7 +14,7 @@ use Rattle.machine.specs.declared.ends.Step.{Step}
 use Rattle.machine.specs.declared.ends.Step.TheVariants.{On, Over}
 use Rattle.machine.specs.Steps.{state_of, CallStack, activations_of, final_of, LeftAt, Halts, IsUndone, GoesOn, StepGives}
 use Rattle.machine.specs.Run.{Ready, HaltsAt, BreaksOff, RunGives}
-use Rattle.machine.proofs.Moves.{moves-suc}
+use Rattle.machine.proofs.Moves.{moves-suc, moves-more}
 
 -- a step that goes on is no end
 pub no_end : (result : Step) (end : RunEnd) → result ≡ On → result ≡ Over end → ⊥
@@ -39,6 +39,16 @@ module _ (first old now : Ready) (same : now ≡ record old { activations = now.
 
   pub still_kept : (spent : ℕ) → Kept first old → Kept first (record now { spent = spent })
   still_kept spent before = record { code = ap (λ (m : Ready). m.code) same ∙ before.code; limits = ap (λ (m : Ready). m.limits) same ∙ before.limits; last = ap (λ (m : Ready). m.last) same ∙ before.last }
+
+module _ (first old now : Ready) (spent : ℕ) (same : now ≡ record old { activations = now.activations; spent = spent }) where
+  pub kept_after : Kept first old → Kept first now
+  kept_after before = record { code = ap (λ (m : Ready). m.code) same ∙ before.code; limits = ap (λ (m : Ready). m.limits) same ∙ before.limits; last = ap (λ (m : Ready). m.last) same ∙ before.last }
+
+  pub heap_after : now.heap ≡ old.heap
+  heap_after = ap (λ (m : Ready). m.heap) same
+
+  pub spent_after : now.spent ≡ spent
+  spent_after = ap (λ (m : Ready). m.spent) same
 
 -- the extra bytes of `start`
 pub first_extra : (extra : ℕ) (found : Option (Bor Function)) (functions : List Function) → option_copied found ≡ slice_get functions 0 → MatchOption found (extra ≡ 0) (λ start. extra ≡ start.now.extra) → extra ≡ extra_of (slice_get (map function_of functions) 0)
@@ -66,8 +76,8 @@ module _ (code : Code) (state : State) (base : List ℕ) where
       (history : History) (input : List ℕ) (trace : Trace) → left ≡ Some input → written ≡ Some (base ++ output_of trace)
       → StepGives (act code (state_of activations heap history input trace)) base (state_of activations heap history input trace) result activations' heap' left' written'
 
-  pub stands_first : (left written : Option (List ℕ)) → LeftAt base state left written → Stands 0 state.activations state.heap left written
-  stands_first left written there = record { next = state; goes = refl; frames = refl; heap_is = refl; left_at = there }
+  pub stands_first : (n : ℕ) (left written : Option (List ℕ)) → n ≡ 0 → LeftAt base state left written → Stands n state.activations state.heap left written
+  stands_first n left written none there = record { next = state; goes = ap (λ m. moves (act code) m state) none; frames = refl; heap_is = refl; left_at = there }
 
   module _ (n : ℕ) (activations : List Activation) (heap : Heap) (left written : Option (List ℕ)) (there : Stands n activations heap left written) where
     -- the step is one from the state that the run has come to
@@ -86,6 +96,17 @@ module _ (code : Code) (state : State) (base : List ℕ) where
     stands_next activations' heap' left' written' step =
         let on = gives_there On activations' heap' left' written' step in
         record { next = on.next; goes = next_move (To on.next) on.goes; frames = on.frames; heap_is = on.heap_is; left_at = on.left_at }
+
+    -- further steps have changed the activations alone
+    pub stands_after : (m k : ℕ) (code' : Code) (activations' : List Activation) (heap' : Heap) → k ≡ n + m → code' ≡ code → heap' ≡ heap
+        → ((history : History) (input : List ℕ) (trace : Trace) → moves (act code') m (state_of activations heap history input trace) ≡ To (state_of activations' heap history input trace)) → Stands k activations' heap' left written
+    stands_after m k code' activations' heap' e same kept advances =
+        let next = there.next in
+        let after = state_of activations' heap next.history next.input next.trace in
+        let coded = subst (λ (c : Code). moves (act c) m (state_of activations heap next.history next.input next.trace) ≡ To after) same (advances next.history next.input next.trace) in
+        let framed = subst (λ (fs : List Activation). moves (act code) m (state_of fs heap next.history next.input next.trace) ≡ To after) (sym there.frames) coded in
+        let stands = subst (λ (h : Heap). moves (act code) m (state_of next.activations h next.history next.input next.trace) ≡ To after) (sym there.heap_is) framed in
+        record { next = after; goes = moves-more (act code) n m k state next (To after) e there.goes stands; frames = refl; heap_is = sym kept; left_at = there.left_at }
 
     module _ (steps made : ℕ) (lt : n < steps) where
       halts_at : (final : Final) (heap' : Heap) (left' written' : Option (List ℕ)) → made ≡ suc n → Halts (act code there.next) final base there.next heap' left' written' → HaltsAt code state base steps final made heap' left' written'

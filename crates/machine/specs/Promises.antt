@@ -1,8 +1,9 @@
 -- What an instruction, a call, a step and a run of the machine promise, and what they leave in frames and in memory.
-use Rattle.std.specs.Prelude.{◌≡◌, ℕ, ◌-◌, ◌^◌, Bool, if◌then◌else◌, List, [], ◌++◌, map, length, take, drop, reverse, replicate, slice_get, Option, Some, None, MatchBool}
+use Rattle.std.specs.Prelude.{◌≡◌, ℕ, ◌-◌, ◌^◌, Bool, if◌then◌else◌, List, [], ◌∷◌, ◌++◌, map, length, take, drop, reverse, replicate, slice_get, Option, Some, None, MatchBool}
 use Rattle.std.specs.List.{flat_map}
 use Rattle.byteorder.specs.Endian.{little_bytes, little_number}
-use Rattle.run_theory.specs.Runs.{Trace, Final, output_of}
+use Rattle.run_theory.specs.Runs.{Trace, Final, output_of, To}
+use Rattle.run_theory.specs.Moves.{moves}
 use Rattle.slab_space.specs.declared.kind.PoolKind.{PoolKind}
 use Rattle.slab_space.specs.Pools.{new_pools}
 use Rattle.image_form.specs.declared.image.Function as memory_function
@@ -18,7 +19,7 @@ use Rattle.machine.specs.declared.ends.RunEnd.{RunEnd}
 use Rattle.machine.specs.declared.ends.Step.{Step}
 use Rattle.machine.specs.declared.report.ReportRow.{ReportRow}
 use Rattle.machine.specs.Heaps.{function_rows, code_rows, row_of}
-use Rattle.machine.specs.Steps.{CallStack, Performs, PerformsInPools, ExecutesInstr, StepGives}
+use Rattle.machine.specs.Steps.{state_of, CallStack, Performs, PerformsInPools, ExecutesInstr, StepGives}
 use Rattle.machine.specs.Run.{Ready, state_at, is_over, RunGives}
 
 -- ---- instructions
@@ -75,6 +76,12 @@ ExecutesAtHeight code height instr old heap left written result new heap' left' 
 -- the word that getchar gives is that of what was left, and is taken
 abbrev pub TakesWord : ℕ → Option (List ℕ) → Option (List ℕ) → Type 0
 TakesWord word before after = (left : List ℕ) → before ≡ Some left → (word ≡ input_word left) × (after ≡ Some (after_next left))
+
+-- so many instructions of a function, performed one after the other, changed the innermost activation alone
+abbrev pub AdvancesBy : Function → ℕ → Activation → Activation → Type 0
+AdvancesBy function count old new =
+    (code : Code) (callers : List Activation) (heap : Heap) (history : History) (input : List ℕ) (trace : Trace) → slice_get code.functions old.function ≡ Some function
+    → moves (act code) count (state_of (old ∷ callers) heap history input trace) ≡ To (state_of (new ∷ callers) heap history input trace)
 
 -- ---- calls
 
@@ -134,7 +141,11 @@ StepsOn old left0 written0 result new left' written' =
     (history : History) (left base : List ℕ) (trace : Trace) → left0 ≡ Some left → written0 ≡ Some (base ++ output_of trace) →
     StepGives (act old.code (state_at old history left trace)) base (state_at old history left trace) result new.activations new.heap left' written'
 
--- the same of a run, with so many steps allowed
+-- So many steps of the machine's meaning have changed the activations alone.
+abbrev pub AdvancesOn : ℕ → Ready → Ready → Type 0
+AdvancesOn count old new = (history : History) (input : List ℕ) (trace : Trace) → moves (act old.code) count (state_at old history input trace) ≡ To (state_of new.activations old.heap history input trace)
+
+-- the same as that of a step, of a run with so many steps allowed
 abbrev pub RunsOn : ℕ → Ready → Option (List ℕ) → Option (List ℕ) → RunEnd → Ready → Option (List ℕ) → Option (List ℕ) → Type 0
 RunsOn steps old left0 written0 result new left' written' =
     (history : History) (left base : List ℕ) (trace : Trace) → left0 ≡ Some left → written0 ≡ Some (base ++ output_of trace) →

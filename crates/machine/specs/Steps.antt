@@ -1,5 +1,5 @@
 -- What one step of the machine does, and what holds of the activations throughout.
-use Rattle.std.specs.Prelude.{◌≡◌, ℕ, ◌+◌, ◌*◌, ◌^◌, ◌<◌, ◌≤◌, Bool, IsTrue, IsFalse, List, [], ◌∷◌, ◌++◌, length, option_map, Option, Some, None}
+use Rattle.std.specs.Prelude.{◌≡◌, ℕ, ◌+◌, ◌*◌, ◌^◌, ◌<◌, ◌≤◌, Bool, true, false, IsTrue, IsFalse, List, [], ◌∷◌, ◌++◌, length, option_map, Option, Some, None, MatchBool}
 use Rattle.std.specs.List.Sorted.{IsPartitionPoint}
 use Rattle.byteorder.specs.Endian.{little_bytes, little_number}
 use Rattle.run_theory.specs.Runs as runs
@@ -67,6 +67,25 @@ IsAlone _ = Unit {0}
 abbrev pub PerformsAlone : Function → Instr → Activation → Step → Activation → Type 0
 PerformsAlone function instr old result new =
     (code : Code) (callers : List Activation) (heap : Heap) (history : History) (input : List ℕ) (trace : Trace) → StepMakes (perform (Some instr) code function old callers (state_of (old ∷ callers) heap history input trace)) (state_of (old ∷ callers) heap history input trace) result (new ∷ callers)
+
+-- the run goes on after a step
+abbrev pub goes_on : Step → Bool
+goes_on On = true
+goes_on (Over end) = false
+
+-- What such an instruction leaves: an activation of the same function, where the run goes on; nothing has changed, where it is over.
+abbrev pub Keeps : Step → Activation → Activation → Type 0
+Keeps On old new = new.function ≡ old.function
+Keeps (Over end) old new = new ≡ old
+
+-- An instruction was performed as the machine's meaning says, whatever else there is: it changed the innermost activation alone,
+-- and the run goes on.
+abbrev pub Advances : Function → Instr → Activation → Activation → Type 0
+Advances function instr old new = PerformsAlone function instr old On new
+
+-- the same, in whatever function that may hold so many operands, or nothing has changed
+abbrev pub MayAdvance : ℕ → Instr → Bool → Activation → Activation → Type 0
+MayAdvance height instr result old new = MatchBool result ((function : Function) → function.height ≡ height → Advances function instr old new) (new ≡ old)
 
 -- ---- instructions that touch neither input nor output
 

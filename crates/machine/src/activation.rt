@@ -1,8 +1,8 @@
 // A function that was called and has not returned: its place, its operands and its frame.
 
 ghost use Rattle.std.specs.Prelude.{◌≡◌, ◌≢◌, suc, ◌+◌, ◌-◌, ◌%◌, ◌^◌, ◌<◌, ◌≤◌, [], ◌∷◌, length, take, drop, reverse, Some, None};
-ghost use Rattle.std.specs.Bool.{OnFalse};
-ghost use Rattle.std.specs.Prelude.{IfOk, IfSome, OnOk, OnErr, IsTrue, ◌↔◌, MatchOption, if◌then◌else◌};
+ghost use Rattle.std.specs.Bool.{OnTrue, OnFalse};
+ghost use Rattle.std.specs.Prelude.{true, IfOk, IfSome, OnOk, OnErr, IsTrue, ◌↔◌, MatchOption, if◌then◌else◌};
 ghost use Rattle.byteorder.specs.Endian.{little_bytes};
 ghost use Rattle.pcc_outside.specs.Outside.{Rose};
 ghost use Rattle.image_form.specs.Form.{IsKind};
@@ -18,7 +18,7 @@ use crate::words::input_word;
 use byteorder::{ByteOrder, LittleEndian};
 use image_form::PoolKind;
 use pcc_outside::{Source, read_byte};
-use pool_isa::Site;
+use pool_isa::{Instr, Site};
 use pool_runtime::OutOfMemory;
 use std::alloc::{AllocError, Global};
 use std::marker::Model;
@@ -48,7 +48,7 @@ impl Model for Activation {
 }
 
 impl Activation {
-    ghost use Rattle.machine.specs.Steps.{PushesNext};
+    ghost use Rattle.machine.specs.Steps.{PushesNext, MayAdvance};
 
     /// A function at its entry: the frame holds the parameters and `extra` zeros.
     pub(crate) fn enter(
@@ -90,6 +90,7 @@ impl Activation {
     }
 
     /// The instruction that comes next.
+    #[inline(always)]
     pub(crate) fn place(&self) -> usize
         ensures { result ≡ self.now.place }
     {
@@ -97,6 +98,7 @@ impl Activation {
     }
 
     /// How many operands there are.
+    #[inline(always)]
     pub(crate) fn height(&self) -> usize
         ensures { result ≡ length self.now.operands }
     {
@@ -104,6 +106,7 @@ impl Activation {
     }
 
     /// Whether a function that may hold `height` operands can't hold one more.
+    #[inline(always)]
     pub(crate) fn is_full(&self, height: u32) -> bool
         ensures { IsTrue result ↔ (height ≤ length self.now.operands) }
     {
@@ -111,6 +114,7 @@ impl Activation {
     }
 
     /// The last operand.
+    #[inline(always)]
     pub(crate) fn last(&self) -> Option<u64>
         ensures { MatchOption result (self.now.operands ≡ []) (λ word. self.now.operands ≡ word ∷ drop 1 self.now.operands) }
     {
@@ -118,6 +122,7 @@ impl Activation {
     }
 
     /// The last two operands, in the order in which they were pushed.
+    #[inline(always)]
     pub(crate) fn last_two(&self) -> Option<(u64, u64)>
         ensures { MatchOption result (length self.now.operands < 2) (λ two. self.now.operands ≡ two.1 ∷ two.0 ∷ drop 2 self.now.operands) }
     {
@@ -146,6 +151,35 @@ impl Activation {
         self.operands.push(word)?;
         self.place += 1;
         Ok(())
+    }
+
+    /// Pushes an operand and goes to the next instruction, if room is reserved for it and a function that may hold `height`
+    /// operands can hold it; says whether it did.
+    #[inline(always)]
+    pub(crate) fn push_within(&mut self, word: u64, height: u32) -> bool
+        requires { self.old.place + 1 < 2 ^ 64 }
+        ensures advances { MayAdvance height (Instr.Constant word) result self.old self.new }
+        ensures frame { next_start self.new ≡ next_start self.old }
+        ensures start { self.new.start ≡ self.old.start }
+        ensures function { self.new.function ≡ self.old.function }
+    {
+        if self.is_full(height) || self.operands.len() >= self.operands.capacity() {
+            return false;
+        }
+        self.operands.push_reserved(word);
+        self.place += 1;
+        true
+    }
+
+    /// What stands in the place of a function that is away for a while.
+    pub(crate) fn vacant(alloc: Global) -> Activation {
+        Activation {
+            function: 0,
+            place: 0,
+            operands: Vec::new(alloc),
+            start: 0,
+            bytes: Region::empty(alloc),
+        }
     }
 
     /// Pushes the word that `getchar` gives, and goes to the next instruction. There is room for it before a byte is read.
@@ -201,6 +235,7 @@ impl Activation {
     }
 
     /// Puts an operand in the place of the last one, and goes to the next instruction.
+    #[inline(always)]
     pub(crate) fn replace(&mut self, word: u64)
         requires next { self.old.place + 1 < 2 ^ 64 }
         requires there { 0 < length self.old.operands }
@@ -212,6 +247,7 @@ impl Activation {
     }
 
     /// Puts two operands in the place of the last two, and goes to the next instruction.
+    #[inline(always)]
     pub(crate) fn replace_two(&mut self, first: u64, last: u64)
         requires next { self.old.place + 1 < 2 ^ 64 }
         requires there { 2 ≤ length self.old.operands }
@@ -224,6 +260,7 @@ impl Activation {
     }
 
     /// Puts an operand in the place of the last two, and goes to the next instruction.
+    #[inline(always)]
     pub(crate) fn combine(&mut self, word: u64)
         requires next { self.old.place + 1 < 2 ^ 64 }
         requires there { 2 ≤ length self.old.operands }
@@ -236,6 +273,7 @@ impl Activation {
     }
 
     /// Drops the last operands, and goes to the next instruction.
+    #[inline(always)]
     pub(crate) fn discard(&mut self, count: usize)
         requires next { self.old.place + 1 < 2 ^ 64 }
         requires there { count ≤ length self.old.operands }
@@ -246,6 +284,7 @@ impl Activation {
     }
 
     /// Goes to an instruction.
+    #[inline(always)]
     pub(crate) fn jump(&mut self, target: usize)
         ensures { self.new ≡ record self.old { place = target } }
     {
@@ -271,6 +310,7 @@ impl Activation {
     }
 
     /// The address so many bytes behind the start of the frame.
+    #[inline(always)]
     pub(crate) fn address(&self, offset: u64) -> u64
         ensures { result ≡ (self.now.start + offset) % 2 ^ 64 }
     {
@@ -293,6 +333,7 @@ impl Activation {
     }
 
     /// Where the bytes from `address` on stand in the frame, if `size` of them lie there.
+    #[inline(always)]
     fn offset_of(&self, address: u64, size: usize) -> Option<usize>
         ensures { result ≡ (if covers self.now address size then Some (address - self.now.start) else None) }
     {
@@ -306,6 +347,7 @@ impl Activation {
     }
 
     /// The number in the `size` bytes from `address` on, if they lie in the frame.
+    #[inline(always)]
     pub(crate) fn read(&self, address: u64, size: usize) -> Option<u64>
         requires low { 1 ≤ size }
         requires high { size ≤ 8 }
@@ -317,6 +359,7 @@ impl Activation {
     }
 
     /// Writes the lowest `size` bytes of a word from `address` on, if they lie in the frame, and says whether they do.
+    #[inline(always)]
     pub(crate) fn write(&mut self, address: u64, word: u64, size: usize, spare: &mut Spare) -> bool
         requires low { 1 ≤ size }
         requires high { size ≤ 8 }
@@ -330,6 +373,21 @@ impl Activation {
                 self.bytes.write(offset, word, size, spare);
                 true
             }
+            None => false,
+        }
+    }
+
+    /// Writes the lowest `size` bytes of a word from `address` on, if they lie in the frame and that lies in one piece, and says
+    /// whether it did.
+    #[inline(always)]
+    pub(crate) fn write_in_place(&mut self, address: u64, word: u64, size: usize) -> bool
+        requires { size ≤ 8 }
+        ensures there { OnTrue result (covers self.old address size ≡ true) }
+        ensures written { OnTrue result (self.new ≡ with_frame_word self.old address size word) }
+        ensures kept { OnFalse result (self.new ≡ self.old) }
+    {
+        match self.offset_of(address, size) {
+            Some(offset) => self.bytes.write_in_place(offset, word, size),
             None => false,
         }
     }

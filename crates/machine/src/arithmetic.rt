@@ -12,14 +12,16 @@ use word_arithmetic::{binary_word, compared_word, complement_word, converted_wor
 
 impl Activation {
     ghost use Rattle.pool_isa.specs.Machine as machine;
-    ghost use Rattle.machine.specs.Steps.{PerformsAlone};
+    ghost use Rattle.machine.specs.Steps.{Keeps, PerformsAlone};
 
     /// Puts what a binary operator gives in the place of its operands.
+    #[inline(always)]
     pub(crate) fn binary(&mut self, operator: BinOp, int_type: IntType) -> Step
         requires { self.old.place + 1 < 2 ^ 64 }
         ensures performs { (function : machine.Function) → PerformsAlone function (Instr.Binary operator int_type) self.old result self.new }
         ensures frame { next_start self.new ≡ next_start self.old }
         ensures start { self.new.start ≡ self.old.start }
+        ensures kept { Keeps result self.old self.new }
     {
         let Some((left, right)) = self.last_two() else {
             return Step::trap(TrapKind::StackEmpty);
@@ -29,11 +31,13 @@ impl Activation {
     }
 
     /// Puts 1 or 0 in the place of two operands, which are compared.
+    #[inline(always)]
     pub(crate) fn compare(&mut self, relation: Relation, int_type: IntType) -> Step
         requires { self.old.place + 1 < 2 ^ 64 }
         ensures performs { (function : machine.Function) → PerformsAlone function (Instr.Compare relation int_type) self.old result self.new }
         ensures frame { next_start self.new ≡ next_start self.old }
         ensures start { self.new.start ≡ self.old.start }
+        ensures kept { Keeps result self.old self.new }
     {
         let Some((left, right)) = self.last_two() else {
             return Step::trap(TrapKind::StackEmpty);
@@ -43,11 +47,13 @@ impl Activation {
     }
 
     /// Puts the negative in the place of the last operand.
+    #[inline(always)]
     pub(crate) fn negate(&mut self, int_type: IntType) -> Step
         requires { self.old.place + 1 < 2 ^ 64 }
         ensures performs { (function : machine.Function) → PerformsAlone function (Instr.Negate int_type) self.old result self.new }
         ensures frame { next_start self.new ≡ next_start self.old }
         ensures start { self.new.start ≡ self.old.start }
+        ensures kept { Keeps result self.old self.new }
     {
         let Some(operand) = self.last() else {
             return Step::trap(TrapKind::StackEmpty);
@@ -57,11 +63,13 @@ impl Activation {
     }
 
     /// Puts the bitwise complement in the place of the last operand.
+    #[inline(always)]
     pub(crate) fn complement(&mut self, int_type: IntType) -> Step
         requires { self.old.place + 1 < 2 ^ 64 }
         ensures performs { (function : machine.Function) → PerformsAlone function (Instr.Complement int_type) self.old result self.new }
         ensures frame { next_start self.new ≡ next_start self.old }
         ensures start { self.new.start ≡ self.old.start }
+        ensures kept { Keeps result self.old self.new }
     {
         let Some(operand) = self.last() else {
             return Step::trap(TrapKind::StackEmpty);
@@ -71,11 +79,13 @@ impl Activation {
     }
 
     /// Converts the last operand to a type.
+    #[inline(always)]
     pub(crate) fn convert(&mut self, int_type: IntType) -> Step
         requires { self.old.place + 1 < 2 ^ 64 }
         ensures performs { (function : machine.Function) → PerformsAlone function (Instr.Convert int_type) self.old result self.new }
         ensures frame { next_start self.new ≡ next_start self.old }
         ensures start { self.new.start ≡ self.old.start }
+        ensures kept { Keeps result self.old self.new }
     {
         let Some(operand) = self.last() else {
             return Step::trap(TrapKind::StackEmpty);

@@ -76,7 +76,8 @@ impl Calls {
     ghost use Rattle.machine.specs.Steps.{activations_of, fetched, Puts, IsInside, IsOfPools};
     ghost use Rattle.machine.specs.Promises.{start_alone, Writes, callee_entered, caller_left};
     ghost use Rattle.machine.specs.Promises.{PerformsAnywhere, PerformsBesideHeap, PerformsAmong, PerformsWithKinds, PerformsAtHeight};
-    ghost use Rattle.machine.specs.Promises.{GetsChar, PutsChar, ExecutesAtHeight};
+    ghost use Rattle.machine.specs.Promises.{GetsChar, PutsChar, ExecutesAtHeight, AdvancesBy};
+    ghost use Rattle.pool_isa.specs.Machine as machine;
 
     /// `start` at its entry.
     pub(crate) fn new(alloc: Global, extra: u32) -> Result<Calls, AllocError>
@@ -377,6 +378,20 @@ impl Calls {
             }
             Err(_) => Step::Over(RunEnd::WriteFault),
         }
+    }
+
+    /// Performs instructions of the innermost function, at most so many, while they change its activation alone and go on,
+    /// and says how many.
+    pub(crate) fn advance(&mut self, alloc: Global, code: &[Instr], height: u32, steps: u64) -> u64
+        ensures within { result ≤ steps }
+        ensures advances { (function : machine.Function) → function.code ≡ code.now → function.height ≡ height → AdvancesBy function result self.old.innermost self.new.innermost }
+        ensures callers { self.new.callers ≡ self.old.callers }
+    {
+        // in a variable its fields can be kept in registers
+        let mut innermost = mem::replace(&mut self.innermost, Activation::vacant(alloc));
+        let made = innermost.advance_by(code, height, steps);
+        self.innermost = innermost;
+        made
     }
 
     /// Performs an instruction on pools.

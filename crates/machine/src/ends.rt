@@ -54,6 +54,16 @@ pub(crate) enum Step {
 }
 
 impl Step {
+    ghost use Rattle.machine.specs.Steps.{goes_on};
+
+    /// Whether the run goes on.
+    #[inline(always)]
+    pub(crate) fn goes_on(self) -> bool
+        ensures { result ≡ goes_on self }
+    {
+        matches!(self, Step::On)
+    }
+
     /// A step that traps.
     pub(crate) fn trap(kind: TrapKind) -> Step
         ensures { result ≡ Step.Over (RunEnd.Trapped kind) }

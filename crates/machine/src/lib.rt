@@ -8,6 +8,7 @@ mod arithmetic;
 mod calls;
 mod ends;
 mod heap;
+mod inner_loop;
 mod loaded;
 mod memory;
 mod operands;

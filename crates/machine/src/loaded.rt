@@ -30,7 +30,7 @@ pub struct Machine<'a> {
 
 impl<'a> Machine<'a> {
     ghost use Rattle.machine.specs.Run.{is_over};
-    ghost use Rattle.machine.specs.Promises.{IsAtStart, StepsOn, RunsOn, StaysOver, moved_to, rows_of, rows_in, row_in};
+    ghost use Rattle.machine.specs.Promises.{IsAtStart, StepsOn, AdvancesOn, RunsOn, StaysOver, moved_to, rows_of, rows_in, row_in};
     ghost use Rattle.machine.specs.Loaded.{ready_of, IsLoaded};
 
     /// A machine that stands before the first step of the image, within limits.
@@ -95,6 +95,26 @@ impl<'a> Machine<'a> {
         )
     }
 
+    /// Makes steps, at most so many, while they change the innermost activation alone and go on, and says how many.
+    fn advance(&mut self, steps: u64) -> u64
+        requires spent { (ready_of self.old).spent + steps < 2 ^ 64 }
+        requires loaded { IsLoaded self.old }
+        ensures within { result ≤ steps }
+        ensures meaning { AdvancesOn result (ready_of self.old) (ready_of self.new) }
+        ensures loaded { IsLoaded self.new }
+        ensures same { ready_of self.new ≡ record (ready_of self.old) { activations = (ready_of self.new).activations; spent = (ready_of self.old).spent + result } }
+    {
+        let image = self.image;
+        let Some(function) = image.functions.get(self.calls.innermost().function()) else {
+            return 0;
+        };
+        let made = self
+            .calls
+            .advance(self.alloc, &function.code, function.height, steps);
+        self.spent += made;
+        made
+    }
+
     /// Makes at most so many steps.
     fn go_on<I: Source, O: Sink>(&mut self, input: &mut I, out: &mut O, steps: u64) -> RunEnd
         requires spent { (ready_of self.old).spent + steps < 2 ^ 64 }
@@ -112,7 +132,8 @@ impl<'a> Machine<'a> {
         ensures reads_counted { I.faults input.old ≤ I.faults input.new }
         ensures writes_counted { O.faults out.old ≤ O.faults out.new }
     {
-        for _turn in 0..steps {
+        let mut remaining = steps;
+        while remaining > 0 {
             match self.step(input, out) {
                 Step::On => self.spent += 1,
                 Step::Over(end) => {
@@ -122,6 +143,8 @@ impl<'a> Machine<'a> {
                     return end;
                 }
             }
+            remaining -= 1;
+            remaining -= self.advance(remaining);
         }
         RunEnd::StepsSpent
     }

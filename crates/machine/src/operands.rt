@@ -10,7 +10,7 @@ use run_theory::TrapKind;
 
 impl Activation {
     ghost use Rattle.pool_isa.specs.Machine as machine;
-    ghost use Rattle.machine.specs.Steps.{IsAlone, PerformsAlone};
+    ghost use Rattle.machine.specs.Steps.{IsAlone, Keeps, PerformsAlone};
 
     /// Pushes a word, where the function may hold one more operand.
     fn push_if_room(&mut self, word: u64, height: u32) -> Step
@@ -42,11 +42,13 @@ impl Activation {
     }
 
     /// Drops the last operand.
-    fn discard_last(&mut self) -> Step
+    #[inline(always)]
+    pub(crate) fn discard_last(&mut self) -> Step
         requires { self.old.place + 1 < 2 ^ 64 }
         ensures performs { (function : machine.Function) → PerformsAlone function Instr.Discard self.old result self.new }
         ensures frame { next_start self.new ≡ next_start self.old }
         ensures start { self.new.start ≡ self.old.start }
+        ensures kept { Keeps result self.old self.new }
     {
         if self.height() == 0 {
             return Step::trap(TrapKind::StackEmpty);
@@ -56,11 +58,13 @@ impl Activation {
     }
 
     /// Exchanges the last two operands.
-    fn swap(&mut self) -> Step
+    #[inline(always)]
+    pub(crate) fn swap(&mut self) -> Step
         requires { self.old.place + 1 < 2 ^ 64 }
         ensures performs { (function : machine.Function) → PerformsAlone function Instr.Swap self.old result self.new }
         ensures frame { next_start self.new ≡ next_start self.old }
         ensures start { self.new.start ≡ self.old.start }
+        ensures kept { Keeps result self.old self.new }
     {
         let Some((first, last)) = self.last_two() else {
             return Step::trap(TrapKind::StackEmpty);
@@ -70,7 +74,8 @@ impl Activation {
     }
 
     /// Drops the last operand, and goes to an instruction, or to the next one.
-    fn branch(&mut self, test: bool, target: u64)
+    #[inline(always)]
+    pub(crate) fn branch(&mut self, test: bool, target: u64)
         requires next { self.old.place + 1 < 2 ^ 64 }
         requires there { 1 ≤ length self.old.operands }
         ensures { self.new ≡ branched test target self.old (drop 1 self.old.operands) }
@@ -82,11 +87,13 @@ impl Activation {
     }
 
     /// Jumps if the last operand is zero.
-    fn jump_if_zero(&mut self, target: u64) -> Step
+    #[inline(always)]
+    pub(crate) fn jump_if_zero(&mut self, target: u64) -> Step
         requires { self.old.place + 1 < 2 ^ 64 }
         ensures performs { (function : machine.Function) → PerformsAlone function (Instr.JumpIfZero target) self.old result self.new }
         ensures frame { next_start self.new ≡ next_start self.old }
         ensures start { self.new.start ≡ self.old.start }
+        ensures kept { Keeps result self.old self.new }
     {
         let Some(word) = self.last() else {
             return Step::trap(TrapKind::StackEmpty);
@@ -96,11 +103,13 @@ impl Activation {
     }
 
     /// Jumps if the last operand is not zero.
-    fn jump_if_not_zero(&mut self, target: u64) -> Step
+    #[inline(always)]
+    pub(crate) fn jump_if_not_zero(&mut self, target: u64) -> Step
         requires { self.old.place + 1 < 2 ^ 64 }
         ensures performs { (function : machine.Function) → PerformsAlone function (Instr.JumpIfNotZero target) self.old result self.new }
         ensures frame { next_start self.new ≡ next_start self.old }
         ensures start { self.new.start ≡ self.old.start }
+        ensures kept { Keeps result self.old self.new }
     {
         let Some(word) = self.last() else {
             return Step::trap(TrapKind::StackEmpty);

@@ -1,6 +1,7 @@
 // The bytes of a frame, or of the globals.
 
-ghost use Rattle.std.specs.Prelude.{◌≡◌, ◌+◌, ◌-◌, ◌^◌, ◌<◌, ◌≤◌, ◌++◌, length, take, drop, replicate, IfOk};
+ghost use Rattle.std.specs.Prelude.{◌≡◌, ◌+◌, ◌-◌, ◌^◌, ◌<◌, ◌≤◌, [], ◌++◌, length, take, drop, replicate, IfOk};
+ghost use Rattle.std.specs.Bool.{OnTrue, OnFalse};
 ghost use Rattle.byteorder.specs.Endian.{little_bytes, little_number};
 ghost use Rattle.pool_isa.specs.Machine.{spliced};
 
@@ -56,6 +57,7 @@ fn in_pages(alloc: Global, first: &[u8], len: usize) -> Result<Paged, AllocError
 }
 
 /// Writes the lowest `size` bytes of a word from `offset` on, the low byte first.
+#[inline(always)]
 fn put(bytes: &mut [u8], offset: usize, word: u64, size: usize)
     requires high { size ≤ 8 }
     requires inside { offset + size ≤ length bytes.old }
@@ -85,7 +87,17 @@ impl Region {
         })
     }
 
+    /// No bytes.
+    pub(crate) fn empty(alloc: Global) -> Region
+        ensures { result ≡ [] }
+    {
+        Region {
+            store: Store::Small(Vec::new(alloc)),
+        }
+    }
+
     /// How many bytes there are.
+    #[inline(always)]
     pub(crate) fn len(&self) -> usize
         ensures { result ≡ length self.now }
     {
@@ -96,6 +108,7 @@ impl Region {
     }
 
     /// The number in the `size` bytes from `offset` on, the low byte first.
+    #[inline(always)]
     pub(crate) fn read(&self, offset: usize, size: usize) -> u64
         requires low { 1 ≤ size }
         requires high { size ≤ 8 }
@@ -120,6 +133,24 @@ impl Region {
         match &mut self.store {
             Store::Small(bytes) => put(bytes, offset, word, size),
             Store::Large(bytes) => bytes.write(offset, word, size, spare),
+        }
+    }
+
+    /// Writes the lowest `size` bytes of a word from `offset` on, the low byte first, where all bytes lie in one piece, and says
+    /// whether they do.
+    #[inline(always)]
+    pub(crate) fn write_in_place(&mut self, offset: usize, word: u64, size: usize) -> bool
+        requires high { size ≤ 8 }
+        requires inside { offset + size ≤ length self.old }
+        ensures written { OnTrue result (self.new ≡ spliced self.old offset (little_bytes size word)) }
+        ensures kept { OnFalse result (self.new ≡ self.old) }
+    {
+        match &mut self.store {
+            Store::Small(bytes) => {
+                put(bytes, offset, word, size);
+                true
+            }
+            Store::Large(_) => false,
         }
     }
 }
