@@ -1,0 +1,3 @@
+pub mod TakenLists
+pub mod TargetLists
+pub mod ClassLists
