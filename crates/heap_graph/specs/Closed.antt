@@ -320,10 +320,22 @@ is_name tac owners (OfObject owner local) = owners owner && of_function (functio
 is_name tac owners (OfGlobal number) = nat_lt number (length tac.globals)
 is_name tac owners (OfLiteral number) = nat_lt number (length tac.literals)
 
--- a node is that of a name, or the image of a node at a call
+-- a call out of the group: of this function, from this site, to a function that it may reach and that is in another group
+pub record IsCrossing (family : Family) (at : Crossing) : Type 0 where
+  pub function : O.Function
+  pub is : function_of family.tac at.owner ≡ Some function
+  pub point : ℕ
+  pub callee : Callee
+  pub arguments : List Register
+  pub call : slice_get function.points point ≡ Some (O.Call at.site callee arguments)
+  pub target : is_target family.tac callee at.called ≡ true
+  pub outer : same_group family at.owner at.called ≡ false
+
+-- a node is that of a name, or the image of a node at a call out of the group
 pub data IsNeeded (family : Family) (graph : Graph) (owners : Owner → Bool) (number : ℕ) : Type 0 where
   named : (name : Name) (target : Target) → graph.targets name ≡ Some target → target.node ≡ number → IsNeeded family graph owners number
-  embedded : (at : Crossing) (node : ℕ) (target : Target) → owners at.owner ≡ true → family.graphs.embedding at node ≡ Some target → target.node ≡ number → IsNeeded family graph owners number
+  embedded : (at : Crossing) (node : ℕ) (target : Target) → owners at.owner ≡ true → IsCrossing family at → family.graphs.embedding at node ≡ Some target → target.node ≡ number
+      → IsNeeded family graph owners number
 
 pub record GraphClosed (family : Family) (graph : Graph) (owners : Owner → Bool) (one : Owner) : Type 0 where
   pub names : (name : Name) → is_slot graph (graph.targets name) ≡ true

@@ -1,4 +1,5 @@
 pub mod Parts
+pub mod Structures
 pub mod Graphs
 pub mod Targets
 pub mod Points
@@ -6,3 +7,6 @@ pub mod Escaping
 pub mod Closed
 pub mod Least
 pub mod Merging
+pub mod Steps
+pub mod Relations
+pub mod Memory

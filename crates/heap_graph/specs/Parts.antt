@@ -1,6 +1,6 @@
 -- Slots of types, and which parts a type has at which slot: a scalar has one slot, a structure those of its members in order, an array
 -- those of one element.
-use Rattle.std.specs.Prelude.{ℕ, ◌+◌, ◌-◌, ◌==◌, nat_lt, Bool, false, ◌&&◌, ◌||◌, if◌then◌else◌, List, [], ◌∷◌, Option, Some, None, bytes_eq}
+use Rattle.std.specs.Prelude.{◌≡◌, ◌⊎◌, ℕ, ◌+◌, ◌-◌, ◌==◌, nat_lt, Bool, false, ◌&&◌, ◌||◌, if◌then◌else◌, List, [], ◌∷◌, Option, Some, None, bytes_eq}
 use Rattle.c_typed.specs.Types.{CType, Void, Pointer, Array, Struct, Function, NoTypes, same_type}
 use Rattle.c_typed.specs.Layouts.{StructDef, MemberDef, Table, layouts, layout_of, member_layout}
 
@@ -52,3 +52,8 @@ parts_by_tag (newest ∷ structs) tag slot part =
 -- the type itself at its first slot, or a part of it
 abbrev pub has_part : List StructDef → CType → Parts
 has_part structs own slot part = parts_in (parts_by_tag structs) own slot part
+
+-- a member of this type lies at this slot, where the members lie behind so many slots
+abbrev pub MemberIn : Table → ℕ → List MemberDef → ℕ → CType → Type 0
+MemberIn table front [] at t = ⊥
+MemberIn table front (member ∷ members) at t = ((member.c_type ≡ Some t) × (front ≡ at)) ⊎ MemberIn table (front + (member_layout table member).slots) members at t

@@ -2,3 +2,7 @@
 //!
 //! `specs/Graphs.antt` has the graphs as plain data, `specs/Closed.antt` says when those of a program are closed.
 #![tactic(auto)]
+
+mod graph;
+
+pub use graph::{Element, Flags, Target};
