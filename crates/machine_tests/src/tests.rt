@@ -506,11 +506,22 @@ fn frames_of_outer_functions_are_found(rt: HostRuntime) -> Result<(), Fail> {
     ];
     let start = [Instr::Constant(0), Instr::Constant(9), Instr::Call(1)];
     let mut calls = image(alloc, &start, 2, &chain)?;
-    calls.functions[1].height = 3;
+    for function in &mut calls.functions {
+        function.height = 3;
+    }
     let (end, _, written) = ran(alloc, &calls, b"", &[], 1000)?;
     assert_eq!(rt; end, RunEnd::Ended(0));
     assert_eq!(rt; written, [2, 4, 6, 8, 10, 12, 14, 16, 18].to_vec(alloc)?);
     Ok(())
+}
+
+/// An image whose frames have 70,000 bytes.
+fn with_large_frames(alloc: Global, start: &[Instr]) -> Result<Image, AllocError> {
+    let mut large = image(alloc, start, 0, &[])?;
+    for function in &mut large.functions {
+        function.extra = 70_000;
+    }
+    Ok(large)
 }
 
 // Such a frame lies in pages of 4,096 bytes, which are zero until they are written.
@@ -543,8 +554,7 @@ fn words_of_a_large_frame_cross_pages(rt: HostRuntime) -> Result<(), Fail> {
         Instr::Compare(Relation::Eq, IntType::ULong),
         Instr::Exit,
     ])?;
-    let mut large = image(alloc, &code, 0, &[])?;
-    large.functions[0].extra = 70_000;
+    let large = with_large_frames(alloc, &code)?;
     let (end, _, written) = ran(alloc, &large, b"", &[], 1000)?;
     assert_eq!(rt; end, RunEnd::Ended(1));
     assert_eq!(rt; written, [1, 2, 3, 4, 5, 6, 7, 8, 0].to_vec(alloc)?);
@@ -559,7 +569,7 @@ fn words_of_a_large_frame_cross_pages(rt: HostRuntime) -> Result<(), Fail> {
             Instr::Load(IntType::ULong),
             Instr::Exit,
         ];
-        large.functions[0].code = code.to_vec(alloc)?;
+        let large = with_large_frames(alloc, &code)?;
         assert_eq!(rt; ran(alloc, &large, b"", &[], 10)?.0, wanted, "{offset}");
     }
     Ok(())
