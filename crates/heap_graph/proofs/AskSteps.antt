@@ -41,10 +41,10 @@ one_slot other map a b e c =
 
 -- a target is itself
 pub same_targets : (structs : List StructDef) (graph : Graph) (a : Target) (asks : List Ask) → Same structs graph (One a a ∷ asks) asks
-same_targets structs graph a asks = record { forward = λ other into fine maps holds. holds.1; backward = λ other into maps holds. (refl, holds) }
+same_targets structs graph a asks = record { forward = λ other into maps holds. holds.1; backward = λ other into maps holds. (refl, holds) }
 
 pub turned : (structs : List StructDef) (graph : Graph) (a b : Target) (asks : List Ask) → Same structs graph (One a b ∷ asks) (One b a ∷ asks)
-turned structs graph a b asks = record { forward = λ other into fine maps holds. (sym holds.0, holds.1); backward = λ other into maps holds. (sym holds.0, holds.1) }
+turned structs graph a b asks = record { forward = λ other into maps holds. (sym holds.0, holds.1); backward = λ other into maps holds. (sym holds.0, holds.1) }
 
 -- two slots of a node are one only where it is collapsed
 two_shifts : (c : Bool) (s i j : ℕ) → (i ≡ j → ⊥) → cond c 0 (s + i) ≡ cond c 0 (s + j) → c ≡ true
@@ -54,7 +54,7 @@ two_shifts false s i j differ e = absurd (differ (omega (arith, e)))
 pub two_slots : (structs : List StructDef) (graph : Graph) (a b : Target) (node : Node) → node_at graph a.node ≡ Some node → a.node ≡ b.node → (a.shift ≡ b.shift → ⊥) → (asks : List Ask)
     → Same structs graph (One a b ∷ asks) (Collapse a.node ∷ asks)
 two_slots structs graph a b node e same differ asks = record {
-  forward = λ other into fine maps holds.
+  forward = λ other into maps holds.
       let image = image_of structs graph other into maps a.node node e in
       let at_b : node_at other (into b.node).node ≡ Some image.node = ap (λ n. node_at other (into n).node) (sym same) ∙ image.is in
       let shifts : (target_in into a image.node).shift ≡ (target_in into b image.node).shift =
@@ -72,7 +72,7 @@ kept_collapsed_image structs element other target e h = subst (λ x. at_target o
 pub collapsed_already : (structs : List StructDef) (graph : Graph) (number : ℕ) (node : Node) → node_at graph number ≡ Some node → node.element ≡ Collapsed → (asks : List Ask)
     → Same structs graph (Collapse number ∷ asks) asks
 collapsed_already structs graph number node e c asks = record {
-  forward = λ other into fine maps holds. holds.1;
+  forward = λ other into maps holds. holds.1;
   backward = λ other into maps holds. (kept_collapsed_image structs node.element other (into number) c (maps.elements number node e), holds);
 }
 
@@ -80,7 +80,7 @@ collapsed_already structs graph number node e c asks = record {
 pub second_edge : (structs : List StructDef) (graph : Graph) (number slot : ℕ) (node : Node) (own to : Target) → node_at graph number ≡ Some node → edge_in node.edges slot ≡ Some own → (asks : List Ask)
     → Same structs graph (Points number slot to ∷ asks) (One own to ∷ asks)
 second_edge structs graph number slot node own to e has asks = record {
-  forward = λ other into fine maps holds. (sym (maps.edges number slot node own e has) ∙ holds.0, holds.1);
+  forward = λ other into maps holds. (sym (maps.edges number slot node own e has) ∙ holds.0, holds.1);
   backward = λ other into maps holds. (maps.edges number slot node own e has ∙ holds.0, holds.1);
 }
 
@@ -118,7 +118,7 @@ module _ (structs : List StructDef) (made : AreMade structs) (graph : Graph) (a 
   pub clash : Clash structs at_a.node.element at_b.node.element a.shift b.shift → (asks : List Ask)
       → Same structs graph (One a b ∷ asks) (Collapse a.node ∷ Collapse b.node ∷ One (first_slot a.node) (first_slot b.node) ∷ asks)
   clash clashes asks = record {
-    forward = λ other into fine maps holds.
+    forward = λ other into maps holds.
         let x = image_of structs graph other into maps a.node at_a.node at_a.is in
         let y = image_of structs graph other into maps b.node at_b.node at_b.is in
         let targets : target_in into a x.node ≡ target_in into b y.node =
@@ -141,4 +141,11 @@ module _ (structs : List StructDef) (made : AreMade structs) (graph : Graph) (a 
         );
     backward = λ other into maps holds.
         (one_slot other into a (first_slot a.node) refl holds.0 ∙ holds.1.1.0 ∙ one_slot other into (first_slot b.node) b refl holds.1.0, holds.1.1.1);
+  }
+
+  -- the same two targets are asked once more
+  pub clash_again : Clash structs at_a.node.element at_b.node.element a.shift b.shift → (asks : List Ask) → Same structs graph (One a b ∷ asks) (Collapse a.node ∷ Collapse b.node ∷ One a b ∷ asks)
+  clash_again clashes asks = record {
+    forward = λ other into maps holds. let plain = (clash clashes asks).forward other into maps holds in (plain.0, (plain.1.0, holds));
+    backward = λ other into maps holds. holds.1.1;
   }

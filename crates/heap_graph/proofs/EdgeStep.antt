@@ -5,7 +5,7 @@ use Rattle.std.proofs.lemmas.Option.{none-some, same_Some}
 use Rattle.c_typed.specs.Layouts.{StructDef}
 use Rattle.heap_graph.specs.Structures.{AreMade}
 use Rattle.heap_graph.specs.Graphs.{Target, Node, Graph, edge_in, node_at}
-use Rattle.heap_graph.specs.Targets.{at_target, edge_at, flags_kept, element_kept}
+use Rattle.heap_graph.specs.Targets.{at_target, edge_at, marks_kept, element_kept}
 use Rattle.heap_graph.specs.Merging.{slots, IsSlot, IsSound, GraphMap, mapped, Maps}
 use Rattle.heap_graph.specs.Steps.{Ask, One, Collapse, Points, Holds, IsNode, IsOf, AllAreOf, via, unmoved, Step, GetsEdge}
 use Rattle.heap_graph.proofs.StepsCompose.{Like, all_like, settled_like, image_node, itself, maps_same, nodes_of}
@@ -115,7 +115,7 @@ module _ (structs : List StructDef) (made : AreMade structs) (old new : Graph) (
           subst (λ x. at_target other (Some (into at)) (element_kept structs x) ≡ true) its.element (maps.elements at its.before its.is);
       flags = λ at now e.
           let its = was at now e in
-          subst (λ x. at_target other (Some (into at)) (λ image shift. flags_kept x image.flags) ≡ true) its.flags (maps.flags at its.before its.is);
+          subst (λ x. at_target other (Some (into at)) (λ image shift. marks_kept x image.flags) ≡ true) its.flags (maps.flags at its.before its.is);
       edges = λ at s now t e has. by at s now t (was at now e) has;
     }
       where
@@ -136,7 +136,7 @@ module _ (structs : List StructDef) (made : AreMade structs) (old new : Graph) (
           subst (λ x. at_target other (Some (into at)) (element_kept structs x) ≡ true) its.element (maps.elements at its.now its.is);
       flags = λ at before e.
           let its = is_now at before e in
-          subst (λ x. at_target other (Some (into at)) (λ image shift. flags_kept x image.flags) ≡ true) its.flags (maps.flags at its.now its.is);
+          subst (λ x. at_target other (Some (into at)) (λ image shift. marks_kept x image.flags) ≡ true) its.flags (maps.flags at its.now its.is);
       edges = λ at s before t e has.
           let its = is_now at before e in
           maps.edges at s its.now t its.is (its.edges s t has);
@@ -149,7 +149,7 @@ module _ (structs : List StructDef) (made : AreMade structs) (old new : Graph) (
       sound = sound_now;
       asks = asks_now asks its;
       fewer = change.fewer;
-      forward = λ other into fine maps holds. (new_maps other into maps holds.0, (holds.1, λ at before. refl));
+      forward = λ other into maps holds. (new_maps other into maps holds.0, (holds.1, λ at before. refl));
       backward = λ other rest maps holds.
           let back = old_maps other rest maps in
           let like : (at : ℕ) → IsNode old at → Like other (rest at) (via other rest unmoved at) = λ at before.

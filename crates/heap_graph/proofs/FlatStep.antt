@@ -6,7 +6,7 @@ use Rattle.std.proofs.lemmas.Option.{none-some, same_Some}
 use Rattle.c_typed.specs.Layouts.{StructDef}
 use Rattle.heap_graph.specs.Structures.{AreMade}
 use Rattle.heap_graph.specs.Graphs.{Target, Element, Missing, OfType, Collapsed, Flags, Edge, Node, Graph, edge_in, node_at}
-use Rattle.heap_graph.specs.Targets.{at_target, edge_at, flags_kept, element_kept}
+use Rattle.heap_graph.specs.Targets.{at_target, edge_at, marks_kept, element_kept}
 use Rattle.heap_graph.specs.Merging.{slots, IsSlot, IsSound, GraphMap, mapped, Maps, IsCollapsed}
 use Rattle.heap_graph.specs.Steps.{Ask, One, Collapse, Points, Holds, AllHold, IsNode, IsOf, AllAreOf, via, unmoved, Step, AreFound, flattened, flattened_edge, flattened_node, flattened_ask, flattened_asks, asked_once, IsFlattened}
 use Rattle.heap_graph.proofs.MapsCompose.{at_there, at_from, edge_there, target_in, mapped_there, via_there, KeepsNodes, keeps_nodes, places, go_through, edge_through, edge_reached}
@@ -79,12 +79,12 @@ module _ (structs : List StructDef) (made : AreMade structs) (old new : Graph) (
           at_from new (unmoved at) (element_kept structs its.element) (flattened_node number its) (other_node at its p e)
           (kept_itself structs made its.element its.flags (map (flattened_edge number) its.edges))
 
-      flags_by : (at : ℕ) (its : Node) → node_at old at ≡ Some its → (at ≡ number) ⊎ (at ≡ number → ⊥) → at_target new (Some (unmoved at)) (λ image shift. flags_kept its.flags image.flags) ≡ true
+      flags_by : (at : ℕ) (its : Node) → node_at old at ≡ Some its → (at ≡ number) ⊎ (at ≡ number → ⊥) → at_target new (Some (unmoved at)) (λ image shift. marks_kept its.flags image.flags) ≡ true
       flags_by at its e (inl p) =
-          subst (λ (n : Node). at_target new (Some (unmoved at)) (λ image shift. flags_kept n.flags image.flags) ≡ true) (same_node at its p e)
-          (at_from new (unmoved at) (λ image shift. flags_kept node.flags image.flags) flat (ap (node_at new) p ∙ change.at) (flags_itself node.flags))
+          subst (λ (n : Node). at_target new (Some (unmoved at)) (λ image shift. marks_kept n.flags image.flags) ≡ true) (same_node at its p e)
+          (at_from new (unmoved at) (λ image shift. marks_kept node.flags image.flags) flat (ap (node_at new) p ∙ change.at) (flags_itself node.flags))
       flags_by at its e (inr p) =
-          at_from new (unmoved at) (λ image shift. flags_kept its.flags image.flags) (flattened_node number its) (other_node at its p e) (flags_itself its.flags)
+          at_from new (unmoved at) (λ image shift. marks_kept its.flags image.flags) (flattened_node number its) (other_node at its p e) (flags_itself its.flags)
 
   -- where a node of the new graph has an edge, the old one had
   record Had (at slot : ℕ) (now : Node) (to : Target) : Type 0 where
@@ -231,13 +231,13 @@ module _ (structs : List StructDef) (made : AreMade structs) (old new : Graph) (
             let its = of_map (flattened_node number) (node_at old at) now (sym (change.others at p) ∙ e) in
             subst (λ (n : Node). at_target other (Some (into at)) (element_kept structs n.element) ≡ true) its.1.1 (maps.elements at its.0 its.1.0)
 
-        flags_by : (at : ℕ) (now : Node) → node_at new at ≡ Some now → (at ≡ number) ⊎ (at ≡ number → ⊥) → at_target other (Some (into at)) (λ image shift. flags_kept now.flags image.flags) ≡ true
+        flags_by : (at : ℕ) (now : Node) → node_at new at ≡ Some now → (at ≡ number) ⊎ (at ≡ number → ⊥) → at_target other (Some (into at)) (λ image shift. marks_kept now.flags image.flags) ≡ true
         flags_by at now e (inl p) =
             let its : flat ≡ now = same_Some flat now (sym change.at ∙ ap (node_at new) (sym p) ∙ e) in
-            subst (λ (n : Node). at_target other (Some (into at)) (λ image shift. flags_kept n.flags image.flags) ≡ true) its (maps.flags at node (ap (node_at old) p ∙ change.is))
+            subst (λ (n : Node). at_target other (Some (into at)) (λ image shift. marks_kept n.flags image.flags) ≡ true) its (maps.flags at node (ap (node_at old) p ∙ change.is))
         flags_by at now e (inr p) =
             let its = of_map (flattened_node number) (node_at old at) now (sym (change.others at p) ∙ e) in
-            subst (λ (n : Node). at_target other (Some (into at)) (λ image shift. flags_kept n.flags image.flags) ≡ true) its.1.1 (maps.flags at its.0 its.1.0)
+            subst (λ (n : Node). at_target other (Some (into at)) (λ image shift. marks_kept n.flags image.flags) ≡ true) its.1.1 (maps.flags at its.0 its.1.0)
 
     ask_holds : (ask : Ask) → Holds ask other into → Holds (flattened_ask number ask) other into
     ask_holds (One a b) h = flat_same a ∙ h ∙ sym (flat_same b)
@@ -263,7 +263,7 @@ module _ (structs : List StructDef) (made : AreMade structs) (old new : Graph) (
     sound = sound_new;
     asks = edges_new node.edges change.found (flattened_asks number asks) (asks_new asks its);
     fewer = change.fewer;
-    forward = λ other into fine maps holds. (
+    forward = λ other into maps holds. (
       new_maps other into maps holds.0,
       (edges_hold other into maps holds.0 node.edges change.found (flattened_asks number asks) (asks_hold other into maps holds.0 asks holds.1), λ at node. refl),
     );

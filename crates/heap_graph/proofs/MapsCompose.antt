@@ -6,7 +6,7 @@ use Rattle.std.proofs.lemmas.Option.{same_Some}
 use Rattle.c_typed.specs.Layouts.{StructDef}
 use Rattle.heap_graph.specs.Structures.{AreMade}
 use Rattle.heap_graph.specs.Graphs.{Target, Element, Missing, OfType, Collapsed, Flags, Edge, Node, Name, Graph, edge_in, node_at}
-use Rattle.heap_graph.specs.Targets.{at_target, is_collapsed, shifted, edge_at, implies, flags_kept, element_kept}
+use Rattle.heap_graph.specs.Targets.{at_target, is_collapsed, shifted, edge_at, implies, marks_kept, element_kept}
 use Rattle.heap_graph.specs.Merging.{slots, IsSound, GraphMap, mapped, Maps}
 use Rattle.heap_graph.specs.Steps.{or_first, via}
 use Rattle.heap_graph.proofs.PartsNest.{tested, found, part_trans}
@@ -78,13 +78,14 @@ both a b c d e f h k first others =
     let right = and_parts c d k in
     and_from e f (first left.0 right.0) (others left.1 right.1)
 
-pub flags_trans : (a b c : Flags) → flags_kept a b ≡ true → flags_kept b c ≡ true → flags_kept a c ≡ true
+pub flags_trans : (a b c : Flags) → marks_kept a b ≡ true → marks_kept b c ≡ true → marks_kept a c ≡ true
 flags_trans a b c h k =
+    both _ _ _ _ _ _ h k (implies_trans a.certain b.certain c.certain) (λ h k.
     both _ _ _ _ _ _ h k (implies_trans a.heap b.heap c.heap) (λ h k.
     both _ _ _ _ _ _ h k (implies_trans a.stack b.stack c.stack) (λ h k.
     both _ _ _ _ _ _ h k (implies_trans a.global b.global c.global) (λ h k.
     both _ _ _ _ _ _ h k (implies_trans a.array b.array c.array) (λ h k.
-    both _ _ _ _ _ _ h k (implies_trans a.modified b.modified c.modified) (implies_trans a.read b.read c.read)))))
+    both _ _ _ _ _ _ h k (implies_trans a.modified b.modified c.modified) (implies_trans a.read b.read c.read))))))
 
 -- ---- maps one after the other
 
@@ -116,7 +117,7 @@ through one two rest map target middle last e f keeps =
 pub record KeepsNodes (structs : List StructDef) (graph other : Graph) (map : GraphMap) : Type 0 where
   pub names : (name : Name) (target : Target) → graph.targets name ≡ Some target → other.targets name ≡ mapped other map target
   pub elements : (number : ℕ) (node : Node) → node_at graph number ≡ Some node → at_target other (Some (map number)) (element_kept structs node.element) ≡ true
-  pub flags : (number : ℕ) (node : Node) → node_at graph number ≡ Some node → at_target other (Some (map number)) (λ image shift. flags_kept node.flags image.flags) ≡ true
+  pub flags : (number : ℕ) (node : Node) → node_at graph number ≡ Some node → at_target other (Some (map number)) (λ image shift. marks_kept node.flags image.flags) ≡ true
 
 -- where a node of the first graph is in the second and in the third
 pub record Places (structs : List StructDef) (one two three : Graph) (map rest : GraphMap) (number : ℕ) (node : Node) : Type 0 where
@@ -126,8 +127,8 @@ pub record Places (structs : List StructDef) (one two three : Graph) (map rest :
   pub last_is : node_at three (rest (map number).node).node ≡ Some last
   pub first_kept : element_kept structs node.element middle (map number).shift ≡ true
   pub then_kept : element_kept structs middle.element last (rest (map number).node).shift ≡ true
-  pub first_flags : flags_kept node.flags middle.flags ≡ true
-  pub then_flags : flags_kept middle.flags last.flags ≡ true
+  pub first_flags : marks_kept node.flags middle.flags ≡ true
+  pub then_flags : marks_kept middle.flags last.flags ≡ true
 
 module _ (structs : List StructDef) (made : AreMade structs) (one two three : Graph) (map rest : GraphMap) (sound : IsSound structs one) (first : KeepsNodes structs one two map) (then : Maps structs two three rest) where
   pub places : (number : ℕ) (node : Node) → node_at one number ≡ Some node → Places structs one two three map rest number node
@@ -141,8 +142,8 @@ module _ (structs : List StructDef) (made : AreMade structs) (one two three : Gr
         last_is = b.is;
         first_kept = a.so;
         then_kept = b.so;
-        first_flags = sym (at_some two (map number) (λ image shift. flags_kept node.flags image.flags) a.node a.is) ∙ first.flags number node e;
-        then_flags = sym (at_some three (rest (map number).node) (λ image shift. flags_kept a.node.flags image.flags) b.node b.is) ∙ then.flags (map number).node a.node a.is;
+        first_flags = sym (at_some two (map number) (λ image shift. marks_kept node.flags image.flags) a.node a.is) ∙ first.flags number node e;
+        then_flags = sym (at_some three (rest (map number).node) (λ image shift. marks_kept a.node.flags image.flags) b.node b.is) ∙ then.flags (map number).node a.node a.is;
       }
 
   pub go_through : (target : Target) (node : Node) (e : node_at one target.node ≡ Some node)
@@ -167,8 +168,8 @@ module _ (structs : List StructDef) (made : AreMade structs) (one two three : Gr
     flags = λ number node e.
         let p = places number node e in
         let itself = via_there three rest map number p.last p.last_is in
-        subst (λ x. at_target three (Some x) (λ image shift. flags_kept node.flags image.flags) ≡ true) (sym itself)
-        (at_from three (target_in rest (map number) p.last) (λ image shift. flags_kept node.flags image.flags) p.last p.last_is (flags_trans node.flags p.middle.flags p.last.flags p.first_flags p.then_flags));
+        subst (λ x. at_target three (Some x) (λ image shift. marks_kept node.flags image.flags) ≡ true) (sym itself)
+        (at_from three (target_in rest (map number) p.last) (λ image shift. marks_kept node.flags image.flags) p.last p.last_is (flags_trans node.flags p.middle.flags p.last.flags p.first_flags p.then_flags));
   }
 
   -- an edge that the second graph has

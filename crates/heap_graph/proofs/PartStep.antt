@@ -7,7 +7,7 @@ use Rattle.c_typed.specs.Layouts.{StructDef}
 use Rattle.heap_graph.specs.Structures.{AreMade}
 use Rattle.heap_graph.specs.Parts.{has_part}
 use Rattle.heap_graph.specs.Graphs.{Target, Element, Missing, OfType, Collapsed, Flags, Edge, Node, Graph, edge_in, node_at}
-use Rattle.heap_graph.specs.Targets.{at_target, is_collapsed, shifted, edge_at, implies, flags_kept, element_kept}
+use Rattle.heap_graph.specs.Targets.{at_target, is_collapsed, shifted, edge_at, implies, marks_kept, element_kept}
 use Rattle.heap_graph.specs.Merging.{slots, IsSlot, IsSound, GraphMap, mapped, Maps, IsCollapsed}
 use Rattle.heap_graph.specs.Steps.{Ask, One, Collapse, Points, Holds, AllHold, IsNode, IsOf, AllAreOf, via, unmoved, Step, moved, moved_edges, both_flags, moved_node, moved_ask, moved_asks, asked_edges, AreFound, BecomesPart}
 use Rattle.heap_graph.proofs.MapsCompose.{shift_in, at_there, at_some, at_from, edge_there, target_in, mapped_there, via_there, KeepsNodes, keeps_nodes, places, go_through, edge_through, edge_reached}
@@ -47,15 +47,15 @@ implies_right true false = refl
 implies_right false true = refl
 implies_right false false = refl
 
-pub left_kept : (a b : Flags) → flags_kept a (both_flags a b) ≡ true
+pub left_kept : (a b : Flags) → marks_kept a (both_flags a b) ≡ true
 left_kept a b =
-    and_from _ _ (implies_left a.heap b.heap) (and_from _ _ (implies_left a.stack b.stack) (and_from _ _ (implies_left a.global b.global) (and_from _ _ (implies_left a.array b.array)
-    (and_from _ _ (implies_left a.modified b.modified) (implies_left a.read b.read)))))
+    and_from _ _ (implies_left a.certain b.certain) (and_from _ _ (implies_left a.heap b.heap) (and_from _ _ (implies_left a.stack b.stack) (and_from _ _ (implies_left a.global b.global) (and_from _ _ (implies_left a.array b.array)
+    (and_from _ _ (implies_left a.modified b.modified) (implies_left a.read b.read))))))
 
-pub right_kept : (a b : Flags) → flags_kept b (both_flags a b) ≡ true
+pub right_kept : (a b : Flags) → marks_kept b (both_flags a b) ≡ true
 right_kept a b =
-    and_from _ _ (implies_right a.heap b.heap) (and_from _ _ (implies_right a.stack b.stack) (and_from _ _ (implies_right a.global b.global) (and_from _ _ (implies_right a.array b.array)
-    (and_from _ _ (implies_right a.modified b.modified) (implies_right a.read b.read)))))
+    and_from _ _ (implies_right a.certain b.certain) (and_from _ _ (implies_right a.heap b.heap) (and_from _ _ (implies_right a.stack b.stack) (and_from _ _ (implies_right a.global b.global) (and_from _ _ (implies_right a.array b.array)
+    (and_from _ _ (implies_right a.modified b.modified) (implies_right a.read b.read))))))
 
 or_implies : (a b c : Bool) → implies a c ≡ true → implies b c ≡ true → implies (a || b) c ≡ true
 or_implies true b c h k = h
@@ -68,13 +68,14 @@ pairs a b c d e f h k first others =
     and_from e f (first left.0 right.0) (others left.1 right.1)
 
 -- what keeps the flags of two nodes keeps both
-pub both_kept : (a b c : Flags) → flags_kept a c ≡ true → flags_kept b c ≡ true → flags_kept (both_flags a b) c ≡ true
+pub both_kept : (a b c : Flags) → marks_kept a c ≡ true → marks_kept b c ≡ true → marks_kept (both_flags a b) c ≡ true
 both_kept a b c h k =
+    pairs _ _ _ _ _ _ h k (or_implies a.certain b.certain c.certain) (λ h k.
     pairs _ _ _ _ _ _ h k (or_implies a.heap b.heap c.heap) (λ h k.
     pairs _ _ _ _ _ _ h k (or_implies a.stack b.stack c.stack) (λ h k.
     pairs _ _ _ _ _ _ h k (or_implies a.global b.global c.global) (λ h k.
     pairs _ _ _ _ _ _ h k (or_implies a.array b.array c.array) (λ h k.
-    pairs _ _ _ _ _ _ h k (or_implies a.modified b.modified c.modified) (or_implies a.read b.read c.read)))))
+    pairs _ _ _ _ _ _ h k (or_implies a.modified b.modified c.modified) (or_implies a.read b.read c.read))))))
 
 -- ---- targets that are moved
 
@@ -185,18 +186,18 @@ module _ (structs : List StructDef) (made : AreMade structs) (old new : Graph) (
           (kept_itself structs made node.element node.flags (moved_edges part whole distance node.edges)))
 
       flags_by : (number : ℕ) (node : Node) → node_at old number ≡ Some node → (number ≡ part) ⊎ (number ≡ part → ⊥) → (number ≡ whole) ⊎ (number ≡ whole → ⊥)
-          → at_target new (Some (the_map number)) (λ image shift. flags_kept node.flags image.flags) ≡ true
+          → at_target new (Some (the_map number)) (λ image shift. marks_kept node.flags image.flags) ≡ true
       flags_by number node e (inl p) w =
-          subst (λ (n : Node). at_target new (Some (the_map number)) (λ image shift. flags_kept n.flags image.flags) ≡ true) (same_inner number node p e)
-          (subst (λ t. at_target new (Some t) (λ image shift. flags_kept inner.flags image.flags) ≡ true) (sym (moved_part part whole distance (record { node = number; shift = 0 }) p))
-          (at_from new (record { node = whole; shift = 0 + distance }) (λ image shift. flags_kept inner.flags image.flags) joined change.at_whole (right_kept outer.flags inner.flags)))
+          subst (λ (n : Node). at_target new (Some (the_map number)) (λ image shift. marks_kept n.flags image.flags) ≡ true) (same_inner number node p e)
+          (subst (λ t. at_target new (Some t) (λ image shift. marks_kept inner.flags image.flags) ≡ true) (sym (moved_part part whole distance (record { node = number; shift = 0 }) p))
+          (at_from new (record { node = whole; shift = 0 + distance }) (λ image shift. marks_kept inner.flags image.flags) joined change.at_whole (right_kept outer.flags inner.flags)))
       flags_by number node e (inr p) (inl w) =
-          subst (λ (n : Node). at_target new (Some (the_map number)) (λ image shift. flags_kept n.flags image.flags) ≡ true) (same_outer number node w e)
-          (subst (λ t. at_target new (Some t) (λ image shift. flags_kept outer.flags image.flags) ≡ true) (sym (moved_other part whole distance (record { node = number; shift = 0 }) p))
-          (at_from new (record { node = number; shift = 0 }) (λ image shift. flags_kept outer.flags image.flags) joined (ap (node_at new) w ∙ change.at_whole) (left_kept outer.flags inner.flags)))
+          subst (λ (n : Node). at_target new (Some (the_map number)) (λ image shift. marks_kept n.flags image.flags) ≡ true) (same_outer number node w e)
+          (subst (λ t. at_target new (Some t) (λ image shift. marks_kept outer.flags image.flags) ≡ true) (sym (moved_other part whole distance (record { node = number; shift = 0 }) p))
+          (at_from new (record { node = number; shift = 0 }) (λ image shift. marks_kept outer.flags image.flags) joined (ap (node_at new) w ∙ change.at_whole) (left_kept outer.flags inner.flags)))
       flags_by number node e (inr p) (inr w) =
-          subst (λ t. at_target new (Some t) (λ image shift. flags_kept node.flags image.flags) ≡ true) (sym (moved_other part whole distance (record { node = number; shift = 0 }) p))
-          (at_from new (record { node = number; shift = 0 }) (λ image shift. flags_kept node.flags image.flags) (moved_node part whole distance node) (other_node number node p w e) (flags_itself node.flags))
+          subst (λ t. at_target new (Some t) (λ image shift. marks_kept node.flags image.flags) ≡ true) (sym (moved_other part whole distance (record { node = number; shift = 0 }) p))
+          (at_from new (record { node = number; shift = 0 }) (λ image shift. marks_kept node.flags image.flags) (moved_node part whole distance node) (other_node number node p w e) (flags_itself node.flags))
 
   -- ---- the new graph is sound
 
@@ -351,8 +352,8 @@ module _ (structs : List StructDef) (made : AreMade structs) (old new : Graph) (
         at_whole : node_at other (into whole).node ≡ Some image
         nodes : (into part).node ≡ (into whole).node
         shifts : shift_in image ((into part).shift + a.shift) ≡ shift_in image ((into whole).shift + (a.shift + distance))
-        part_flags : flags_kept inner.flags image.flags ≡ true
-        whole_flags : flags_kept outer.flags image.flags ≡ true
+        part_flags : marks_kept inner.flags image.flags ≡ true
+        whole_flags : marks_kept outer.flags image.flags ≡ true
 
       together : Together
       together =
@@ -374,8 +375,8 @@ module _ (structs : List StructDef) (made : AreMade structs) (old new : Graph) (
                 ap (λ n. shift_in x.node ((into n).shift + a.shift)) (sym of_part) ∙ ap (λ (t : Target). t.shift) targets
                 ∙ ap (λ n. shift_in n ((into b.node).shift + b.shift)) images ∙ ap (λ n. shift_in x.node ((into n).shift + b.shift)) of_whole
                 ∙ ap (λ s. shift_in x.node ((into whole).shift + s)) (sym lies);
-            part_flags = sym (at_some other (into part) (λ image shift. flags_kept inner.flags image.flags) x.node x.is) ∙ maps.flags part inner change.part_is;
-            whole_flags = sym (at_some other (into whole) (λ image shift. flags_kept outer.flags image.flags) x.node (y.is ∙ ap Some images)) ∙ maps.flags whole outer change.whole_is;
+            part_flags = sym (at_some other (into part) (λ image shift. marks_kept inner.flags image.flags) x.node x.is) ∙ maps.flags part inner change.part_is;
+            whole_flags = sym (at_some other (into whole) (λ image shift. marks_kept outer.flags image.flags) x.node (y.is ∙ ap Some images)) ∙ maps.flags whole outer change.whole_is;
           }
 
       -- what is moved is the same
@@ -410,17 +411,17 @@ module _ (structs : List StructDef) (made : AreMade structs) (old new : Graph) (
       }
         where
           flags_by : (number : ℕ) (node : Node) → node_at new number ≡ Some node → (number ≡ part) ⊎ (number ≡ part → ⊥) → (number ≡ whole) ⊎ (number ≡ whole → ⊥)
-              → at_target other (Some (into number)) (λ image shift. flags_kept node.flags image.flags) ≡ true
+              → at_target other (Some (into number)) (λ image shift. marks_kept node.flags image.flags) ≡ true
           flags_by number node e (inl p) w = absurd (none-some node (sym change.gone ∙ ap (node_at new) (sym p) ∙ e))
           flags_by number node e (inr p) (inl w) =
               let its : joined ≡ node = same_Some joined node (sym change.at_whole ∙ ap (node_at new) (sym w) ∙ e) in
               let t = together in
-              subst (λ (n : Node). at_target other (Some (into number)) (λ image shift. flags_kept n.flags image.flags) ≡ true) its
-              (at_from other (into number) (λ image shift. flags_kept joined.flags image.flags) t.image (ap (λ n. node_at other (into n).node) w ∙ t.at_whole)
+              subst (λ (n : Node). at_target other (Some (into number)) (λ image shift. marks_kept n.flags image.flags) ≡ true) its
+              (at_from other (into number) (λ image shift. marks_kept joined.flags image.flags) t.image (ap (λ n. node_at other (into n).node) w ∙ t.at_whole)
               (both_kept outer.flags inner.flags t.image.flags t.whole_flags t.part_flags))
           flags_by number node e (inr p) (inr w) =
               let its = of_map (moved_node part whole distance) (node_at old number) node (sym (change.others number p w) ∙ e) in
-              subst (λ (n : Node). at_target other (Some (into number)) (λ image shift. flags_kept n.flags image.flags) ≡ true) its.1.1 (maps.flags number its.0 its.1.0)
+              subst (λ (n : Node). at_target other (Some (into number)) (λ image shift. marks_kept n.flags image.flags) ≡ true) its.1.1 (maps.flags number its.0 its.1.0)
 
       ask_holds : (ask : Ask) → IsOf structs old ask → Holds ask other into → Holds (moved_ask part whole distance ask) other into
       ask_holds (One c d) its h = moved_same c (its.0.node, its.0.is) ∙ h ∙ sym (moved_same d (its.1.node, its.1.is))
@@ -456,7 +457,7 @@ module _ (structs : List StructDef) (made : AreMade structs) (old new : Graph) (
       sound = sound_new;
       asks = edges_new inner.edges change.found (moved_asks part whole distance asks) (asks_new asks its);
       fewer = change.fewer;
-      forward = λ other into fine maps holds. (
+      forward = λ other into maps holds. (
         new_maps other into maps holds.0,
         (
           edges_hold other into maps holds.0 inner.edges change.found (moved_asks part whole distance asks) (asks_hold other into maps holds.0 asks its holds.1),

@@ -66,7 +66,7 @@ tac =
 -- ---- graphs
 
 abbrev flags : Bool → Bool → Bool → Flags
-flags modified read complete = record { heap = true; stack = false; global = false; array = false; modified = modified; read = read; complete = complete }
+flags modified read complete = record { heap = true; stack = false; global = false; array = false; modified = modified; read = read; complete = complete; certain = true }
 
 abbrev to_first : Target
 to_first = record { node = 0; shift = 0 }

@@ -4,7 +4,7 @@ use Rattle.std.proofs.lemmas.Bool.{and_from}
 use Rattle.c_typed.specs.Layouts.{StructDef}
 use Rattle.heap_graph.specs.Structures.{AreMade}
 use Rattle.heap_graph.specs.Graphs.{Target, Element, Missing, OfType, Collapsed, Flags, Edge, Node, Graph, node_at}
-use Rattle.heap_graph.specs.Targets.{at_target, is_collapsed, shifted, edge_at, implies, flags_kept, element_kept}
+use Rattle.heap_graph.specs.Targets.{at_target, is_collapsed, shifted, edge_at, implies, marks_kept, element_kept}
 use Rattle.heap_graph.specs.Merging.{slots, IsSlot, IsSound, GraphMap, mapped, Maps, LeastWith}
 use Rattle.heap_graph.specs.Steps.{Ask, One, Collapse, Points, Holds, AllHold, IsNode, IsOf, AllAreOf, or_first, via, unmoved, Step}
 use Rattle.heap_graph.proofs.PartsNest.{Itself, found, alike_refl}
@@ -82,9 +82,9 @@ implies_itself : (b : Bool) → implies b b ≡ true
 implies_itself true = refl
 implies_itself false = refl
 
-pub flags_itself : (f : Flags) → flags_kept f f ≡ true
+pub flags_itself : (f : Flags) → marks_kept f f ≡ true
 flags_itself f =
-    and_from _ _ (implies_itself f.heap) (and_from _ _ (implies_itself f.stack) (and_from _ _ (implies_itself f.global) (and_from _ _ (implies_itself f.array) (and_from _ _ (implies_itself f.modified) (implies_itself f.read)))))
+    and_from _ _ (implies_itself f.certain) (and_from _ _ (implies_itself f.heap) (and_from _ _ (implies_itself f.stack) (and_from _ _ (implies_itself f.global) (and_from _ _ (implies_itself f.array) (and_from _ _ (implies_itself f.modified) (implies_itself f.read))))))
 
 pub settled_slot : (structs : List StructDef) (e : Element) (s : ℕ) → s < slots structs e → s ≡ cond (is_collapsed e) 0 (0 + s)
 settled_slot structs Missing s h = omega arith
@@ -100,7 +100,7 @@ pub itself : (structs : List StructDef) → AreMade structs → (graph : Graph) 
 itself structs made graph sound = record {
   names = λ name target e. e ∙ sym (slot_itself structs graph target (sound.names name target e));
   elements = λ number node e. at_from graph (unmoved number) (element_kept structs node.element) node e (kept_itself structs made node.element node.flags node.edges);
-  flags = λ number node e. at_from graph (unmoved number) (λ image shift. flags_kept node.flags image.flags) node e (flags_itself node.flags);
+  flags = λ number node e. at_from graph (unmoved number) (λ image shift. marks_kept node.flags image.flags) node e (flags_itself node.flags);
   edges = λ number slot node to e has.
       let from : IsSlot structs graph (record { node = number; shift = slot }) = record { node = node; is = e; inside = sound.from number slot node to e has } in
       ap (edge_at graph) (slot_itself structs graph (record { node = number; shift = slot }) from)
@@ -114,7 +114,7 @@ nodes_of structs graph other map maps = record { names = maps.names; elements = 
 
 -- what is asked is the same as what was
 pub record Same (structs : List StructDef) (graph : Graph) (before after : List Ask) : Type 1 where
-  pub forward : (other : Graph) (into : GraphMap) → IsSound structs other → Maps structs graph other into → AllHold before other into → AllHold after other into
+  pub forward : (other : Graph) (into : GraphMap) → Maps structs graph other into → AllHold before other into → AllHold after other into
   pub backward : (other : Graph) (into : GraphMap) → Maps structs graph other into → AllHold after other into → AllHold before other into
 
 -- a map is a map where another agrees with it on the nodes
@@ -127,8 +127,8 @@ maps_same structs graph other map same sound like elements maps = record {
       maps.names name target e ∙ (like target.node (slot.node, slot.is)).targets target.shift;
   elements = elements;
   flags = λ number node e.
-      let there = at_there other (map number) (λ image shift. flags_kept node.flags image.flags) (maps.flags number node e) in
-      at_from other (same number) (λ image shift. flags_kept node.flags image.flags) there.node (ap (node_at other) (sym (like number (node, e)).node) ∙ there.is) there.so;
+      let there = at_there other (map number) (λ image shift. marks_kept node.flags image.flags) (maps.flags number node e) in
+      at_from other (same number) (λ image shift. marks_kept node.flags image.flags) there.node (ap (node_at other) (sym (like number (node, e)).node) ∙ there.is) there.so;
   edges = λ number slot node to e has.
       let end = sound.to number slot node to e has in
       ap (edge_at other) (sym ((like number (node, e)).targets slot)) ∙ maps.edges number slot node to e has ∙ (like to.node (end.node, end.is)).targets to.shift;
@@ -150,7 +150,7 @@ ask_step structs made graph sound before after of_before of_after same = record 
   sound = sound;
   asks = of_after;
   fewer = omega arith;
-  forward = λ other into fine maps holds. (maps, (same.forward other into fine maps holds, λ number node. refl));
+  forward = λ other into maps holds. (maps, (same.forward other into maps holds, λ number node. refl));
   backward = λ other rest maps holds.
       let like : (number : ℕ) → IsNode graph number → Like other (rest number) (via other rest unmoved number) = λ number node.
       let its = settled_like other (rest number) (image_node structs graph other rest maps number node) in
@@ -181,9 +181,9 @@ module _ (structs : List StructDef) (made : AreMade structs) (one two three : Gr
     sound = then.sound;
     asks = then.asks;
     fewer = let a = first.fewer in let b = then.fewer in omega (arith, a, b);
-    forward = λ other into fine maps holds.
-        let a = first.forward other into fine maps holds in
-        let b = then.forward other into fine a.0 a.1.0 in (
+    forward = λ other into maps holds.
+        let a = first.forward other into maps holds in
+        let b = then.forward other into a.0 a.1.0 in (
           b.0,
           (
             b.1.0,
@@ -214,8 +214,8 @@ finished structs made old new ask step =
       map = via new unmoved step.map;
       maps = end.0;
       holds = end.1.0;
-      least = λ other into fine maps holds.
-          let all = step.forward other into fine maps (holds, tt) in (
+      least = λ other into maps holds.
+          let all = step.forward other into maps (holds, tt) in (
             into,
             all.0,
             λ number node e.

@@ -18,7 +18,8 @@ pub data Element : Type 0 where
   OfType : (c_type : CType) → Element
   Collapsed : Element
 
--- what its objects are: allocations, locals, or globals and literals; arrays; written, read; and whether all that may point to them is known
+-- what its objects are: allocations, locals, or globals and literals; arrays; written, read; and whether all that may point to them is known.
+-- While a graph is made, a node is certain unless it may be that of null pointers alone; all nodes of a graph that is made are.
 pub record Flags : Type 0 where
   pub heap : Bool
   pub stack : Bool
@@ -27,6 +28,7 @@ pub record Flags : Type 0 where
   pub modified : Bool
   pub read : Bool
   pub complete : Bool
+  pub certain : Bool
 
 -- what the pointer at a slot points to
 pub record Edge : Type 0 where

@@ -63,6 +63,7 @@ pub record AreFewer (few flags : Flags) : Type 0 where
   pub modified : implies few.modified flags.modified ≡ true
   pub read : implies few.read flags.read ≡ true
   pub complete : implies few.complete flags.complete ≡ true
+  pub certain : few.certain ≡ flags.certain
 
 -- ---- the least family
 

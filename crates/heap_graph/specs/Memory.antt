@@ -21,4 +21,4 @@ ElementStands table element = Unit {0}
 
 abbrev pub flags_of : memory_flags.Flags → Flags
 flags_of flags =
-    record { heap = flags.heap; stack = flags.stack; global = flags.global; array = flags.array; modified = flags.modified; read = flags.read; complete = flags.complete }
+    record { heap = flags.heap; stack = flags.stack; global = flags.global; array = flags.array; modified = flags.modified; read = flags.read; complete = flags.complete; certain = flags.certain }

@@ -4,7 +4,7 @@ use Rattle.std.specs.Prelude.{◌≡◌, ℕ, suc, ◌≤◌, ◌<◌, true, Lis
 use Rattle.c_typed.specs.Layouts.{StructDef}
 use Rattle.heap_graph.specs.Parts.{slots_of}
 use Rattle.heap_graph.specs.Graphs.{Target, Element, OfType, Node, Name, Graph, edge_in, node_at}
-use Rattle.heap_graph.specs.Targets.{at_target, is_collapsed, shifted, edge_at, flags_kept, element_kept}
+use Rattle.heap_graph.specs.Targets.{at_target, is_collapsed, shifted, edge_at, marks_kept, element_kept}
 
 -- ---- graphs
 
@@ -42,7 +42,7 @@ mapped other map target = shifted other target.shift (Some (map target.node))
 pub record Maps (structs : List StructDef) (graph other : Graph) (map : GraphMap) : Type 0 where
   pub names : (name : Name) (target : Target) → graph.targets name ≡ Some target → other.targets name ≡ mapped other map target
   pub elements : (number : ℕ) (node : Node) → node_at graph number ≡ Some node → at_target other (Some (map number)) (element_kept structs node.element) ≡ true
-  pub flags : (number : ℕ) (node : Node) → node_at graph number ≡ Some node → at_target other (Some (map number)) (λ image shift. flags_kept node.flags image.flags) ≡ true
+  pub flags : (number : ℕ) (node : Node) → node_at graph number ≡ Some node → at_target other (Some (map number)) (λ image shift. marks_kept node.flags image.flags) ≡ true
   pub edges : (number slot : ℕ) (node : Node) (to : Target) → node_at graph number ≡ Some node → edge_in node.edges slot ≡ Some to
       → edge_at other (shifted other slot (Some (map number))) ≡ mapped other map to
 
@@ -56,7 +56,7 @@ pub record LeastWith (structs : List StructDef) (old new : Graph) (asked : Asked
   pub map : GraphMap
   pub maps : Maps structs old new map
   pub holds : asked new map
-  pub least : (other : Graph) (into : GraphMap) → IsSound structs other → Maps structs old other into → asked other into
+  pub least : (other : Graph) (into : GraphMap) → Maps structs old other into → asked other into
       → (rest : GraphMap) × Maps structs new other rest × ((number : ℕ) (node : Node) → node_at old number ≡ Some node → mapped other rest (map number) ≡ shifted other 0 (Some (into number)))
   pub fewer : count new.nodes ≤ count old.nodes
 

@@ -58,7 +58,7 @@ pub record Step (structs : List StructDef) (old new : Graph) (before after : Lis
   pub sound : IsSound structs new
   pub asks : AllAreOf structs new after
   pub fewer : count new.nodes ≤ count old.nodes
-  pub forward : (other : Graph) (into : GraphMap) → IsSound structs other → Maps structs old other into → AllHold before other into
+  pub forward : (other : Graph) (into : GraphMap) → Maps structs old other into → AllHold before other into
       → Maps structs new other into × (AllHold after other into × ((number : ℕ) → IsNode old number → mapped other into (map number) ≡ shifted other 0 (Some (into number))))
   pub backward : (other : Graph) (rest : GraphMap) → Maps structs new other rest → AllHold after other rest
       → Maps structs old other (via other rest map) × AllHold before other (via other rest map)
@@ -85,6 +85,7 @@ both_flags a b =
       modified = a.modified || b.modified;
       read = a.read || b.read;
       complete = a.complete && b.complete;
+      certain = a.certain || b.certain;
     }
 
 abbrev pub moved_node : ℕ → ℕ → ℕ → Node → Node
@@ -169,4 +170,16 @@ pub record GetsEdge (old new : Graph) (number slot : ℕ) (to : Target) (node : 
   pub here : edge_in edges slot ≡ Some to
   pub there : (other : ℕ) → (other ≡ slot → ⊥) → edge_in edges other ≡ edge_in node.edges other
   pub others : (other : ℕ) → (other ≡ number → ⊥) → node_at new other ≡ node_at old other
+  pub fewer : count new.nodes ≤ count old.nodes
+
+-- ---- a node that gets the element of another, of which its own element is a part
+
+pub record GetsElement (structs : List StructDef) (old new : Graph) (number other : ℕ) (node whole : Node) : Type 0 where
+  pub is : node_at old number ≡ Some node
+  pub other_is : node_at old other ≡ Some whole
+  pub kept : (flags : Flags) (edges : List Edge) → element_kept structs node.element (record { element = whole.element; flags = flags; edges = edges }) 0 ≡ true
+  pub fits : slots structs node.element ≤ slots structs whole.element
+  pub names : (name : Name) → new.targets name ≡ old.targets name
+  pub at : node_at new number ≡ Some (record node { element = whole.element })
+  pub others : (at : ℕ) → (at ≡ number → ⊥) → node_at new at ≡ node_at old at
   pub fewer : count new.nodes ≤ count old.nodes

@@ -76,6 +76,10 @@ abbrev pub flags_kept : Flags → Flags → Bool
 flags_kept old new =
     implies old.heap new.heap && (implies old.stack new.stack && (implies old.global new.global && (implies old.array new.array && (implies old.modified new.modified && implies old.read new.read))))
 
+-- those, and that it isn't of null pointers alone, which is known of nodes while a graph is made
+abbrev pub marks_kept : Flags → Flags → Bool
+marks_kept old new = implies old.certain new.certain && flags_kept old new
+
 abbrev pub element_kept : List StructDef → Element → Node → ℕ → Bool
 element_kept structs Missing node shift = true
 element_kept structs (OfType c_type) node shift = holds_part structs c_type node shift

@@ -29,4 +29,6 @@ pub struct Flags {
     pub modified: bool,
     pub read: bool,
     pub complete: bool,
+    /// While a graph is made, whether it isn't a node of null pointers alone; all nodes of a graph that is made are certain.
+    pub certain: bool,
 }

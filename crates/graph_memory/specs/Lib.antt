@@ -1,0 +1,5 @@
+pub mod Cells
+pub mod Memory
+pub mod Changes
+pub mod Turns
+pub mod Lying

@@ -1,0 +1,4 @@
+pub mod Heights
+pub mod PartSearch
+pub mod MemberSearch
+pub mod PartLeads
