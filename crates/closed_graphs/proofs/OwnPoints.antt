@@ -1,7 +1,6 @@
 -- What points ask depends on the names of their own function, on globals and on literals alone.
-use Rattle.std.proofs.Common.{◌≡◌, ℕ, Bool, List, Option, Some, None, refl, sym, ap, ◌∙◌}
+use Rattle.std.proofs.Common.{◌≡◌, Option, Some, refl, ap, ◌∙◌}
 use Rattle.c_typed.specs.Table.{Interned}
-use Rattle.tac_ir.specs.Code as O
 use Rattle.tac_ir.specs.Code.{Op, Tac}
 use Rattle.tac_ir.specs.States.{Owner}
 use Rattle.heap_graph.specs.Graphs.{Target, Name, OfRegister, OfResult, OfObject, OfGlobal, OfLiteral, Graph}
@@ -11,7 +10,7 @@ use Rattle.frozen_graphs.specs.declared.frozen.FrozenGraph.{FrozenGraph}
 use Rattle.frozen_graphs.specs.Frozen.{optional_target, register_target, object_target, named, graph_with, own_graph}
 
 -- each function has the names of one
-abbrev own_targets : Owner → (Name → Option Target) → Name → Option Target
+abbrev pub own_targets : Owner → (Name → Option Target) → Name → Option Target
 own_targets owner targets (OfRegister other register) = targets (OfRegister owner register)
 own_targets owner targets (OfResult other) = targets (OfResult owner)
 own_targets owner targets (OfObject other local) = targets (OfObject owner local)
@@ -21,7 +20,7 @@ own_targets owner targets (OfLiteral number) = targets (OfLiteral number)
 abbrev owned : Owner → Graph → Graph
 owned owner graph = record { nodes = graph.nodes; targets = own_targets owner graph.targets }
 
-owned_points : (tac : Tac) (graph : Graph) (owner : Owner) (op : Op) → point_closed tac graph owner op ≡ point_closed tac (owned owner graph) owner op
+pub owned_points : (tac : Tac) (graph : Graph) (owner : Owner) (op : Op) → point_closed tac graph owner op ≡ point_closed tac (owned owner graph) owner op
 owned_points tac graph owner op = refl
 
 same_targets : (table : Interned) (graph : FrozenGraph) (names_of : Owner → Option FunctionNames) (owner : Owner) (names : FunctionNames) → names_of owner ≡ Some names

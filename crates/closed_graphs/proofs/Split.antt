@@ -1,6 +1,5 @@
 -- The graphs of a program are closed where those of all groups and that of `start` are.
-use Rattle.std.proofs.Common.{◌≡◌, ℕ, ◌<◌, length, Option, Some, None, refl, arith}
-use Rattle.std.specs.Prelude.{slice_get}
+use Rattle.std.proofs.Common.{ℕ, ◌<◌, length, Option, Some, None, refl}
 use Rattle.std.proofs.lemmas.Option.{slice_get_within}
 use Rattle.heap_graph.specs.Closed.{Family, group_of, Closed}
 use Rattle.closed_graphs.specs.Faults.{GroupClosed, StartClosed, AreGrouped, IsFirstFault}

@@ -1,6 +1,6 @@
 -- What is asked of one group of functions and its graph, and the first group of which it doesn't hold.
 use Rattle.std.specs.Prelude.{◌≡◌, ℕ, ◌<◌, true, List, length, slice_get, Option, Some, None}
-use Rattle.tac_ir.specs.Code.{Function, Tac}
+use Rattle.tac_ir.specs.Code.{Function}
 use Rattle.tac_ir.specs.States.{InStart, InFunction}
 use Rattle.heap_graph.specs.Closed.{Family, is_in, group_of, graph_of, FunctionClosed, GraphClosed, first_closed, is_start, of_group}
 

@@ -1,6 +1,7 @@
 -- The plain graphs for which graphs in memory stand.
-use Rattle.std.specs.Prelude.{◌≡◌, ℕ, List, map, slice_get, Option, Some, None}
+use Rattle.std.specs.Prelude.{◌≡◌, ℕ, ◌==◌, List, map, slice_get, Option, Some, None}
 use Rattle.std.specs.Borrow.{Bor}
+use Rattle.indexmap.specs.IndexMap.{IndexMap, get_by}
 use Rattle.c_typed.specs.Table.{Interned}
 use Rattle.tac_ir.specs.declared.register.Local.{Local}
 use Rattle.tac_ir.specs.declared.register.Local.TheVariants as L
@@ -28,6 +29,10 @@ flat (Some target) = optional_target target
 -- the target of the name with this number
 abbrev pub target_in : List (Option memory_target.Target) → ℕ → Option Target
 target_in targets number = flat (slice_get targets number)
+
+-- the target of the variable outside functions or the literal with this number
+abbrev pub static_in : {S : Type 0} → IndexMap ℕ memory_target.Target S → ℕ → Option Target
+static_in targets number = optional_target (get_by (λ key. number == key) targets)
 
 abbrev pub register_target : FunctionNames → Register → Option Target
 register_target names (R.Local (L.Parameter number)) = target_in names.parameters.items number
@@ -82,8 +87,8 @@ graph_with table graph names_of = record { nodes = map (optional_node table) gra
     targets (OfRegister owner register) = named (λ names. register_target names register) (names_of owner)
     targets (OfResult owner) = named (λ names. optional_target names.returned) (names_of owner)
     targets (OfObject owner local) = named (λ names. object_target names local) (names_of owner)
-    targets (OfGlobal number) = target_in graph.globals.items number
-    targets (OfLiteral number) = target_in graph.literals.items number
+    targets (OfGlobal number) = static_in graph.globals number
+    targets (OfLiteral number) = static_in graph.literals number
 
 -- the graph without names of functions
 abbrev pub bare : Interned → FrozenGraph → Graph

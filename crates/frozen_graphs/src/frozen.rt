@@ -2,9 +2,10 @@
 
 ghost use Rattle.std.specs.Prelude.{◌≡◌};
 ghost use Rattle.heap_graph.specs.Graphs.{edge_in};
-ghost use Rattle.frozen_graphs.specs.Frozen.{optional_target, edges_of, register_target, object_target, target_in, NodeIs};
+ghost use Rattle.frozen_graphs.specs.Frozen.{optional_target, edges_of, register_target, object_target, target_in, static_in, NodeIs};
 
 use heap_graph::{Element, Flags, Target};
+use indexmap::IndexMap;
 use tac_ir::{GlobalId, LiteralId, Local, Register};
 
 /// What the pointer at a slot points to.
@@ -34,12 +35,13 @@ pub struct FunctionNames {
     pub returned: Option<Target>,
 }
 
-/// The graph of a group of functions, without the names of the functions. A number may be that of no node any more.
+/// The graph of a group of functions, without the names of the functions. A number may be that of no node any more. Of variables outside
+/// functions and of literals those that the group mentions have targets, by their numbers.
 #[derive(Drop)]
 pub struct FrozenGraph {
     pub nodes: Vec<Option<Node>>,
-    pub globals: Vec<Option<Target>>,
-    pub literals: Vec<Option<Target>>,
+    pub globals: IndexMap<usize, Target>,
+    pub literals: IndexMap<usize, Target>,
 }
 
 impl Node {
@@ -95,16 +97,16 @@ impl FrozenGraph {
 
     /// The target of a variable outside functions.
     pub fn global(&self, global: GlobalId) -> Option<Target>
-        ensures { optional_target result ≡ target_in self.now.globals.items global.0 }
+        ensures { optional_target result ≡ static_in self.now.globals global.0 }
     {
-        target_at(&self.globals, global.0)
+        self.globals.get(&global.0).copied()
     }
 
     /// The target of a literal.
     pub fn literal(&self, literal: LiteralId) -> Option<Target>
-        ensures { optional_target result ≡ target_in self.now.literals.items literal.0 }
+        ensures { optional_target result ≡ static_in self.now.literals literal.0 }
     {
-        target_at(&self.literals, literal.0)
+        self.literals.get(&literal.0).copied()
     }
 }
 

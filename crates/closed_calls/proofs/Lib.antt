@@ -1,0 +1,9 @@
+mod Cases
+mod Placing
+mod Passing
+mod Found
+mod Mentions
+mod SameTargets
+mod Keeping
+mod Marks
+mod Crossings

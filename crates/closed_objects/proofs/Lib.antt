@@ -1,0 +1,6 @@
+mod Formal
+mod Found
+mod Locals
+mod Numbers
+mod Shown
+mod StaticObjects

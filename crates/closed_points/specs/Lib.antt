@@ -1,0 +1,4 @@
+pub mod Held
+pub mod Contexts
+pub mod Stored
+pub mod Plain

@@ -1,0 +1,17 @@
+pub mod Adding
+pub mod Coming
+pub mod Completing
+pub mod Escaped
+pub mod GroupComplete
+pub mod Growing
+pub mod Marking
+pub mod Members
+pub mod Named
+pub mod Naming
+pub mod Nodes
+pub mod Numbers
+pub mod Outside
+pub mod Places
+pub mod Reaching
+pub mod Searching
+pub mod SoundEdges

@@ -1,0 +1,19 @@
+use Rattle.std.proofs.Common.{◌⊎◌}
+use Rattle.std.proofs.lemmas.Result.{IfOk-weaker}
+use Rattle.reached_nodes.specs.Marks.{IsOutside, IsMentionedBy}
+use Rattle.reached_nodes.proofs.Adding.{adds_both}
+use Rattle.reached_nodes.proofs.Marking.{these_of_none, these_reached}
+use Rattle.reached_nodes.proofs.Escaped.{marked_escapes}
+use Rattle.reached_nodes.proofs.escapes.escaping.Goals as goal
+
+pub returns : goal.returns
+returns c =
+    let graph = c.args.graph.now in
+    let names = c.args.names.now in
+    let nodes = graph.nodes.items in
+    let fresh = c.in_ok-starts.starts in
+    let starts = c.add_statics.new.self in
+    let added = adds_both fresh c.add_outside.new.self starts (IsOutside names) (IsMentionedBy graph) c.add_outside.ensures c.add_statics.ensures in
+    let begun = these_of_none nodes fresh starts (λ number. IsOutside names number ⊎ IsMentionedBy graph number) c.in_ok-starts.ensures added in
+    IfOk-weaker c.reached.result _ _
+    (λ marks reached. λ table family owner shows named. marked_escapes table family owner graph names shows named c.requires marks (these_reached nodes starts marks _ begun reached)) c.reached.ensures

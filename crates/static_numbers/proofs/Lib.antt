@@ -1,0 +1,2 @@
+mod InsertedEntries
+mod NameNumbers
