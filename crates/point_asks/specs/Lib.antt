@@ -1,0 +1,5 @@
+pub mod Asks
+pub mod Restricted
+pub mod Completed
+pub mod Within
+pub mod CertainMaps
