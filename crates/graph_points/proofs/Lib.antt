@@ -1,0 +1,10 @@
+pub mod Changing
+pub mod Staying
+pub mod NamedSteps
+pub mod Places
+pub mod PointSteps
+pub mod FoundStatics
+pub mod PathSteps
+pub mod ObjectSteps
+pub mod PlaceSteps
+pub mod PointCases
