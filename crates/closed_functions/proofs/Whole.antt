@@ -87,7 +87,7 @@ module _ (family : Family) (owner : Owner) where
   point_at (first ∷ ops) closed zero op is = subst (λ op. call_point_closed family owner op ≡ true) (same_Some first op is) (and_parts _ _ closed).0
   point_at (first ∷ ops) closed (suc at) op is = point_at ops (and_parts _ _ closed).1 at op is
 
-  asked_from : (op : Op) → ((site : ℕ) (callee : Callee) (arguments : List Register) → op ≡ O.Call site callee arguments → CallAsked family owner site callee arguments) → OpAsked family owner op
+  pub asked_from : (op : Op) → ((site : ℕ) (callee : Callee) (arguments : List Register) → op ≡ O.Call site callee arguments → CallAsked family owner site callee arguments) → OpAsked family owner op
   asked_from O.Reserved call = tt
   asked_from (O.Jump to) call = tt
   asked_from (O.Branch int_type condition holds fails) call = tt

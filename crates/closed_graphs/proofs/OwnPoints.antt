@@ -3,7 +3,7 @@ use Rattle.std.proofs.Common.{◌≡◌, Option, Some, refl, ap, ◌∙◌}
 use Rattle.c_typed.specs.Table.{Interned}
 use Rattle.tac_ir.specs.Code.{Op, Tac}
 use Rattle.tac_ir.specs.States.{Owner}
-use Rattle.heap_graph.specs.Graphs.{Target, Name, OfRegister, OfResult, OfObject, OfGlobal, OfLiteral, Graph}
+use Rattle.heap_graph.specs.Graphs.{Target, Name, OfRegister, OfResult, OfObject, OfGlobal, OfLiteral, OfCopy, Graph}
 use Rattle.heap_graph.specs.Points.{point_closed}
 use Rattle.frozen_graphs.specs.declared.frozen.FunctionNames.{FunctionNames}
 use Rattle.frozen_graphs.specs.declared.frozen.FrozenGraph.{FrozenGraph}
@@ -16,6 +16,7 @@ own_targets owner targets (OfResult other) = targets (OfResult owner)
 own_targets owner targets (OfObject other local) = targets (OfObject owner local)
 own_targets owner targets (OfGlobal number) = targets (OfGlobal number)
 own_targets owner targets (OfLiteral number) = targets (OfLiteral number)
+own_targets owner targets (OfCopy number) = targets (OfCopy number)
 
 abbrev owned : Owner → Graph → Graph
 owned owner graph = record { nodes = graph.nodes; targets = own_targets owner graph.targets }
@@ -30,6 +31,7 @@ same_targets table graph names_of owner names is (OfResult other) = ap (named (�
 same_targets table graph names_of owner names is (OfObject other local) = ap (named (λ names. object_target names local)) is
 same_targets table graph names_of owner names is (OfGlobal number) = refl
 same_targets table graph names_of owner names is (OfLiteral number) = refl
+same_targets table graph names_of owner names is (OfCopy number) = refl
 
 pub own_points : (tac : Tac) (table : Interned) (graph : FrozenGraph) (names_of : Owner → Option FunctionNames) (owner : Owner) (names : FunctionNames) (op : Op) → names_of owner ≡ Some names
     → point_closed tac (graph_with table graph names_of) owner op ≡ point_closed tac (own_graph table graph names) owner op

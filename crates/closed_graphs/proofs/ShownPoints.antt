@@ -3,7 +3,7 @@ use Rattle.std.proofs.Common.{◌≡◌, ◌∙◌}
 use Rattle.c_typed.specs.Table.{Interned}
 use Rattle.tac_ir.specs.Code.{Op, Tac}
 use Rattle.tac_ir.specs.States.{Owner}
-use Rattle.heap_graph.specs.Graphs.{Name, OfRegister, OfResult, OfObject, OfGlobal, OfLiteral}
+use Rattle.heap_graph.specs.Graphs.{Name, OfRegister, OfResult, OfObject, OfGlobal, OfLiteral, OfCopy}
 use Rattle.heap_graph.specs.Points.{point_closed}
 use Rattle.heap_graph.specs.Closed.{Family, graph_of}
 use Rattle.frozen_graphs.specs.declared.frozen.FunctionNames.{FunctionNames}
@@ -19,6 +19,7 @@ shown_targets table family owner graph names shows own (OfResult other) = own.re
 shown_targets table family owner graph names shows own (OfObject other local) = own.objects local
 shown_targets table family owner graph names shows own (OfGlobal number) = shows.globals number
 shown_targets table family owner graph names shows own (OfLiteral number) = shows.literals number
+shown_targets table family owner graph names shows own (OfCopy number) = shows.copies number
 
 pub points_shown : (tac : Tac) (table : Interned) (family : Family) (owner : Owner) (graph : FrozenGraph) (names : FunctionNames) → ShowsGraph table family owner graph
     → ShowsNames family owner names → (op : Op) → point_closed tac (graph_of family owner) owner op ≡ point_closed tac (own_graph table graph names) owner op

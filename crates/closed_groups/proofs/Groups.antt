@@ -127,6 +127,7 @@ module _ (program : Program) (fit : IsFit program) (at : ℕ) (members : List �
       nodes = (shows.one one in_group).nodes;
       globals = (shows.one one in_group).globals;
       literals = (shows.one one in_group).literals;
+      copies = (shows.one one in_group).copies;
       names_of = names_in;
       code = code;
       others = λ owner out. shows.others one owner in_group out;
@@ -258,6 +259,7 @@ module _ (program : Program) where
     nodes = refl;
     globals = λ number. refl;
     literals = λ number. refl;
+    copies = λ number. refl;
     names_of = names_of;
     code = code;
     others = others;

@@ -9,7 +9,7 @@ use Rattle.tac_ir.specs.Code as O
 use Rattle.tac_ir.specs.Code.{Op}
 use Rattle.tac_ir.specs.States.{Owner, function_of}
 use Rattle.graph_rows.specs.Lists.{Has}
-use Rattle.heap_graph.specs.Graphs.{Target, Node, Name, OfRegister, OfResult, OfObject, OfGlobal, OfLiteral, Graph, Crossing, node_at}
+use Rattle.heap_graph.specs.Graphs.{Target, Node, Name, OfRegister, OfResult, OfObject, OfGlobal, OfLiteral, OfCopy, OfCopy, Graph, Crossing, node_at}
 use Rattle.heap_graph.specs.Closed.{Family, crossing, IsCrossing, IsNeeded, named, embedded}
 use Rattle.frozen_graphs.specs.Frozen.{optional_target, static_in, register_target, object_target, node_in, optional_node}
 use Rattle.frozen_graphs.specs.declared.frozen.FunctionNames.{FunctionNames}
@@ -54,6 +54,7 @@ pub record IsOwned (table : Interned) (family : Family) (shown : Graph) (owners 
   pub nodes : shown.nodes ≡ map (optional_node table) graph.nodes.items
   pub globals : (number : ℕ) → shown.targets (OfGlobal number) ≡ static_in graph.globals number
   pub literals : (number : ℕ) → shown.targets (OfLiteral number) ≡ static_in graph.literals number
+  pub copies : (number : ℕ) → shown.targets (OfCopy number) ≡ None
   pub names_of : (owner : Owner) (names : FunctionNames) (function : O.Function) → owners owner ≡ true → Knows owner names function → HasNames shown owner names
   pub code : (owner : Owner) (names : FunctionNames) (function : O.Function) → owners owner ≡ true → Knows owner names function → function_of family.tac owner ≡ Some function
   pub others : (owner : Owner) → owners owner ≡ false → HasNoNames shown owner
@@ -149,6 +150,7 @@ module _ (table : Interned) (family : Family) (shown : Graph) (owners : Owner �
   name_told : (number : ℕ) (target : Target) → target.node ≡ number → (name : Name) → shown.targets name ≡ Some target → Told number
   name_told number target same (OfGlobal global) is = inl (inl (global, of_node (static_in graph.globals global) target number (sym (owned.globals global) ∙ is) same))
   name_told number target same (OfLiteral literal) is = inl (inr (literal, of_node (static_in graph.literals literal) target number (sym (owned.literals literal) ∙ is) same))
+  name_told number target same (OfCopy copy) is = absurd (none-some target (sym (owned.copies copy) ∙ is))
   name_told number target same (OfRegister owner register) is =
       told_by owner number target same (OfRegister owner register) is (λ out. (owned.others owner out).registers register)
       (λ names has. (register_target names register, has.registers register, λ at. by_register register at))

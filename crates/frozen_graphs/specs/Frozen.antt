@@ -9,7 +9,7 @@ use Rattle.tac_ir.specs.declared.register.Register.{Register}
 use Rattle.tac_ir.specs.declared.register.Register.TheVariants as R
 use Rattle.tac_ir.specs.States.{Owner}
 use Rattle.heap_graph.specs.declared.graph.Target as memory_target
-use Rattle.heap_graph.specs.Graphs.{Target, Edge, Node, Name, OfRegister, OfResult, OfObject, OfGlobal, OfLiteral, Graph}
+use Rattle.heap_graph.specs.Graphs.{Target, Edge, Node, Name, OfRegister, OfResult, OfObject, OfGlobal, OfLiteral, OfCopy, Graph}
 use Rattle.heap_graph.specs.Memory.{target_of, element_in, flags_of}
 use Rattle.frozen_graphs.specs.declared.frozen.Edge as memory_edge
 use Rattle.frozen_graphs.specs.declared.frozen.Node as memory_node
@@ -89,6 +89,7 @@ graph_with table graph names_of = record { nodes = map (optional_node table) gra
     targets (OfObject owner local) = named (λ names. object_target names local) (names_of owner)
     targets (OfGlobal number) = static_in graph.globals number
     targets (OfLiteral number) = static_in graph.literals number
+    targets (OfCopy number) = None
 
 -- the graph without names of functions
 abbrev pub bare : Interned → FrozenGraph → Graph

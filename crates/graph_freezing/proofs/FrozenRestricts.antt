@@ -4,7 +4,7 @@ use Rattle.std.proofs.lemmas.Bool.{true≢false}
 use Rattle.c_typed.specs.Table.{Interned}
 use Rattle.tac_ir.specs.declared.program.Function.{Function}
 use Rattle.tac_ir.specs.States.{Owner}
-use Rattle.heap_graph.specs.Graphs.{Target, Node, Name, OfRegister, OfResult, OfObject, OfGlobal, OfLiteral, Graph, edge_in, node_at}
+use Rattle.heap_graph.specs.Graphs.{Target, Node, Name, OfRegister, OfResult, OfObject, OfGlobal, OfLiteral, OfCopy, Graph, is_copy, edge_in, node_at}
 use Rattle.heap_graph.specs.Targets.{edge_at}
 use Rattle.frozen_graphs.specs.declared.frozen.FunctionNames.{FunctionNames}
 use Rattle.frozen_graphs.specs.declared.frozen.FrozenGraph.{FrozenGraph}
@@ -38,14 +38,15 @@ module _ (table : Interned) (graph : Graph) (variables literals : List ℕ) (fro
       by None (Some own) h only' = absurd h
       by None None h only' = none_left graph false (graph.targets name) only'
 
-  targets_kept : (name : Name) → (graph_with table frozen names).targets name ≡ certain_name graph name
-  targets_kept (OfRegister owner register) =
-      of_owner owner (OfRegister owner register) (λ function. has_register function.parameters function.counts register) (λ own. register_target own register) (λ function own h. h.of_registers register) (all (OfRegister owner register))
-  targets_kept (OfResult owner) = of_owner owner (OfResult owner) (λ function. true) (λ own. optional_target own.returned) (λ function own h. h.of_result) (all (OfResult owner))
-  targets_kept (OfObject owner local) =
-      of_owner owner (OfObject owner local) (λ function. has_object function.objects.items local) (λ own. object_target own local) (λ function own h. h.of_objects local) (all (OfObject owner local))
-  targets_kept (OfGlobal number) = tells.of_globals number ∙ none_left graph (has_number variables number) (graph.targets (OfGlobal number)) (all (OfGlobal number))
-  targets_kept (OfLiteral number) = tells.of_literals number ∙ none_left graph (has_number literals number) (graph.targets (OfLiteral number)) (all (OfLiteral number))
+  targets_kept : (name : Name) → is_copy name ≡ false → (graph_with table frozen names).targets name ≡ certain_name graph name
+  targets_kept (OfRegister owner register) own =
+      of_owner owner (OfRegister owner register) (λ function. has_register function.parameters function.counts register) (λ own. register_target own register) (λ function own h. h.of_registers register) (λ to. all (OfRegister owner register) to refl)
+  targets_kept (OfResult owner) own = of_owner owner (OfResult owner) (λ function. true) (λ own. optional_target own.returned) (λ function own h. h.of_result) (λ to. all (OfResult owner) to refl)
+  targets_kept (OfObject owner local) own =
+      of_owner owner (OfObject owner local) (λ function. has_object function.objects.items local) (λ own. object_target own local) (λ function own h. h.of_objects local) (λ to. all (OfObject owner local) to refl)
+  targets_kept (OfGlobal number) own = tells.of_globals number ∙ none_left graph (has_number variables number) (graph.targets (OfGlobal number)) (λ to. all (OfGlobal number) to refl)
+  targets_kept (OfLiteral number) own = tells.of_literals number ∙ none_left graph (has_number literals number) (graph.targets (OfLiteral number)) (λ to. all (OfLiteral number) to refl)
+  targets_kept (OfCopy number) own = absurd (true≢false own)
 
   -- a certain node is kept
   node_kept : (number : ℕ) (node : Node) → node_at graph number ≡ Some node → node.flags.certain ≡ true → (new : Node) × (node_at (bare table frozen) number ≡ Some new) × IsKept graph node new

@@ -2,7 +2,7 @@
 use Rattle.std.specs.Prelude.{◌≡◌, ℕ, Bool, true, false, List, Option, Some, None}
 use Rattle.tac_ir.specs.declared.program.Function.{Function}
 use Rattle.tac_ir.specs.States.{Owner}
-use Rattle.heap_graph.specs.Graphs.{Target, Name, OfRegister, OfResult, OfObject, OfGlobal, OfLiteral, Graph}
+use Rattle.heap_graph.specs.Graphs.{Target, Name, OfRegister, OfResult, OfObject, OfGlobal, OfLiteral, OfCopy, Graph, is_copy}
 use Rattle.graph_memory.specs.Cells.{has_number}
 use Rattle.frozen_graphs.specs.declared.frozen.FunctionNames.{FunctionNames}
 use Rattle.graph_freezing.specs.Freezing.{has_register, has_object, TellsNames}
@@ -24,7 +24,8 @@ is_told functions variables literals (OfResult owner) = of_function (λ function
 is_told functions variables literals (OfObject owner local) = of_function (λ function. has_object function.objects.items local) (functions owner)
 is_told functions variables literals (OfGlobal number) = has_number variables number
 is_told functions variables literals (OfLiteral number) = has_number literals number
+is_told functions variables literals (OfCopy number) = false
 
--- all names that have targets are told
+-- all names that have targets are told, unless they are copies
 abbrev pub AllTold : Graph → (Owner → Option Function) → List ℕ → List ℕ → Type 0
-AllTold graph functions variables literals = (name : Name) (target : Target) → graph.targets name ≡ Some target → is_told functions variables literals name ≡ true
+AllTold graph functions variables literals = (name : Name) (target : Target) → is_copy name ≡ false → graph.targets name ≡ Some target → is_told functions variables literals name ≡ true

@@ -22,7 +22,7 @@ pub(crate) fn is_certain(graph: &Graph, target: Target) -> bool
 }
 
 /// The target of a name, where its node is certain.
-pub(crate) fn certain_target(graph: &Graph, name: Name) -> Option<Target>
+pub fn certain_target(graph: &Graph, name: Name) -> Option<Target>
     ensures { (table : Interned) → IsGraph table graph.now → optional_target result ≡ certain_name (graph_in table graph.now) (name_of name) }
 {
     match graph.target(name) {

@@ -9,5 +9,6 @@ mod graph;
 mod names;
 mod statics;
 
+pub use certain::certain_target;
 pub use graph::frozen_graph;
 pub use names::{Owned, frozen_names};

@@ -20,3 +20,4 @@ pub mod Built
 pub mod NameKeys
 pub mod Bounds
 pub mod SetNames
+pub mod StaticNames

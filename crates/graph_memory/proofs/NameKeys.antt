@@ -6,7 +6,7 @@ use Rattle.tac_ir.specs.declared.register.Local.TheVariants as L
 use Rattle.tac_ir.specs.declared.register.Register.{Register}
 use Rattle.tac_ir.specs.declared.register.Register.TheVariants as R
 use Rattle.tac_ir.specs.States.{Owner, InStart, InFunction}
-use Rattle.heap_graph.specs.Graphs.{Name, OfRegister, OfResult, OfObject, OfGlobal, OfLiteral}
+use Rattle.heap_graph.specs.Graphs.{Name, OfRegister, OfResult, OfObject, OfGlobal, OfLiteral, OfCopy}
 use Rattle.graph_memory.specs.declared.name.Place.{Place}
 use Rattle.graph_memory.specs.declared.name.Place.TheVariants as P
 use Rattle.graph_memory.specs.declared.name.NameKey.{NameKey}
@@ -33,6 +33,7 @@ abbrev key_name : NameKey → Name
 key_name (K.Local function place) = place_name (owner_name function) place
 key_name (K.Global number) = OfGlobal number
 key_name (K.Literal number) = OfLiteral number
+key_name (K.Copy number) = OfCopy number
 
 owner_back : (owner : Owner) → owner_name (function_of owner) ≡ owner
 owner_back InStart = refl
@@ -56,6 +57,7 @@ back (OfResult owner) = ap OfResult (owner_back owner)
 back (OfObject owner local) = ap (λ o. place_name o (object_place local)) (owner_back owner) ∙ object_back owner local
 back (OfGlobal number) = refl
 back (OfLiteral number) = refl
+back (OfCopy number) = refl
 
 function_same : (a b : Option ℕ) → same_function a b ≡ true → a ≡ b
 function_same None None e = refl
@@ -152,12 +154,19 @@ key_same (K.Local f p) (K.Local g q) e =
     ap (λ h. K.Local h p) (function_same f g parts.0) ∙ ap (K.Local g) (place_same p q parts.1)
 key_same (K.Local f p) (K.Global b) e = absurd (false≢true e)
 key_same (K.Local f p) (K.Literal b) e = absurd (false≢true e)
+key_same (K.Local f p) (K.Copy b) e = absurd (false≢true e)
 key_same (K.Global a) (K.Local g q) e = absurd (false≢true e)
 key_same (K.Global a) (K.Global b) e = ap K.Global (eqb-true a b e)
 key_same (K.Global a) (K.Literal b) e = absurd (false≢true e)
+key_same (K.Global a) (K.Copy b) e = absurd (false≢true e)
 key_same (K.Literal a) (K.Local g q) e = absurd (false≢true e)
 key_same (K.Literal a) (K.Global b) e = absurd (false≢true e)
 key_same (K.Literal a) (K.Literal b) e = ap K.Literal (eqb-true a b e)
+key_same (K.Literal a) (K.Copy b) e = absurd (false≢true e)
+key_same (K.Copy a) (K.Local g q) e = absurd (false≢true e)
+key_same (K.Copy a) (K.Global b) e = absurd (false≢true e)
+key_same (K.Copy a) (K.Literal b) e = absurd (false≢true e)
+key_same (K.Copy a) (K.Copy b) e = ap K.Copy (eqb-true a b e)
 
 function_itself : (a : Option ℕ) → same_function a a ≡ true
 function_itself None = refl
@@ -178,6 +187,7 @@ pub key_itself : (key : NameKey) → same_key key key ≡ true
 key_itself (K.Local f p) = and_from (same_function f f) (same_place p p) (function_itself f) (place_itself p)
 key_itself (K.Global a) = eq-eqb a a refl
 key_itself (K.Literal a) = eq-eqb a a refl
+key_itself (K.Copy a) = eq-eqb a a refl
 
 pub same_name : (a b : Name) → same_key (key_of a) (key_of b) ≡ true → a ≡ b
 same_name a b e = sym (back a) ∙ ap key_name (key_same (key_of a) (key_of b) e) ∙ back b

@@ -104,12 +104,19 @@ key_eq (K.Local (Some f) p) (K.Local None q) = refl
 key_eq (K.Local (Some f) p) (K.Local (Some g) q) = ap (λ t. (f == g) && t) (place_eq p q)
 key_eq (K.Local f p) (K.Global b) = refl
 key_eq (K.Local f p) (K.Literal b) = refl
+key_eq (K.Local f p) (K.Copy b) = refl
 key_eq (K.Global a) (K.Local g q) = refl
 key_eq (K.Global a) (K.Global b) = refl
 key_eq (K.Global a) (K.Literal b) = refl
+key_eq (K.Global a) (K.Copy b) = refl
 key_eq (K.Literal a) (K.Local g q) = refl
 key_eq (K.Literal a) (K.Global b) = refl
 key_eq (K.Literal a) (K.Literal b) = refl
+key_eq (K.Literal a) (K.Copy b) = refl
+key_eq (K.Copy a) (K.Local g q) = refl
+key_eq (K.Copy a) (K.Global b) = refl
+key_eq (K.Copy a) (K.Literal b) = refl
+key_eq (K.Copy a) (K.Copy b) = refl
 
 module _ {S : Type 0} where
   pub get_key : (m : IndexMap NameKey ℕ S) (k : NameKey) → get eq-value.it m k ≡ get_by (same_key k) m

@@ -3,3 +3,4 @@ pub mod Memory
 pub mod Changes
 pub mod Turns
 pub mod Lying
+pub mod Statics

@@ -10,7 +10,7 @@ use Rattle.tac_ir.specs.declared.register.FunctionId.{FunctionId}
 use Rattle.tac_ir.specs.States.{Owner, InStart, InFunction}
 use Rattle.heap_graph.specs.declared.graph.Target as memory_target
 use Rattle.heap_graph.specs.Memory.{target_of, element_in, ElementStands, flags_of}
-use Rattle.heap_graph.specs.Graphs.{Target, Edge, Node, Name, OfRegister, OfResult, OfObject, OfGlobal, OfLiteral, Graph}
+use Rattle.heap_graph.specs.Graphs.{Target, Edge, Node, Name, OfRegister, OfResult, OfObject, OfGlobal, OfLiteral, OfCopy, Graph}
 use Rattle.heap_graph.specs.Merging.{IsSlot, IsSound}
 use Rattle.graph_memory.specs.declared.name.Name as memory_name
 use Rattle.graph_memory.specs.declared.name.Name.TheVariants as N
@@ -60,6 +60,7 @@ name_of (N.Returned function) = OfResult (owner_of function)
 name_of (N.Object function local) = OfObject (owner_of function) local
 name_of (N.Global global) = OfGlobal global.0
 name_of (N.Literal literal) = OfLiteral literal.0
+name_of (N.Copy number) = OfCopy number
 
 abbrev pub function_of : Owner → Option ℕ
 function_of InStart = None
@@ -84,6 +85,7 @@ key_of (OfResult owner) = K.Local (function_of owner) P.Returned
 key_of (OfObject owner local) = K.Local (function_of owner) (object_place local)
 key_of (OfGlobal number) = K.Global number
 key_of (OfLiteral number) = K.Literal number
+key_of (OfCopy number) = K.Copy number
 
 abbrev pub same_function : Option ℕ → Option ℕ → Bool
 same_function None None = true
@@ -106,6 +108,7 @@ abbrev pub same_key : NameKey → NameKey → Bool
 same_key (K.Local f p) (K.Local g q) = same_function f g && same_place p q
 same_key (K.Global a) (K.Global b) = a == b
 same_key (K.Literal a) (K.Literal b) = a == b
+same_key (K.Copy a) (K.Copy b) = a == b
 same_key _ _ = false
 
 -- the cell of a name

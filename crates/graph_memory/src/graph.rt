@@ -1,14 +1,17 @@
 // Heap graphs in memory: how they are built and read.
 
-ghost use Rattle.std.specs.Prelude.{◌≡◌, [], length, option_map, IfOk, OnOk};
+ghost use Rattle.std.specs.Prelude.{◌≡◌, ℕ, [], length, option_map, IfOk, OnOk};
 ghost use Rattle.c_typed.specs.Table.{Interned, structs_in};
-ghost use Rattle.heap_graph.specs.Graphs.{node_at};
+ghost use Rattle.heap_graph.specs.Graphs.{OfGlobal, OfLiteral, node_at};
+ghost use Rattle.heap_graph.specs.Targets.{has_target};
 ghost use Rattle.heap_graph.specs.Memory.{target_of, element_in, ElementStands, flags_of};
 ghost use Rattle.heap_graph.specs.Merging.{IsSlot};
+ghost use Rattle.graph_memory.specs.Cells.{has_number};
 ghost use Rattle.graph_memory.specs.Memory.{name_of, graph_in, IsGraph};
 ghost use Rattle.graph_memory.specs.Changes.{IsBlank, AddsNode, SetsTarget, SetsFlags, edge_found, edge_numbered, told_edge, TellsNode, TellsStanding};
 
-use crate::name::{Name, NameKey};
+use crate::hints::Hints;
+use crate::name::{Name, NameKey, globals_among, literals_among};
 use crate::node::Node;
 use crate::nodes::Nodes;
 use heap_graph::{Element, Flags, Target};
@@ -35,6 +38,7 @@ impl Graph {
                 alloc,
                 list: Vec::new(alloc),
                 cells: Vec::new(alloc),
+                hints: Hints::new(alloc),
             },
             names: IndexMap::new(alloc),
         }
@@ -84,7 +88,7 @@ impl Graph {
         ensures graph { OnOk result ((table : Interned) → IsGraph table self.old → IsSlot (structs_in table) (graph_in table self.old) (target_of to) → IsGraph table self.new) }
         ensures sets { OnOk result ((table : Interned) → IsGraph table self.old → IsSlot (structs_in table) (graph_in table self.old) (target_of to) → SetsTarget (graph_in table self.old) (graph_in table self.new) (name_of name) (target_of to)) }
     {
-        let cell = self.nodes.new_cell(to)?;
+        let cell = self.nodes.new_name_cell(name, to)?;
         match self.names.insert(name.key(), cell) {
             Ok(_) => Ok(()),
             Err(_) => Err(AllocError),
@@ -138,5 +142,31 @@ impl Graph {
             Some(_) => self.nodes.set_flags(number, flags),
             None => {}
         }
+    }
+
+    /// A name whose node became certain where it wasn't, by flags or by merging. Each name is told once; those that never had a node that
+    /// wasn't certain aren't told.
+    #[tactic(none)]
+    pub fn take_certain(&mut self) -> Option<Name>
+        ensures graph { (table : Interned) → IsGraph table self.old → IsGraph table self.new }
+        ensures same { (table : Interned) → graph_in table self.new ≡ graph_in table self.old }
+    {
+        self.nodes.hints.take()
+    }
+
+    /// The numbers of the variables outside functions that have targets.
+    #[tactic(none)]
+    pub fn globals(&self, alloc: Global) -> Result<Vec<usize>, AllocError>
+        ensures { IfOk result (λ numbers. (table : Interned) (number : ℕ) → has_number numbers.items number ≡ has_target ((graph_in table self.now).targets (OfGlobal number))) }
+    {
+        globals_among(alloc, self.names.keys().as_slice())
+    }
+
+    /// The numbers of the literals that have targets.
+    #[tactic(none)]
+    pub fn literals(&self, alloc: Global) -> Result<Vec<usize>, AllocError>
+        ensures { IfOk result (λ numbers. (table : Interned) (number : ℕ) → has_number numbers.items number ≡ has_target ((graph_in table self.now).targets (OfLiteral number))) }
+    {
+        literals_among(alloc, self.names.keys().as_slice())
     }
 }

@@ -4,6 +4,7 @@
 mod ask;
 mod cells;
 mod graph;
+mod hints;
 mod merging;
 mod name;
 mod node;

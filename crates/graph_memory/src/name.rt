@@ -1,8 +1,10 @@
 // Names of pointers and objects.
 
-ghost use Rattle.std.specs.Prelude.{◌≡◌};
+ghost use Rattle.std.specs.Prelude.{◌≡◌, IfOk};
 ghost use Rattle.graph_memory.specs.Memory.{name_of, owner_of, key_of, function_of, register_place, object_place};
+ghost use Rattle.graph_memory.specs.Statics.{global_of, literal_of, global_numbers, literal_numbers};
 
+use std::alloc::{AllocError, Global};
 use std::hash::Hash;
 use tac_ir::{FunctionId, GlobalId, LiteralId, Local, Register};
 
@@ -22,6 +24,8 @@ pub enum Name {
     },
     Global(GlobalId),
     Literal(LiteralId),
+    /// The copy of a node that escapes a function that is called, while the graph of its caller is made.
+    Copy(usize),
 }
 
 /// What a name of a function stands for.
@@ -47,6 +51,7 @@ pub(crate) enum NameKey {
     },
     Global(usize),
     Literal(usize),
+    Copy(usize),
 }
 
 impl Name {
@@ -69,8 +74,63 @@ impl Name {
             },
             Name::Global(global) => NameKey::Global(global.0),
             Name::Literal(literal) => NameKey::Literal(literal.0),
+            Name::Copy(number) => NameKey::Copy(number),
         }
     }
+}
+
+impl NameKey {
+    /// The number of a variable outside functions.
+    fn global(self) -> Option<usize>
+        ensures { result ≡ global_of self }
+    {
+        match self {
+            NameKey::Global(number) => Some(number),
+            NameKey::Local { .. } => None,
+            NameKey::Literal(_) => None,
+            NameKey::Copy(_) => None,
+        }
+    }
+
+    /// The number of a literal.
+    fn literal(self) -> Option<usize>
+        ensures { result ≡ literal_of self }
+    {
+        match self {
+            NameKey::Literal(number) => Some(number),
+            NameKey::Local { .. } => None,
+            NameKey::Global(_) => None,
+            NameKey::Copy(_) => None,
+        }
+    }
+}
+
+/// The numbers of the variables outside functions among names.
+pub(crate) fn globals_among(alloc: Global, keys: &[NameKey]) -> Result<Vec<usize>, AllocError>
+    ensures { IfOk result (λ numbers. numbers.items ≡ global_numbers keys.now) }
+{
+    let mut numbers = Vec::new(alloc);
+    for key in keys {
+        match key.global() {
+            Some(number) => numbers.push(number)?,
+            None => {}
+        }
+    }
+    Ok(numbers)
+}
+
+/// The numbers of the literals among names.
+pub(crate) fn literals_among(alloc: Global, keys: &[NameKey]) -> Result<Vec<usize>, AllocError>
+    ensures { IfOk result (λ numbers. numbers.items ≡ literal_numbers keys.now) }
+{
+    let mut numbers = Vec::new(alloc);
+    for key in keys {
+        match key.literal() {
+            Some(number) => numbers.push(number)?,
+            None => {}
+        }
+    }
+    Ok(numbers)
 }
 
 /// The number of a function.

@@ -7,6 +7,8 @@ ghost use Rattle.graph_memory.specs.Memory.{content, made_edge};
 ghost use Rattle.graph_memory.specs.Turns.{element_at, is_flat, edges_in, IsThere, AddsCell, HoldsCells, Gains, Joins, Flattens, AddsEdge, Retypes, ChangesFlags};
 
 use crate::cells::{flatten, rename};
+use crate::hints::Hints;
+use crate::name::Name;
 use crate::node::{Node, SlotEdge};
 use heap_graph::{Element, Flags, Target};
 use std::alloc::{AllocError, Global};
@@ -19,6 +21,7 @@ pub(crate) struct Nodes {
     /// None where a node became part of another.
     pub(crate) list: Vec<Option<Node>>,
     pub(crate) cells: Vec<Target>,
+    pub(crate) hints: Hints,
 }
 
 impl Nodes {
@@ -104,6 +107,17 @@ impl Nodes {
             Err(_) => return Err(AllocError),
         }
         self.hold(to.node, number)?;
+        self.hints.make_room(self.cells.len())?;
+        Ok(number)
+    }
+
+    /// The number of a new cell for a name, which holds a target.
+    #[tactic(none)]
+    pub(crate) fn new_name_cell(&mut self, name: Name, to: Target) -> Result<usize, AllocError>
+        ensures { IfOk result (λ number. AddsCell self.old self.new number to) }
+    {
+        let number = self.new_cell(to)?;
+        self.hints.note_name(number, name)?;
         Ok(number)
     }
 
@@ -158,6 +172,10 @@ impl Nodes {
     {
         match &mut self.list[number] {
             Some(node) => {
+                let is_certain = node.flags.certain;
+                self.hints
+                    .note_cells(is_certain, flags.certain, &node.cells);
+                self.hints.note_cells(flags.certain, is_certain, cells);
                 node.flags = both(node.flags, flags);
                 node.cells.extend_from_slice(cells)
             }
@@ -216,7 +234,11 @@ impl Nodes {
         ensures { ChangesFlags self.old self.new number flags }
     {
         match &mut self.list[number] {
-            Some(node) => node.flags = flags,
+            Some(node) => {
+                self.hints
+                    .note_cells(node.flags.certain, flags.certain, &node.cells);
+                node.flags = flags;
+            }
             None => {}
         }
     }

@@ -8,7 +8,7 @@ use Rattle.tac_ir.specs.Code.{Function}
 use Rattle.tac_ir.specs.Objects.{own_type}
 use Rattle.tac_ir.specs.States.{Owner}
 use Rattle.heap_graph.specs.Escaping.{same_owner}
-use Rattle.heap_graph.specs.Graphs.{Node, Name, OfRegister, OfResult, OfObject, OfGlobal, OfLiteral, Graph}
+use Rattle.heap_graph.specs.Graphs.{Node, Name, OfRegister, OfResult, OfObject, OfGlobal, OfLiteral, OfCopy, Graph}
 use Rattle.heap_graph.specs.Closed.{has_register}
 use Rattle.graph_names.specs.Adding.{HasOwnNode}
 use Rattle.graph_names.specs.First.{pointer_node, is_certain_register, of_register, of_inner, is_of, first_node, AddsFunction, FunctionNodes}
@@ -20,6 +20,7 @@ none_of owner function (OfResult other) h = cond-false (same_owner other owner) 
 none_of owner function (OfObject other local) h = cond-false (same_owner other owner) (of_inner (own_type function.objects local)) None h
 none_of owner function (OfGlobal number) h = refl
 none_of owner function (OfLiteral number) h = refl
+none_of owner function (OfCopy number) h = refl
 
 -- a choice of nothing
 both_none : {A : Type 0} (b : Bool) (x : Option A) → x ≡ None → cond b x None ≡ None

@@ -13,7 +13,7 @@ use Rattle.tac_ir.specs.Layouts.{Inner}
 use Rattle.tac_ir.specs.Objects.{own_type}
 use Rattle.tac_ir.specs.States.{Owner}
 use Rattle.heap_graph.specs.Escaping.{same_owner}
-use Rattle.heap_graph.specs.Graphs.{Target, Flags, Node, Name, OfRegister, OfResult, OfObject, OfGlobal, OfLiteral, Graph, node_at}
+use Rattle.heap_graph.specs.Graphs.{Target, Flags, Node, Name, OfRegister, OfResult, OfObject, OfGlobal, OfLiteral, OfCopy, Graph, node_at}
 use Rattle.heap_graph.specs.Targets.{has_target, at_target, is_collapsed, implies, element_kept, marks_kept}
 use Rattle.heap_graph.specs.Closed.{has_register, is_slot}
 use Rattle.heap_graph.specs.Merging.{GraphMap, Maps}
@@ -102,6 +102,7 @@ module _ (structs : List StructDef) (other : Graph) (owner : Owner) (function : 
       subst (λ o. NameFits structs other (OfObject o local) node) (sym (owner_eq its owner of_owner.0)) (object_fits local (own_type function.objects local) node refl of_owner.1)
   names_fit (OfGlobal number) node e = absurd (none-some node e)
   names_fit (OfLiteral number) node e = absurd (none-some node e)
+  names_fit (OfCopy number) node e = absurd (none-some node e)
 
 -- a map of the old graph is extended to the names of a function
 pub fitting_leads : (structs : List StructDef) (old new other : Graph) (owner : Owner) (function : Function) (into : GraphMap) → AddsFunction old new owner function → Maps structs old other into

@@ -11,7 +11,7 @@ use Rattle.tac_ir.specs.Code.{Function}
 use Rattle.tac_ir.specs.Objects.{own_type}
 use Rattle.tac_ir.specs.States.{Owner, InStart, InFunction}
 use Rattle.heap_graph.specs.Escaping.{same_owner}
-use Rattle.heap_graph.specs.Graphs.{Node, Name, OfRegister, OfResult, OfObject, OfGlobal, OfLiteral, Graph}
+use Rattle.heap_graph.specs.Graphs.{Node, Name, OfRegister, OfResult, OfObject, OfGlobal, OfLiteral, OfCopy, Graph}
 use Rattle.heap_graph.specs.Targets.{has_target}
 use Rattle.heap_graph.specs.Closed.{parameters_of, has_register}
 use Rattle.graph_names.specs.declared.functions.Numbered.TheVariants as N
@@ -123,6 +123,7 @@ module _ (owner : Owner) (function : Function) (g0 g1 g2 g3 g4 g5 g6 g7 : Graph)
       ∙ (ap (λ l. has_target (g7.targets (OfObject owner l))) (sym found.of_local) ∙ objects.has found.number found.object found.is)
   name_has (OfGlobal number) node e = absurd (none-some node e)
   name_has (OfLiteral number) node e = absurd (none-some node e)
+  name_has (OfCopy number) node e = absurd (none-some node e)
 
   all : AddsSome first g0 g7
   all = joined first g0 g1 g7 to_1 from_1

@@ -36,4 +36,4 @@ leads_least structs old new asked wanted gives names its = record {
 pub leads_with : (structs : List StructDef) (old new : Graph) (asked : Asked) (wanted : Graph → Type 0) → ((other : Graph) (into : GraphMap) → Maps structs old other into → wanted other → asked other into)
     → ((name : Name) → has_target (new.targets name) ≡ has_target (old.targets name)) → LeastWith structs old new asked → Leads structs old new wanted
 leads_with structs old new asked wanted gives names its =
-    leads_least structs old new asked wanted gives names (record { map = its.map; maps = its.maps; holds = its.holds; least = its.least })
+    leads_least structs old new asked wanted gives names (record { map = its.map; maps = its.maps; onto = its.onto; holds = its.holds; least = its.least })

@@ -20,6 +20,7 @@ pub least_same : (structs : List StructDef) → AreMade structs → (graph : Gra
 least_same structs made graph sound asked holds = record {
   map = unmoved;
   maps = itself structs made graph sound;
+  onto = λ number node e. (number, node, e, refl);
   holds = holds;
   least = λ other into maps asks. (into, maps, λ number node e. refl);
 }

@@ -146,6 +146,7 @@ module _ (structs : List StructDef) (made : AreMade structs) (old new : Graph) (
   marks = record {
     map = unmoved;
     maps = maps_marked;
+    onto = λ n node e. let before = was n node e in (n, before.before, before.is, refl);
     holds = at_from new (unmoved number) (λ node shift. has_mark mark node.flags) (record own { flags = marked mark own.flags }) (sets.at own own_is) (marked_has mark own.flags);
     least = λ other into maps holds. (into, maps_back other into maps holds, λ n node e. refl);
   }

@@ -72,4 +72,4 @@ names_same structs old new asked sound fine its holds name = by (old.targets nam
 
 pub names_with : (structs : List StructDef) (old new : Graph) (asked : Asked) → IsSound structs old → IsSound structs new → (its : LeastWith structs old new asked)
     → ((targets : Name → Option Target) → asked (record { nodes = new.nodes; targets = targets }) its.map) → (name : Name) → has_target (new.targets name) ≡ has_target (old.targets name)
-names_with structs old new asked sound fine its holds = names_same structs old new asked sound fine (record { map = its.map; maps = its.maps; holds = its.holds; least = its.least }) holds
+names_with structs old new asked sound fine its holds = names_same structs old new asked sound fine (record { map = its.map; maps = its.maps; onto = its.onto; holds = its.holds; least = its.least }) holds

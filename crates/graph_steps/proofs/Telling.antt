@@ -7,7 +7,7 @@ use Rattle.c_typed.specs.Layouts.{StructDef}
 use Rattle.heap_graph.specs.Graphs.{Target, Element, Missing, OfType, Collapsed, Flags, Edge, Node, Graph, edge_in, node_at}
 use Rattle.heap_graph.specs.Parts.{slots_of}
 use Rattle.heap_graph.specs.Targets.{at_target, is_collapsed, shifted, edge_at, marks_kept, element_kept, holds_part}
-use Rattle.heap_graph.specs.Merging.{IsSlot, IsSound, GraphMap, mapped, Maps, AreOne, LeastWith}
+use Rattle.heap_graph.specs.Merging.{IsSlot, IsSound, GraphMap, mapped, Maps, IsOnto, AreOne, LeastWith}
 use Rattle.heap_graph.proofs.MapsCompose.{shifted_there, There, at_there, at_from, target_in, mapped_there}
 use Rattle.graph_memory.specs.Changes.{AddsNode}
 use Rattle.graph_steps.specs.Asked.{HoldsPart, bare}
@@ -144,10 +144,29 @@ module _ (structs : List StructDef) (old middle new : Graph) (number : ℕ) (c_t
         (at_from new (target_in merged.map start there.node) (holds_part structs c_type) there.node there.is
         (part_settled structs c_type there.node.element there.node.flags there.node.edges (merged.map number).shift there.so))
 
+    -- where the new node is now, the node of the target is
+    with_start : (merged.map number).node ≡ (merged.map at.node).node
+    with_start =
+        let there = at_there new (merged.map number) (element_kept structs added.element) (merged.maps.elements number added adds.at) in
+        let here = at_there new (merged.map at.node) (element_kept structs slot.node.element) (maps_on.elements at.node slot.node slot.is) in
+        ap (λ (t : Target). t.node) (same_Some (target_in merged.map start there.node) (target_in merged.map at here.node)
+        (sym (mapped_there new merged.map start there.node there.is) ∙ (sym merged.holds ∙ mapped_there new merged.map at here.node here.is)))
+
+    onto_on : IsOnto old new merged.map
+    onto_on n node e =
+        let its = merged.onto n node e in
+        by its.0 its.1 its.2 its.3 (eqb its.0 number) refl
+      where
+        by : (from : ℕ) (its : Node) → node_at middle from ≡ Some its → (merged.map from).node ≡ n → (b : Bool) → eqb from number ≡ b
+            → (from : ℕ) × (its : Node) × (node_at old from ≡ Some its) × ((merged.map from).node ≡ n)
+        by from its is there true t = (at.node, slot.node, slot.is, sym with_start ∙ (ap (λ n. (merged.map n).node) (sym (eqb-true from number t)) ∙ there))
+        by from its is there false t = (from, its, sym (adds.others from (λ same. false≢true (sym t ∙ eq-eqb from number same))) ∙ is, there)
+
     pub tells : Least structs old new (HoldsPart structs c_type at)
     tells = record {
       map = merged.map;
       maps = maps_on;
+      onto = onto_on;
       holds = holds_on;
       least = λ other into maps holds.
           let rest = merged.least other (both other into maps holds) (both_maps other into maps holds) (are_one other into maps holds) in

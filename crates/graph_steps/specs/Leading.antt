@@ -3,12 +3,13 @@ use Rattle.std.specs.Prelude.{◌≡◌, ℕ, List, Some}
 use Rattle.c_typed.specs.Layouts.{StructDef}
 use Rattle.heap_graph.specs.Graphs.{Node, Name, Graph, node_at}
 use Rattle.heap_graph.specs.Targets.{has_target, shifted}
-use Rattle.heap_graph.specs.Merging.{GraphMap, mapped, Maps, Asked}
+use Rattle.heap_graph.specs.Merging.{GraphMap, mapped, Maps, IsOnto, Asked}
 
 -- the least graph in which what is asked holds
 pub record Least (structs : List StructDef) (old new : Graph) (asked : Asked) : Type 0 where
   pub map : GraphMap
   pub maps : Maps structs old new map
+  pub onto : IsOnto old new map
   pub holds : asked new map
   pub least : (other : Graph) (into : GraphMap) → Maps structs old other into → asked other into
       → (rest : GraphMap) × Maps structs new other rest × ((number : ℕ) (node : Node) → node_at old number ≡ Some node → mapped other rest (map number) ≡ shifted other 0 (Some (into number)))

@@ -146,6 +146,7 @@ module _ (structs : List StructDef) (made : AreMade structs) (old new : Graph) (
     edge_step asks its = record {
       map = unmoved;
       there = λ at before. let now = is_now at before.0 before.1 in (now.now, now.is);
+      stays = λ at now. let its = was at now.0 now.1 in ((its.before, its.is), refl);
       sound = sound_now;
       asks = asks_now asks its;
       fewer = change.fewer;

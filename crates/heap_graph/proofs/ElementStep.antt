@@ -173,6 +173,7 @@ module _ (structs : List StructDef) (made : AreMade structs) (old new : Graph) (
         record {
           map = unmoved;
           there = λ at node. let now = is_now at node.0 node.1 in (now.now, now.is);
+          stays = λ at now. let its = was at now.0 now.1 in ((its.before, its.is), refl);
           sound = sound_now;
           asks = of_new;
           fewer = change.fewer;

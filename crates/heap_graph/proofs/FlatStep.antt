@@ -256,10 +256,20 @@ module _ (structs : List StructDef) (made : AreMade structs) (old new : Graph) (
       edges_hold edges found.1 asks h,
     )
 
+  was_there : (at : ℕ) → IsNode new at → IsNode old at
+  was_there at now = by (cases_eq at number)
+    where
+      by : (at ≡ number) ⊎ (at ≡ number → ⊥) → IsNode old at
+      by (inl p) = (node, ap (node_at old) p ∙ change.is)
+      by (inr p) =
+          let its = of_map (flattened_node number) (node_at old at) now.0 (sym (change.others at p) ∙ now.1) in
+          (its.0, its.1.0)
+
   pub flat_step : (asks : List Ask) → AllAreOf structs old asks → Step structs old new (Collapse number ∷ asks) (asked_once number node.edges (flattened_asks number asks))
   flat_step asks its = record {
     map = unmoved;
     there = there_new;
+    stays = λ at now. (was_there at now, refl);
     sound = sound_new;
     asks = edges_new node.edges change.found (flattened_asks number asks) (asks_new asks its);
     fewer = change.fewer;

@@ -7,7 +7,7 @@ use Rattle.c_typed.specs.Layouts.{StructDef}
 use Rattle.heap_graph.specs.Structures.{AreMade}
 use Rattle.heap_graph.specs.Graphs.{Target, Element, Missing, OfType, Collapsed, Flags, Edge, Node, Name, Graph, edge_in, node_at}
 use Rattle.heap_graph.specs.Targets.{at_target, is_collapsed, shifted, edge_at, implies, marks_kept, element_kept}
-use Rattle.heap_graph.specs.Merging.{slots, IsSound, GraphMap, mapped, Maps}
+use Rattle.heap_graph.specs.Merging.{slots, IsSound, GraphMap, mapped, Maps, IsOnto}
 use Rattle.heap_graph.specs.Steps.{or_first, via}
 use Rattle.heap_graph.proofs.PartsNest.{tested, found, part_trans}
 
@@ -97,6 +97,14 @@ shifts false false h r m t = omega arith
 pub via_there : (other : Graph) (rest map : GraphMap) (number : ℕ) (image : Node) → node_at other (rest (map number).node).node ≡ Some image
     → via other rest map number ≡ target_in rest (map number) image
 via_there other rest map number image e = ap or_first (mapped_there other rest (map number) image e)
+
+-- to each node of the last graph a node of the first came, where the one map and the other are so
+pub onto_then : (one two three : Graph) (map rest : GraphMap) → IsOnto one two map → IsOnto two three rest → IsOnto one three (via three rest map)
+onto_then one two three map rest first then number node e =
+    let last = then number node e in
+    let middle = first last.0 last.1 last.2 in
+    let same = ap (λ n. (rest n).node) middle.3 ∙ last.3 in
+    (middle.0, middle.1, middle.2, ap (λ (t : Target). t.node) (via_there three rest map middle.0 node (ap (node_at three) same ∙ e)) ∙ same)
 
 pub kept_collapsed : (structs : List StructDef) (a : Element) (image : Node) (s : ℕ) → element_kept structs a image s ≡ true → is_collapsed a ≡ true → is_collapsed image.element ≡ true
 kept_collapsed structs Missing image s h c = absurd (false≢true c)

@@ -109,6 +109,17 @@ module _ (structs : List StructDef) (made : AreMade structs) (old new : Graph) (
   pub other_node : (number : ℕ) (node : Node) → (number ≡ part → ⊥) → (number ≡ whole → ⊥) → node_at old number ≡ Some node → node_at new number ≡ Some (moved_node part whole distance node)
   other_node number node p w e = change.others number p w ∙ ap (option_map (moved_node part whole distance)) e
 
+  -- a node of the new graph was there, and stays
+  was_there : (number : ℕ) → IsNode new number → IsNode old number × ((the_map number).node ≡ number)
+  was_there number now = by (cases_eq number part) (cases_eq number whole)
+    where
+      by : (number ≡ part) ⊎ (number ≡ part → ⊥) → (number ≡ whole) ⊎ (number ≡ whole → ⊥) → IsNode old number × ((the_map number).node ≡ number)
+      by (inl p) w = absurd (none-some now.0 (sym change.gone ∙ (ap (node_at new) (sym p) ∙ now.1)))
+      by (inr p) (inl w) = ((outer, ap (node_at old) w ∙ change.whole_is), ap (λ (t : Target). t.node) (moved_other part whole distance (record { node = number; shift = 0 }) p))
+      by (inr p) (inr w) =
+          let its = of_map (moved_node part whole distance) (node_at old number) now.0 (sym (change.others number p w) ∙ now.1) in
+          ((its.0, its.1.0), ap (λ (t : Target). t.node) (moved_other part whole distance (record { node = number; shift = 0 }) p))
+
   -- the image of a slot
   pub slot_image : (target : Target) → IsSlot structs old target → mapped new the_map target ≡ Some (moved part whole distance target)
   slot_image target slot = by (cases_eq target.node part) (cases_eq target.node whole)
@@ -454,6 +465,7 @@ module _ (structs : List StructDef) (made : AreMade structs) (old new : Graph) (
     part_step asks at_a at_b its = record {
       map = the_map;
       there = there_new;
+      stays = was_there;
       sound = sound_new;
       asks = edges_new inner.edges change.found (moved_asks part whole distance asks) (asks_new asks its);
       fewer = change.fewer;

@@ -147,6 +147,7 @@ pub ask_step : (structs : List StructDef) → AreMade structs → (graph : Graph
 ask_step structs made graph sound before after of_before of_after same = record {
   map = unmoved;
   there = λ number node. node;
+  stays = λ number node. (node, refl);
   sound = sound;
   asks = of_after;
   fewer = omega arith;
@@ -178,6 +179,11 @@ module _ (structs : List StructDef) (made : AreMade structs) (one two three : Gr
     there = λ number node.
         let there = then.there (first.map number).node (first.there number node) in
         (there.0, ap (λ (t : Target). node_at three t.node) (via_there three then.map first.map number there.0 there.1) ∙ there.1);
+    stays = λ number node.
+        let last = then.stays number node in
+        let its = first.stays number last.0 in
+        let there = then.there (first.map number).node (first.there number its.0) in
+        (its.0, ap (λ (t : Target). t.node) (via_there three then.map first.map number there.0 there.1) ∙ (ap (λ n. (then.map n).node) its.1 ∙ last.1));
     sound = then.sound;
     asks = then.asks;
     fewer = let a = first.fewer in let b = then.fewer in omega (arith, a, b);
@@ -213,6 +219,10 @@ finished structs made old new ask step =
     record {
       map = via new unmoved step.map;
       maps = end.0;
+      onto = λ number node e.
+          let its = step.stays number (node, e) in
+          let there = step.there number its.0 in
+          (number, its.0.0, its.0.1, ap (λ (t : Target). t.node) (via_there new unmoved step.map number there.0 there.1) ∙ its.1);
       holds = end.1.0;
       least = λ other into maps holds.
           let all = step.forward other into maps (holds, tt) in (

@@ -17,7 +17,7 @@ use Rattle.tac_ir.specs.Values.{same_local}
 use Rattle.tac_ir.specs.First.{named_global, placed_literal}
 use Rattle.tac_ir.specs.States.{Owner, InStart, InFunction, function_of}
 use Rattle.call_groups.specs.Targets.{is_target}
-use Rattle.heap_graph.specs.Graphs.{Target, Flags, Edge, Node, Name, OfRegister, OfResult, OfObject, OfGlobal, OfLiteral, Graph, Crossing, Embedding, ProgramGraphs, edge_in, node_at}
+use Rattle.heap_graph.specs.Graphs.{Target, Flags, Edge, Node, Name, OfRegister, OfResult, OfObject, OfGlobal, OfLiteral, OfCopy, Graph, Crossing, Embedding, ProgramGraphs, edge_in, node_at}
 use Rattle.heap_graph.specs.Targets.{same_target, has_target, at_target, is_collapsed, shifted, edge_at, holds_part, is_array, elements_of, implies, types_differ, flags_kept, element_kept}
 use Rattle.heap_graph.specs.Targets as T
 use Rattle.heap_graph.specs.Points.{is_data_pointer, point_closed}
@@ -319,6 +319,7 @@ is_name tac owners (OfResult owner) = owners owner
 is_name tac owners (OfObject owner local) = owners owner && of_function (function_of tac owner) (λ function. has_object function local)
 is_name tac owners (OfGlobal number) = nat_lt number (length tac.globals)
 is_name tac owners (OfLiteral number) = nat_lt number (length tac.literals)
+is_name tac owners (OfCopy number) = false
 
 -- a call out of the group: of this function, from this site, to a function that it may reach and that is in another group
 pub record IsCrossing (family : Family) (at : Crossing) : Type 0 where

@@ -1,6 +1,6 @@
 -- Heap graphs as plain data: nodes stand for sets of objects, and each name of a pointer or of an object has at most one target (Lattner,
 -- Lenharth, Adve: Making Context-Sensitive Points-to Analysis with Heap Cloning Practical For The Real World, PLDI 2007).
-use Rattle.std.specs.Prelude.{ℕ, ◌==◌, Bool, if◌then◌else◌, List, [], ◌∷◌, slice_get, Option, Some, None}
+use Rattle.std.specs.Prelude.{ℕ, ◌==◌, Bool, true, false, if◌then◌else◌, List, [], ◌∷◌, slice_get, Option, Some, None}
 use Rattle.c_typed.specs.Types.{CType}
 use Rattle.tac_ir.specs.declared.register.Local.{Local}
 use Rattle.tac_ir.specs.declared.register.Register.{Register}
@@ -40,13 +40,24 @@ pub record Node : Type 0 where
   pub flags : Flags
   pub edges : List Edge
 
--- what may have a target: a register or the result of a function of the group, a local in memory, a variable outside functions, a literal
+-- what may have a target: a register or the result of a function of the group, a local in memory, a variable outside functions, a literal;
+-- and the copy of a node that escapes a function that is called, while the graph of its caller is made
 pub data Name : Type 0 where
   OfRegister : (owner : Owner) (register : Register) → Name
   OfResult : (owner : Owner) → Name
   OfObject : (owner : Owner) (local : Local) → Name
   OfGlobal : (number : ℕ) → Name
   OfLiteral : (number : ℕ) → Name
+  OfCopy : (number : ℕ) → Name
+
+-- graphs that are made have no targets of copies
+abbrev pub is_copy : Name → Bool
+is_copy (OfRegister owner register) = false
+is_copy (OfResult owner) = false
+is_copy (OfObject owner local) = false
+is_copy (OfGlobal number) = false
+is_copy (OfLiteral number) = false
+is_copy (OfCopy number) = true
 
 -- the graph of a group of functions; a number may be that of no node any more
 pub record Graph : Type 0 where

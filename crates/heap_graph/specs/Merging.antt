@@ -46,6 +46,10 @@ pub record Maps (structs : List StructDef) (graph other : Graph) (map : GraphMap
   pub edges : (number slot : ℕ) (node : Node) (to : Target) → node_at graph number ≡ Some node → edge_in node.edges slot ≡ Some to
       → edge_at other (shifted other slot (Some (map number))) ≡ mapped other map to
 
+-- each node is one to which a node of the old graph came
+abbrev pub IsOnto : Graph → Graph → GraphMap → Type 0
+IsOnto old new map = (number : ℕ) (node : Node) → node_at new number ≡ Some node → (from : ℕ) × (its : Node) × (node_at old from ≡ Some its) × ((map from).node ≡ number)
+
 -- ---- the least graph
 
 -- what is asked of a graph to which there is a map
@@ -55,6 +59,7 @@ Asked = Graph → GraphMap → Type 0
 pub record LeastWith (structs : List StructDef) (old new : Graph) (asked : Asked) : Type 0 where
   pub map : GraphMap
   pub maps : Maps structs old new map
+  pub onto : IsOnto old new map
   pub holds : asked new map
   pub least : (other : Graph) (into : GraphMap) → Maps structs old other into → asked other into
       → (rest : GraphMap) × Maps structs new other rest × ((number : ℕ) (node : Node) → node_at old number ≡ Some node → mapped other rest (map number) ≡ shifted other 0 (Some (into number)))

@@ -51,10 +51,11 @@ unmoved number = record { node = number; shift = 0 }
 -- ---- steps
 
 -- From a graph of which some things are asked to one of which others are. The same graphs are reached from both where that holds: what isn't
--- in the new graph yet, such as edges that were taken away, is asked of it.
+-- in the new graph yet, such as edges that were taken away, is asked of it. No nodes are added, and one that isn't taken away stays.
 pub record Step (structs : List StructDef) (old new : Graph) (before after : List Ask) : Type 0 where
   pub map : GraphMap
   pub there : (number : ℕ) → IsNode old number → IsNode new (map number).node
+  pub stays : (number : ℕ) → IsNode new number → IsNode old number × ((map number).node ≡ number)
   pub sound : IsSound structs new
   pub asks : AllAreOf structs new after
   pub fewer : count new.nodes ≤ count old.nodes

@@ -3,10 +3,11 @@
 use crate::scenes::{Kind, NONE, Place, Step, chain, is_part, merge_all, play, register};
 use crate::types::{Row, build};
 use c_num::IntType;
-use graph_memory::Graph;
+use graph_memory::{Graph, Name};
 use heap_graph::{Element, Flags, Target};
 use std::alloc::AllocError;
 use std::test::Fail;
+use tac_ir::{GlobalId, LiteralId};
 
 const INT: usize = 0;
 
@@ -192,5 +193,63 @@ fn merges_a_chain(rt: HostRuntime) -> Result<(), Fail> {
     chain(&types, &mut graph, 65_536)?;
     merge_all(&types, &mut graph, 65_536)?;
     assert_eq!(rt; graph.target(register(0)), graph.target(register(65_535)));
+    Ok(())
+}
+
+#[test]
+fn tells_what_became_certain(rt: HostRuntime) -> Result<(), Fail> {
+    let alloc = rt.alloc();
+    let types = build(alloc, &TYPES)?;
+    let mut graph = Graph::new(alloc);
+    let certain = Flags {
+        certain: true,
+        ..NONE
+    };
+    let steps = [
+        Step::Node(Kind::Missing, NONE),
+        Step::Node(Kind::Missing, certain),
+        Step::Node(Kind::Missing, NONE),
+        Step::Name(0, Place::At(0, 0)),
+        Step::Name(1, Place::At(1, 0)),
+        Step::Name(2, Place::At(2, 0)),
+    ];
+    play(&types, &mut graph, &steps)?;
+    assert_eq!(rt; graph.take_certain(), None);
+    play(
+        &types,
+        &mut graph,
+        &[Step::Merge(Place::Of(0), Place::Of(1))],
+    )?;
+    assert_eq!(rt; graph.take_certain(), Some(register(0)));
+    assert_eq!(rt; graph.take_certain(), None);
+    graph.set_flags(2, certain);
+    assert_eq!(rt; graph.take_certain(), Some(register(2)));
+    graph.set_flags(2, certain);
+    play(
+        &types,
+        &mut graph,
+        &[Step::Merge(Place::Of(2), Place::Of(0))],
+    )?;
+    assert_eq!(rt; graph.take_certain(), None);
+    Ok(())
+}
+
+#[test]
+fn tells_what_lies_outside_functions(rt: HostRuntime) -> Result<(), Fail> {
+    let alloc = rt.alloc();
+    let mut graph = Graph::new(alloc);
+    let node = graph.new_node(Element::Missing, NONE)?;
+    for name in [
+        Name::Global(GlobalId(7)),
+        register(7),
+        Name::Literal(LiteralId(3)),
+        Name::Copy(5),
+        Name::Global(GlobalId(2)),
+        Name::Global(GlobalId(7)),
+    ] {
+        graph.set_target(name, Target { node, shift: 0 })?;
+    }
+    assert_eq!(rt; graph.globals(alloc)?.as_slice(), [7, 2].as_slice());
+    assert_eq!(rt; graph.literals(alloc)?.as_slice(), [3].as_slice());
     Ok(())
 }

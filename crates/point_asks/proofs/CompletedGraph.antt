@@ -3,7 +3,7 @@ use Rattle.std.proofs.Common.{◌≡◌, ℕ, zero, suc, ◌<◌, Bool, true, fa
 use Rattle.std.specs.Prelude.{◌==◌, map, slice_get, option_map}
 use Rattle.std.proofs.lemmas.Bool.{false≢true, and_parts, cond-true, cond-false, cases_eq, ne_eqb}
 use Rattle.std.proofs.lemmas.Option.{none-some, same_Some}
-use Rattle.heap_graph.specs.Graphs.{Target, Edge, Node, Graph, there, edge_in, node_at}
+use Rattle.heap_graph.specs.Graphs.{Target, Edge, Node, Name, Graph, there, edge_in, node_at}
 use Rattle.heap_graph.specs.Targets.{has_target, edge_at, implies, is_collapsed}
 use Rattle.heap_graph.specs.Closed.{Family, is_slot, edges_sound, GraphClosed}
 use Rattle.tac_ir.specs.States.{Owner}
@@ -163,9 +163,13 @@ module _ (bound : ℕ) (graph : Graph) where
         ∙ (edge_restricted was.0 target.shift (sound.edges target.node was.0 is)
         ∙ sym (ap (if_certain (completed bound graph)) (edge_there (completed bound graph) target (completed_node bound nothing was.0) (node_kept target.node was.0 is))))
 
+    -- names, copies too, are those of certain nodes
+    pub completed_names : (name : Name) → graph.targets name ≡ if_certain (completed bound graph) ((completed bound graph).targets name)
+    completed_names name = name_restricted (graph.targets name) (sound.names name)
+
     pub completed_restricts : Restricts (completed bound graph) graph
     completed_restricts = record {
-      names = λ name. name_restricted (graph.targets name) (sound.names name);
+      names = λ name own. completed_names name;
       nodes = λ number image e h.
           let was = certain_was number image e h in
           record {

@@ -16,7 +16,7 @@ use Rattle.point_asks.specs.Completed.{or_target, nothing_in, completed, HasNode
 use Rattle.point_asks.specs.CertainMaps.{MapsCertain}
 use Rattle.point_asks.proofs.Certain.{certain_some, certain_there, if_yes, has_if, same_eq, eq_same, implies_holds}
 use Rattle.point_asks.proofs.Restricting.{Depends, holds_depends, at_certain, shifted_certain, edge_certain}
-use Rattle.point_asks.proofs.CompletedGraph.{slot_certain, completed_restricts}
+use Rattle.point_asks.proofs.CompletedGraph.{slot_certain, completed_names, completed_restricts}
 
 -- ---- what depends on elements and flags alone
 
@@ -59,7 +59,7 @@ module _ (bound : ℕ) (graph : Graph) (sound : HasNodes graph) where
 
   -- a name has a target where that of the completed graph is certain
   pub certain_has : (name : Name) → is_certain (completed bound graph) ((completed bound graph).targets name) ≡ has_target (graph.targets name)
-  certain_has name = sym (ap has_target (restricts.names name) ∙ has_if whole (whole.targets name))
+  certain_has name = sym (ap has_target (completed_names bound graph sound name) ∙ has_if whole (whole.targets name))
 
   -- what has the same target, or both have none, has the same target
   pub names_same : (a b : Name) → same_target (graph.targets a) (graph.targets b) ≡ true → same_target ((completed bound graph).targets a) ((completed bound graph).targets b) ≡ true
@@ -76,11 +76,12 @@ module _ (bound : ℕ) (graph : Graph) (sound : HasNodes graph) where
       let parts = and_parts _ _ h in
       let sure = certain_has name ∙ parts.0 in
       and_from _ _ sure
-      (at_completed (whole.targets name) holds depends sure ∙ (sym (ap (λ t. at_target graph t holds) (restricts.names name ∙ if_yes whole (whole.targets name) sure)) ∙ parts.1))
+      (at_completed (whole.targets name) holds depends sure ∙ (sym (ap (λ t. at_target graph t holds) (completed_names bound graph sound name ∙ if_yes whole (whole.targets name) sure)) ∙ parts.1))
 
 -- ---- maps
 
-module _ (structs : List StructDef) (made whole graph : Graph) (restricts : Restricts whole graph) (into : GraphMap) (maps : Maps structs made whole into) where
+module _ (structs : List StructDef) (made whole graph : Graph) (restricts : Restricts whole graph) (names : (name : Name) → graph.targets name ≡ if_certain whole (whole.targets name))
+    (into : GraphMap) (maps : Maps structs made whole into) where
   goes_certain : (number : ℕ) (node : Node) → node_at made number ≡ Some node → node.flags.certain ≡ true → is_certain whole (Some (into number)) ≡ true
   goes_certain number node e h =
       let image = at_there whole (into number) (λ image shift. marks_kept node.flags image.flags) (maps.flags number node e) in
@@ -107,7 +108,7 @@ module _ (structs : List StructDef) (made whole graph : Graph) (restricts : Rest
   maps_certain = record {
     names = λ name target e h.
         let image = mapped_certain target h in
-        restricts.names name ∙ (ap (if_certain whole) (maps.names name target e) ∙ (if_yes whole (mapped whole into target) image.1 ∙ sym image.0));
+        names name ∙ (ap (if_certain whole) (maps.names name target e) ∙ (if_yes whole (mapped whole into target) image.1 ∙ sym image.0));
     elements = λ number node e h. at_certain whole graph restricts (Some (into number)) (element_kept structs node.element) (element_depends structs node.element) (goes_certain number node e h) ∙ maps.elements number node e;
     flags = λ number node e h.
         at_certain whole graph restricts (Some (into number)) (λ image shift. flags_kept node.flags image.flags) (flags_depend node.flags) (goes_certain number node e h) ∙ flags_certain number node e;
@@ -121,8 +122,8 @@ module _ (structs : List StructDef) (made whole graph : Graph) (restricts : Rest
 
 module _ (structs : List StructDef) (made : Graph) (bound : ℕ) (graph : Graph) (sound : HasNodes graph) (into : GraphMap) (maps : Maps structs made (completed bound graph) into) where
   pub completed_maps : MapsCertain structs made graph into
-  completed_maps = maps_certain structs made (completed bound graph) graph (completed_restricts bound graph sound) into maps
+  completed_maps = maps_certain structs made (completed bound graph) graph (completed_restricts bound graph sound) (completed_names bound graph sound) into maps
 
   -- a certain node goes to a node of the graph
   pub certain_goes : (number : ℕ) (node : Node) → node_at made number ≡ Some node → node.flags.certain ≡ true → (image : Node) × (node_at graph (into number).node ≡ Some image)
-  certain_goes number node e h = goes_there structs made (completed bound graph) graph (completed_restricts bound graph sound) into maps number node e h
+  certain_goes number node e h = goes_there structs made (completed bound graph) graph (completed_restricts bound graph sound) (completed_names bound graph sound) into maps number node e h

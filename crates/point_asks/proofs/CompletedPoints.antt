@@ -106,7 +106,7 @@ module _ (tac : Tac) (bound : ℕ) (graph : Graph) (owner : Owner) (sound : HasN
       (λ _ same. eq_same there (own tac whole owner from) (e ∙ ap or_nothing (same_eq target (own tac graph owner from) same))) h
 
   register_has : (register : Register) → is_certain whole (own tac whole owner register) ≡ has_target (own tac graph owner register)
-  register_has register = sym (ap has_target (restricts.names (OfRegister owner register)) ∙ has_if whole (own tac whole owner register))
+  register_has register = sym (ap has_target (restricts.names (OfRegister owner register) refl) ∙ has_if whole (own tac whole owner register))
 
   -- what holds of a register's node holds if it is certain
   at_register : (register : Register) (holds : Node → ℕ → Bool) → Depends holds → at_target graph (own tac graph owner register) holds ≡ true → is_certain whole (own tac whole owner register) ≡ true

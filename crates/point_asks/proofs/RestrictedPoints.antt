@@ -45,7 +45,7 @@ module _ (tac : Tac) (graph kept : Graph) (owner : Owner) (restricts : Restricts
       by false c = ap (λ t. at_target kept t holds) (e ∙ if_not graph target c)
 
   register_is : (register : Register) → own tac kept owner register ≡ if_certain graph (own tac graph owner register)
-  register_is register = restricts.names (OfRegister owner register)
+  register_is register = restricts.names (OfRegister owner register) refl
 
   copy_restricted : (to from : Register) → takes tac graph owner (own tac graph owner to) from ≡ true → takes tac kept owner (own tac kept owner to) from ≡ true
   copy_restricted to from h = takes_kept tac graph kept owner restricts (own tac graph owner to) (own tac kept owner to) (register_is to) from h
@@ -140,7 +140,7 @@ module _ (tac : Tac) (graph kept : Graph) (owner : Owner) (restricts : Restricts
   return_restricted : (value : Option Operand) → return_closed tac graph owner value ≡ true → return_closed tac kept owner value ≡ true
   return_restricted None h = refl
   return_restricted (Some (IntegerOperand tree)) h = refl
-  return_restricted (Some (PointerOperand register)) h = takes_kept tac graph kept owner restricts (graph.targets (OfResult owner)) (kept.targets (OfResult owner)) (restricts.names (OfResult owner)) register h
+  return_restricted (Some (PointerOperand register)) h = takes_kept tac graph kept owner restricts (graph.targets (OfResult owner)) (kept.targets (OfResult owner)) (restricts.names (OfResult owner) refl) register h
 
   -- all points but calls, of which nothing is said here
   pub point_restricted : (op : Op) → point_asked tac graph owner op ≡ true → sizes_told tac kept owner op ≡ true → point_closed tac kept owner op ≡ true

@@ -60,18 +60,18 @@ module _ (tac : Tac) (graph kept : Graph) (owner : Owner) (restricts : Restricts
   steps_certain (Element index ∷ steps) part h = steps_certain steps (element_part part) h
 
   pub base_certain : (base : Base) → is_certain graph (base_part tac graph owner base).target ≡ true → base_part tac kept owner base ≡ base_part tac graph owner base
-  base_certain (AtLocal local) h = λ i. record { target = (restricts.names (OfObject owner local) ∙ if_yes graph (graph.targets (OfObject owner local)) h) i; c_type = (base_part tac graph owner (AtLocal local)).c_type }
-  base_certain (AtGlobal number) h = λ i. record { target = (restricts.names (OfGlobal number) ∙ if_yes graph (graph.targets (OfGlobal number)) h) i; c_type = (base_part tac graph owner (AtGlobal number)).c_type }
-  base_certain (AtLiteral number) h = λ i. record { target = (restricts.names (OfLiteral number) ∙ if_yes graph (graph.targets (OfLiteral number)) h) i; c_type = (base_part tac graph owner (AtLiteral number)).c_type }
-  base_certain (Pointed pointer target) h = λ i. record { target = (restricts.names (OfRegister owner pointer) ∙ if_yes graph (graph.targets (OfRegister owner pointer)) h) i; c_type = target }
-  base_certain (Indexed pointer target number) h = λ i. record { target = (restricts.names (OfRegister owner pointer) ∙ if_yes graph (graph.targets (OfRegister owner pointer)) h) i; c_type = target }
+  base_certain (AtLocal local) h = λ i. record { target = (restricts.names (OfObject owner local) refl ∙ if_yes graph (graph.targets (OfObject owner local)) h) i; c_type = (base_part tac graph owner (AtLocal local)).c_type }
+  base_certain (AtGlobal number) h = λ i. record { target = (restricts.names (OfGlobal number) refl ∙ if_yes graph (graph.targets (OfGlobal number)) h) i; c_type = (base_part tac graph owner (AtGlobal number)).c_type }
+  base_certain (AtLiteral number) h = λ i. record { target = (restricts.names (OfLiteral number) refl ∙ if_yes graph (graph.targets (OfLiteral number)) h) i; c_type = (base_part tac graph owner (AtLiteral number)).c_type }
+  base_certain (Pointed pointer target) h = λ i. record { target = (restricts.names (OfRegister owner pointer) refl ∙ if_yes graph (graph.targets (OfRegister owner pointer)) h) i; c_type = target }
+  base_certain (Indexed pointer target number) h = λ i. record { target = (restricts.names (OfRegister owner pointer) refl ∙ if_yes graph (graph.targets (OfRegister owner pointer)) h) i; c_type = target }
 
   pub base_has : (base : Base) → has_target (base_part tac kept owner base).target ≡ is_certain graph (base_part tac graph owner base).target
-  base_has (AtLocal local) = ap has_target (restricts.names (OfObject owner local)) ∙ has_if graph (graph.targets (OfObject owner local))
-  base_has (AtGlobal number) = ap has_target (restricts.names (OfGlobal number)) ∙ has_if graph (graph.targets (OfGlobal number))
-  base_has (AtLiteral number) = ap has_target (restricts.names (OfLiteral number)) ∙ has_if graph (graph.targets (OfLiteral number))
-  base_has (Pointed pointer target) = ap has_target (restricts.names (OfRegister owner pointer)) ∙ has_if graph (graph.targets (OfRegister owner pointer))
-  base_has (Indexed pointer target number) = ap has_target (restricts.names (OfRegister owner pointer)) ∙ has_if graph (graph.targets (OfRegister owner pointer))
+  base_has (AtLocal local) = ap has_target (restricts.names (OfObject owner local) refl) ∙ has_if graph (graph.targets (OfObject owner local))
+  base_has (AtGlobal number) = ap has_target (restricts.names (OfGlobal number) refl) ∙ has_if graph (graph.targets (OfGlobal number))
+  base_has (AtLiteral number) = ap has_target (restricts.names (OfLiteral number) refl) ∙ has_if graph (graph.targets (OfLiteral number))
+  base_has (Pointed pointer target) = ap has_target (restricts.names (OfRegister owner pointer) refl) ∙ has_if graph (graph.targets (OfRegister owner pointer))
+  base_has (Indexed pointer target number) = ap has_target (restricts.names (OfRegister owner pointer) refl) ∙ has_if graph (graph.targets (OfRegister owner pointer))
 
   pub path_certain : (path : Path) → is_certain graph (base_of tac graph owner path) ≡ true
       → (path_part tac kept owner path ≡ path_part tac graph owner path) × (is_certain graph (path_part tac graph owner path).target ≡ true)
@@ -85,7 +85,7 @@ module _ (tac : Tac) (graph kept : Graph) (owner : Owner) (restricts : Restricts
   told_certain c_type target h = ap (λ b. cond (is_complete tac.structs c_type) b true) (at_certain graph kept restricts target (holds_part tac.structs c_type) (holds_depends tac.structs c_type) h)
 
   pub register_certain : (register : Register) → is_certain graph (own tac graph owner register) ≡ true → own tac kept owner register ≡ own tac graph owner register
-  register_certain register h = restricts.names (OfRegister owner register) ∙ if_yes graph (own tac graph owner register) h
+  register_certain register h = restricts.names (OfRegister owner register) refl ∙ if_yes graph (own tac graph owner register) h
 
   pub typed_certain : (base : Base) → is_certain graph (base_part tac graph owner base).target ≡ true → base_typed tac kept owner base ≡ base_typed tac graph owner base
   typed_certain (AtLocal local) h = refl
@@ -106,7 +106,7 @@ module _ (tac : Tac) (graph kept : Graph) (owner : Owner) (restricts : Restricts
   pub takes_kept : (target there : Option Target) → there ≡ if_certain graph target → (from : Register) → takes tac graph owner target from ≡ true → takes tac kept owner there from ≡ true
   takes_kept target there e from h =
       or_step (is_null tac owner from) (same_target target (own tac graph owner from)) (same_target there (own tac kept owner from))
-      (λ _ same. eq_same there (own tac kept owner from) (e ∙ (ap (if_certain graph) (same_eq target (own tac graph owner from) same) ∙ sym (restricts.names (OfRegister owner from))))) h
+      (λ _ same. eq_same there (own tac kept owner from) (e ∙ (ap (if_certain graph) (same_eq target (own tac graph owner from) same) ∙ sym (restricts.names (OfRegister owner from) refl)))) h
 
   -- what the pointer points to that is where a path leads
   pub path_edge : (path : Path) → is_certain graph (base_of tac graph owner path) ≡ true

@@ -1,6 +1,6 @@
 -- The graph of the certain nodes of a graph.
-use Rattle.std.specs.Prelude.{◌≡◌, ℕ, true, if◌then◌else◌, Option, Some, None}
-use Rattle.heap_graph.specs.Graphs.{Target, Flags, Node, Name, Graph, node_at}
+use Rattle.std.specs.Prelude.{◌≡◌, ℕ, true, false, if◌then◌else◌, Option, Some, None}
+use Rattle.heap_graph.specs.Graphs.{Target, Flags, Node, Name, Graph, is_copy, node_at}
 use Rattle.heap_graph.specs.Targets.{edge_at}
 use Rattle.point_asks.specs.Asks.{is_certain}
 
@@ -23,8 +23,8 @@ pub record SameNode (graph : Graph) (number : ℕ) (node : Node) : Type 0 where
   pub element : now.element ≡ node.element
   pub flags : SameFlags now.flags node.flags
 
--- names, nodes and edges are those of certain nodes alone
+-- names, nodes and edges are those of certain nodes alone; of copies nothing is said
 pub record Restricts (graph certain : Graph) : Type 0 where
-  pub names : (name : Name) → certain.targets name ≡ if_certain graph (graph.targets name)
+  pub names : (name : Name) → is_copy name ≡ false → certain.targets name ≡ if_certain graph (graph.targets name)
   pub nodes : (number : ℕ) (node : Node) → node_at graph number ≡ Some node → node.flags.certain ≡ true → SameNode certain number node
   pub edges : (target : Target) → is_certain graph (Some target) ≡ true → edge_at certain (Some target) ≡ if_certain graph (edge_at graph (Some target))

@@ -9,7 +9,7 @@ use Rattle.tac_ir.specs.declared.program.Tac as memory_tac
 use Rattle.tac_ir.specs.Views.{tac_of, function_in}
 use Rattle.tac_ir.specs.States.{Owner, InStart, InFunction}
 use Rattle.call_groups.specs.Groups.{AreGroups}
-use Rattle.heap_graph.specs.Graphs.{OfRegister, OfResult, OfObject, OfGlobal, OfLiteral, Graph}
+use Rattle.heap_graph.specs.Graphs.{OfRegister, OfResult, OfObject, OfGlobal, OfLiteral, OfCopy, Graph}
 use Rattle.heap_graph.specs.Closed.{Family, is_in, of_group, group_from, graph_of, or_no_graph}
 use Rattle.frozen_graphs.specs.Frozen.{named, register_target, object_target, optional_target, graph_with}
 use Rattle.frozen_graphs.specs.declared.frozen.FrozenGraph.{FrozenGraph}
@@ -52,6 +52,7 @@ module _ (tac : memory_tac.Tac) (groups : List (List ℕ)) (graphs : ProgramGrap
         nodes = ap (λ (g : Graph). g.nodes) is;
         globals = λ k i. (is i).targets (OfGlobal k);
         literals = λ k i. (is i).targets (OfLiteral k);
+        copies = λ k i. (is i).targets (OfCopy k);
       }
 
   -- the names of a function in its group's graph
@@ -115,7 +116,7 @@ module _ (tac : memory_tac.Tac) (groups : List (List ℕ)) (graphs : ProgramGrap
   -- ---- `start`
 
   pub shows_start : ShowsGraph tac.types family InStart graphs.start
-  shows_start = record { structs = refl; nodes = refl; globals = λ k. refl; literals = λ k. refl }
+  shows_start = record { structs = refl; nodes = refl; globals = λ k. refl; literals = λ k. refl; copies = λ k. refl }
 
   pub start_shows_names : ShowsNames family InStart graphs.start_function.names
   start_shows_names = record { registers = λ register. refl; returned = refl; objects = λ local. refl }

@@ -4,19 +4,20 @@ use Rattle.c_typed.specs.Table.{Interned, structs_in}
 use Rattle.tac_ir.specs.declared.register.Local.{Local}
 use Rattle.tac_ir.specs.declared.register.Register.{Register}
 use Rattle.tac_ir.specs.States.{Owner, InFunction}
-use Rattle.heap_graph.specs.Graphs.{Graph, OfRegister, OfResult, OfObject, OfGlobal, OfLiteral}
+use Rattle.heap_graph.specs.Graphs.{Graph, OfRegister, OfResult, OfObject, OfGlobal, OfLiteral, OfCopy}
 use Rattle.heap_graph.specs.Closed.{Family, graph_of, is_in, of_group}
 use Rattle.frozen_graphs.specs.Frozen.{optional_target, static_in, register_target, object_target, optional_node}
 use Rattle.frozen_graphs.specs.declared.frozen.FunctionNames.{FunctionNames}
 use Rattle.frozen_graphs.specs.declared.frozen.FrozenGraph.{FrozenGraph}
 use Rattle.program_graphs.specs.declared.program.FunctionGraph.{FunctionGraph}
 
--- the graph of the function's group has these nodes, and these targets of variables outside functions and of literals
+-- the graph of the function's group has these nodes, these targets of variables outside functions and of literals, and none of copies
 pub record ShowsGraph (table : Interned) (family : Family) (owner : Owner) (graph : FrozenGraph) : Type 0 where
   pub structs : family.tac.structs ≡ structs_in table
   pub nodes : (graph_of family owner).nodes ≡ map (optional_node table) graph.nodes.items
   pub globals : (number : ℕ) → (graph_of family owner).targets (OfGlobal number) ≡ static_in graph.globals number
   pub literals : (number : ℕ) → (graph_of family owner).targets (OfLiteral number) ≡ static_in graph.literals number
+  pub copies : (number : ℕ) → (graph_of family owner).targets (OfCopy number) ≡ None
 
 -- the function has these targets in its group's graph
 pub record ShowsNames (family : Family) (owner : Owner) (names : FunctionNames) : Type 0 where

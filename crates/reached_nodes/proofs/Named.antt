@@ -6,7 +6,7 @@ use Rattle.indexmap.specs.IndexMap.{IndexMap}
 use Rattle.c_typed.specs.Table.{Interned}
 use Rattle.tac_ir.specs.States.{Owner, InStart, InFunction}
 use Rattle.heap_graph.specs.declared.graph.Target as memory_target
-use Rattle.heap_graph.specs.Graphs.{Target, Name, OfRegister, OfResult, OfObject, OfGlobal, OfLiteral, Graph, Crossing}
+use Rattle.heap_graph.specs.Graphs.{Target, Name, OfRegister, OfResult, OfObject, OfGlobal, OfLiteral, OfCopy, Graph, Crossing}
 use Rattle.heap_graph.specs.Closed.{Family, graph_of, is_in, IsCrossing, IsNeeded, named, embedded}
 use Rattle.frozen_graphs.specs.Frozen.{static_in}
 use Rattle.frozen_graphs.specs.declared.frozen.FunctionNames.{FunctionNames}
@@ -109,6 +109,7 @@ module _ (table : Interned) (family : Family) (group : List ℕ) (graph : Frozen
       (λ is. by_object local (node_there target _ _ at (in_one function is (OfObject (InFunction function) local) ∙ (own_names function is).objects local))))
   of_name (OfGlobal number) target at = inl (inl (number, node_there target _ _ at ((shows.one one inside).globals number)))
   of_name (OfLiteral number) target at = inl (inr (number, node_there target _ _ at ((shows.one one inside).literals number)))
+  of_name (OfCopy number) target at = absurd (nameless (OfCopy number) target at ((shows.one one inside).copies number))
 
   -- the nodes of a group's names are those that its functions name and those that its graph mentions
   pub group_names : (number : ℕ) → HasName one_graph number ↔ (IsMentionedBy graph number ⊎ IsNamedIn group functions number)
@@ -132,6 +133,7 @@ module _ (table : Interned) (family : Family) (graph : FrozenGraph) (names : Fun
   of_start (OfObject (InFunction function) local) target at = absurd (none-some target (sym ((others function).objects local) ∙ at))
   of_start (OfGlobal number) target at = inl (inl (number, node_there target _ _ at (shows.globals number)))
   of_start (OfLiteral number) target at = inl (inr (number, node_there target _ _ at (shows.literals number)))
+  of_start (OfCopy number) target at = absurd (none-some target (sym (shows.copies number) ∙ at))
 
   pub start_names : (number : ℕ) → HasName (graph_of family InStart) number ↔ (IsMentionedBy graph number ⊎ IsNamedBy names number)
   start_names number = (λ has. subst (λ n. IsMentionedBy graph n ⊎ IsNamedBy names n) has.node (of_start has.name has.target has.is), start_has_name number)

@@ -5,7 +5,7 @@ use Rattle.std.proofs.lemmas.Bool.Decides.{Decides-eqb}
 use Rattle.tac_ir.specs.declared.register.Local.TheVariants as L
 use Rattle.tac_ir.specs.declared.register.Register.TheVariants as R
 use Rattle.tac_ir.specs.States.{Owner, InStart, InFunction}
-use Rattle.heap_graph.specs.Graphs.{Target, Name, OfRegister, OfResult, OfObject, OfGlobal, OfLiteral, Graph}
+use Rattle.heap_graph.specs.Graphs.{Target, Name, OfRegister, OfResult, OfObject, OfGlobal, OfLiteral, OfCopy, Graph}
 use Rattle.heap_graph.specs.Escaping.{Reaches, is_outside, same_owner, Escapes}
 use Rattle.frozen_graphs.specs.Frozen.{optional_target, target_in, static_in}
 use Rattle.frozen_graphs.specs.declared.frozen.FunctionNames.{FunctionNames}
@@ -72,3 +72,4 @@ module _ (shown : Graph) (owner : Owner) (names : FunctionNames) (graph : Frozen
   outside_or_mentioned (OfObject own local) target outside is = absurd (false≢true outside)
   outside_or_mentioned (OfGlobal number) target outside is = inr (inl (number, node_of (OfGlobal number) target (static_in graph.globals number) is (globals number)))
   outside_or_mentioned (OfLiteral number) target outside is = inr (inr (number, node_of (OfLiteral number) target (static_in graph.literals number) is (literals number)))
+  outside_or_mentioned (OfCopy number) target outside is = absurd (false≢true outside)

@@ -13,3 +13,4 @@ pub use complete::{all_complete, complete_closed};
 pub use escapes::escaping;
 pub use marks::NodeMarks;
 pub use needed::NeededNodes;
+pub use search::reached;

@@ -17,7 +17,7 @@ pub struct NodeMarks {
 
 impl NodeMarks {
     /// None of a graph's nodes.
-    pub(crate) fn new(alloc: Global, graph: &FrozenGraph) -> Result<NodeMarks, AllocError>
+    pub fn new(alloc: Global, graph: &FrozenGraph) -> Result<NodeMarks, AllocError>
         ensures { IfOk result (IsFresh graph.now.nodes.items) }
     {
         Ok(NodeMarks {
@@ -83,7 +83,7 @@ impl NodeMarks {
     }
 
     /// Adds the nodes of variables outside functions and of literals.
-    pub(crate) fn add_statics(&mut self, graph: &FrozenGraph)
+    pub fn add_statics(&mut self, graph: &FrozenGraph)
         ensures { Adds self.old self.new (IsMentionedBy graph.now) }
     {
         self.add_found(&graph.globals);
@@ -91,7 +91,7 @@ impl NodeMarks {
     }
 
     /// Adds the nodes of a function's formals and of its result.
-    pub(crate) fn add_outside(&mut self, names: &FunctionNames)
+    pub fn add_outside(&mut self, names: &FunctionNames)
         ensures { Adds self.old self.new (IsOutside names.now) }
     {
         self.add_targets(&names.parameters);
@@ -99,7 +99,7 @@ impl NodeMarks {
     }
 
     /// The numbers of these nodes.
-    pub(crate) fn numbers(&self, alloc: Global) -> Result<Vec<usize>, AllocError>
+    pub fn numbers(&self, alloc: Global) -> Result<Vec<usize>, AllocError>
         ensures { IfOk result (λ numbers. AreMarked self.now numbers.items) }
     {
         let mut numbers = Vec::new(alloc);

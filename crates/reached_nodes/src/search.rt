@@ -41,7 +41,7 @@ impl Search {
 }
 
 /// All nodes to which edges lead from these.
-pub(crate) fn reached(
+pub fn reached(
     alloc: Global,
     graph: &FrozenGraph,
     starts: NodeMarks,

@@ -70,6 +70,7 @@ module _ {table : Interned} {family : Family} {group : List ℕ} {graph : Frozen
       nodes = (shows.one one in_group).nodes;
       globals = (shows.one one in_group).globals;
       literals = (shows.one one in_group).literals;
+      copies = (shows.one one in_group).copies;
       there = there;
       registers = registers;
       returned = returned;
@@ -137,6 +138,7 @@ module _ {table : Interned} {family : Family} {graph : FrozenGraph} {own : Funct
     nodes = shows.nodes;
     globals = shows.globals;
     literals = shows.literals;
+    copies = shows.copies;
     there = there;
     registers = registers;
     returned = returned;

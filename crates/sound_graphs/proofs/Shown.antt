@@ -7,7 +7,7 @@ use Rattle.tac_ir.specs.declared.register.Register.{Register}
 use Rattle.tac_ir.specs.Code as O
 use Rattle.tac_ir.specs.Code.{Tac}
 use Rattle.tac_ir.specs.States.{Owner, function_of}
-use Rattle.heap_graph.specs.Graphs.{Target, Edge, Node, Name, OfRegister, OfResult, OfObject, OfGlobal, OfLiteral, Graph, edge_in, node_at}
+use Rattle.heap_graph.specs.Graphs.{Target, Edge, Node, Name, OfRegister, OfResult, OfObject, OfGlobal, OfLiteral, OfCopy, Graph, edge_in, node_at}
 use Rattle.heap_graph.specs.Targets.{same_target, has_target, is_collapsed, implies}
 use Rattle.heap_graph.specs.Closed.{is_slot, edges_sound, has_register, has_object, of_function, is_name}
 use Rattle.frozen_graphs.specs.Frozen.{optional_target, static_in, register_target, object_target, optional_node, bare}
@@ -21,6 +21,7 @@ pub record IsShown (table : Interned) (plain : Graph) (graph : FrozenGraph) (own
   pub nodes : plain.nodes ≡ map (optional_node table) graph.nodes.items
   pub globals : (number : ℕ) → plain.targets (OfGlobal number) ≡ static_in graph.globals number
   pub literals : (number : ℕ) → plain.targets (OfLiteral number) ≡ static_in graph.literals number
+  pub copies : (number : ℕ) → plain.targets (OfCopy number) ≡ None
   pub there : (owner : Owner) → owners owner ≡ true → (names : FunctionNames) × Has owner names
   pub registers : (owner : Owner) (names : FunctionNames) → owners owner ≡ true → Has owner names → (register : Register) → plain.targets (OfRegister owner register) ≡ register_target names register
   pub returned : (owner : Owner) (names : FunctionNames) → owners owner ≡ true → Has owner names → plain.targets (OfResult owner) ≡ optional_target names.returned
@@ -62,6 +63,7 @@ module _ {table : Interned} {plain : Graph} {graph : FrozenGraph} {owners : Owne
         by false is = slot_at _ None ((shown.others owner is).objects local) refl
     all_slots (OfGlobal number) = slot_at _ _ (shown.globals number) (statics.globals number)
     all_slots (OfLiteral number) = slot_at _ _ (shown.literals number) (statics.literals number)
+    all_slots (OfCopy number) = slot_at _ None (shown.copies number) refl
 
   module _ (slots : (name : Name) → is_slot plain (plain.targets name) ≡ true) where
     pub member_slots : (owner : Owner) (names : FunctionNames) → owners owner ≡ true → Has owner names → NamesAreSlots (bare table graph) names
@@ -115,6 +117,7 @@ module _ {table : Interned} {plain : Graph} {graph : FrozenGraph} {owners : Owne
           by false is = absurd (has_no _ ((shown.others owner is).objects local) has)
       all_own (OfGlobal number) has = statics.globals number (has_moved _ _ (shown.globals number) has)
       all_own (OfLiteral number) has = statics.literals number (has_moved _ _ (shown.literals number) has)
+      all_own (OfCopy number) has = absurd (has_no _ (shown.copies number) has)
 
     module _ (own : (name : Name) → has_target (plain.targets name) ≡ true → is_name tac owners name ≡ true) where
       pub member_own : (owner : Owner) (names : FunctionNames) (function : O.Function) → owners owner ≡ true → Has owner names → function_of tac owner ≡ Some function → NamesAreOwn function names

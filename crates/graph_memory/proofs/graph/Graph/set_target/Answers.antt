@@ -16,11 +16,11 @@ returns-in_err-cell-clause-sets c = search rules
 pub returns-in-Ok-clause-graph : goal.returns-in-Ok-clause-graph
 returns-in-Ok-clause-graph c = λ table fine slot.
     let updates = subst (λ k. Updates eq-value.it c.args.self.now.names c.insert.new.self k (Some c.in_ok-cell.cell)) c.key.ensures c.in-Ok.ensures.updates in
-    graph_set table c.args.self.now (record { nodes = c.new_cell.new.self; names = c.args.self.now.names }) (record { nodes = c.new_cell.new.self; names = c.insert.new.self }) (name_of c.args.name) c.in_ok-cell.cell c.args.to fine refl c.in_ok-cell.ensures slot refl
-    (set_now (record { nodes = c.new_cell.new.self; names = c.args.self.now.names }) (record { nodes = c.new_cell.new.self; names = c.insert.new.self }) (name_of c.args.name) c.in_ok-cell.cell updates) (set_others (record { nodes = c.new_cell.new.self; names = c.args.self.now.names }) (record { nodes = c.new_cell.new.self; names = c.insert.new.self }) (name_of c.args.name) c.in_ok-cell.cell updates) (name_cases (name_of c.args.name))
+    graph_set table c.args.self.now (record { nodes = c.new_name_cell.new.self; names = c.args.self.now.names }) (record { nodes = c.new_name_cell.new.self; names = c.insert.new.self }) (name_of c.args.name) c.in_ok-cell.cell c.args.to fine refl c.in_ok-cell.ensures slot refl
+    (set_now (record { nodes = c.new_name_cell.new.self; names = c.args.self.now.names }) (record { nodes = c.new_name_cell.new.self; names = c.insert.new.self }) (name_of c.args.name) c.in_ok-cell.cell updates) (set_others (record { nodes = c.new_name_cell.new.self; names = c.args.self.now.names }) (record { nodes = c.new_name_cell.new.self; names = c.insert.new.self }) (name_of c.args.name) c.in_ok-cell.cell updates) (name_cases (name_of c.args.name))
 
 pub returns-in-Ok-clause-sets : goal.returns-in-Ok-clause-sets
 returns-in-Ok-clause-sets c = λ table fine slot.
     let updates = subst (λ k. Updates eq-value.it c.args.self.now.names c.insert.new.self k (Some c.in_ok-cell.cell)) c.key.ensures c.in-Ok.ensures.updates in
-    sets_target table c.args.self.now (record { nodes = c.new_cell.new.self; names = c.args.self.now.names }) (record { nodes = c.new_cell.new.self; names = c.insert.new.self }) (name_of c.args.name) c.in_ok-cell.cell c.args.to fine refl c.in_ok-cell.ensures slot refl
-    (set_now (record { nodes = c.new_cell.new.self; names = c.args.self.now.names }) (record { nodes = c.new_cell.new.self; names = c.insert.new.self }) (name_of c.args.name) c.in_ok-cell.cell updates) (set_others (record { nodes = c.new_cell.new.self; names = c.args.self.now.names }) (record { nodes = c.new_cell.new.self; names = c.insert.new.self }) (name_of c.args.name) c.in_ok-cell.cell updates) (name_cases (name_of c.args.name))
+    sets_target table c.args.self.now (record { nodes = c.new_name_cell.new.self; names = c.args.self.now.names }) (record { nodes = c.new_name_cell.new.self; names = c.insert.new.self }) (name_of c.args.name) c.in_ok-cell.cell c.args.to fine refl c.in_ok-cell.ensures slot refl
+    (set_now (record { nodes = c.new_name_cell.new.self; names = c.args.self.now.names }) (record { nodes = c.new_name_cell.new.self; names = c.insert.new.self }) (name_of c.args.name) c.in_ok-cell.cell updates) (set_others (record { nodes = c.new_name_cell.new.self; names = c.args.self.now.names }) (record { nodes = c.new_name_cell.new.self; names = c.insert.new.self }) (name_of c.args.name) c.in_ok-cell.cell updates) (name_cases (name_of c.args.name))

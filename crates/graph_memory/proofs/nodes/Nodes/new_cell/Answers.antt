@@ -5,6 +5,9 @@ use Rattle.graph_memory.proofs.nodes.Nodes.new_cell.Goals as goal
 pub returns-in_err-hold : goal.returns-in_err-hold
 returns-in_err-hold c = search rules
 
+pub returns-in_err-make_room : goal.returns-in_err-make_room
+returns-in_err-make_room c = search rules
+
 pub returns : goal.returns
 returns c = record {
   last = let is = c.len-number.ensures in let len = c.args.self.now.cells.ok.0 in omega (arith, is, len);
