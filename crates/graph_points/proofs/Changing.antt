@@ -8,7 +8,7 @@ use Rattle.heap_graph.specs.Graphs.{Name, Graph}
 use Rattle.heap_graph.specs.Targets.{has_target}
 use Rattle.heap_graph.specs.Merging.{IsSound, GraphMap, Maps, Asked}
 use Rattle.heap_graph.specs.Steps.{unmoved, via}
-use Rattle.heap_graph.proofs.MapsCompose.{keeps_nodes, edge_through}
+use Rattle.heap_graph.proofs.MapsCompose.{keeps_nodes, edge_through, onto_then}
 use Rattle.heap_graph.proofs.StepsCompose.{itself, nodes_of}
 use Rattle.graph_steps.specs.Leading.{Least}
 use Rattle.graph_steps.proofs.Going.{leads_itself, leads_on, leads_less, leads_least}
@@ -29,11 +29,11 @@ maps_on structs made one two three map rest sound first then =
 
 -- nothing is done where what is wanted holds
 pub nothing : (structs : List StructDef) → AreMade structs → (graph : Graph) → IsSound structs graph → (wanted : Graph → Type 0) → wanted graph → Applies structs false graph graph wanted
-nothing structs made graph sound wanted holds = record { leads = leads_itself structs graph wanted; map = unmoved; maps = itself structs made graph sound; done = λ e. (refl, holds) }
+nothing structs made graph sound wanted holds = record { leads = leads_itself structs graph wanted; map = unmoved; maps = itself structs made graph sound; onto = λ number node e. (number, node, e, refl); done = λ e. (refl, holds) }
 
 pub of_least : (structs : List StructDef) (changed : Bool) (old new : Graph) (asked : Asked) (wanted : Graph → Type 0) → ((other : Graph) (into : GraphMap) → Maps structs old other into → wanted other → asked other into)
     → ((name : Name) → has_target (new.targets name) ≡ has_target (old.targets name)) → Least structs old new asked → (changed ≡ false → (new ≡ old) × wanted new) → Applies structs changed old new wanted
-of_least structs changed old new asked wanted gives names least done = record { leads = leads_least structs old new asked wanted gives names least; map = least.map; maps = least.maps; done = done }
+of_least structs changed old new asked wanted gives names least done = record { leads = leads_least structs old new asked wanted gives names least; map = least.map; maps = least.maps; onto = least.onto; done = done }
 
 either_not : (a b : Bool) → (a || b) ≡ false → (a ≡ false) × (b ≡ false)
 either_not false b e = (refl, e)
@@ -47,6 +47,7 @@ both structs made a b one two three sound first then x y = record {
       (leads_less structs two three then (λ graph. first graph × then graph) (λ other its. its.1) y.leads);
   map = via three y.map x.map;
   maps = maps_on structs made one two three x.map y.map sound x.maps y.maps;
+  onto = onto_then one two three x.map y.map x.onto y.onto;
   done = λ e.
       let none = either_not a b e in
       let before = x.done none.0 in
@@ -62,5 +63,6 @@ for_other structs changed old new wanted other_wanted gives holds its = record {
   leads = record { least = λ other into maps is. its.leads.least other into maps (gives other into maps is); names = its.leads.names };
   map = its.map;
   maps = its.maps;
+  onto = its.onto;
   done = λ e. let end = its.done e in (end.0, holds end.0 end.1);
 }

@@ -1,11 +1,11 @@
 -- What is done at the ends of paths.
 use Rattle.std.proofs.Common.{◌≡◌, ℕ, ◌+◌, ◌<◌, ◌^◌, Bool, true, false, List, [], ◌∷◌, Option, Some, None, refl, sym, ap, subst, ◌∙◌, arith}
 use Rattle.std.specs.List.{list_any}
-use Rattle.std.proofs.lemmas.Bool.{false≢true, cond-true}
+use Rattle.std.proofs.lemmas.Bool.{false≢true, true≢false, cond-true}
 use Rattle.std.proofs.lemmas.Option.{same_Some, none-some}
 use Rattle.c_typed.specs.Types.{CType}
 use Rattle.c_typed.specs.Layouts.{StructDef, is_complete}
-use Rattle.tac_ir.specs.Code.{Base, AtLocal, AtGlobal, AtLiteral, Pointed, Indexed, Path, Tac}
+use Rattle.tac_ir.specs.Code.{Base, AtLocal, AtGlobal, AtLiteral, Pointed, Indexed, Step, Path, Tac}
 use Rattle.tac_ir.specs.States.{Owner}
 use Rattle.heap_graph.specs.Graphs.{Target, OfType, Node, Name, OfRegister, Graph, node_at}
 use Rattle.heap_graph.specs.Structures.{AreMade}
@@ -19,11 +19,23 @@ use Rattle.graph_memory.proofs.Bounds.{slot_fits}
 use Rattle.heap_graph.specs.Parts.{slots_of, has_part}
 use Rattle.heap_graph.proofs.MapsCompose.{shift_in, shifted_there}
 use Rattle.heap_graph.proofs.PartsNest.{tested, within}
-use Rattle.graph_points.specs.Fits.{is_object, told_of, slots_to, PathFits}
+use Rattle.graph_points.specs.Fits.{is_object, told_of, slots_to, type_at, LeadsToPart, PathFits}
 use Rattle.graph_points.specs.Applying.{Applies, IsPlace, IsLinked, IsMemberTyped}
 use Rattle.graph_points.proofs.Changing.{of_least}
 use Rattle.graph_points.proofs.Staying.{base_named, implied_holds}
 use Rattle.graph_points.proofs.Places.{LeadsToSlot, moved_to, path_leads, path_mapped, place_slot}
+
+-- what has a part with a slot has slots
+pub told_slots : (structs : List StructDef) → AreMade structs → (base : Base) (steps : List Step) (c_type : CType) → is_object base ≡ false → LeadsToPart structs base steps c_type → 0 < slots_of structs c_type
+told_slots structs made (AtLocal local) steps c_type plain leads = absurd (true≢false plain)
+told_slots structs made (AtGlobal number) steps c_type plain leads = absurd (true≢false plain)
+told_slots structs made (AtLiteral number) steps c_type plain leads = absurd (true≢false plain)
+told_slots structs made (Pointed pointer target) steps c_type plain leads =
+    let inside = within structs made c_type (slots_to structs steps c_type) (type_at structs steps c_type) (tested structs made c_type (slots_to structs steps c_type) (type_at structs steps c_type) leads.part) in
+    omega (arith, inside, leads.some)
+told_slots structs made (Indexed pointer target number) steps c_type plain leads =
+    let inside = within structs made c_type (slots_to structs steps c_type) (type_at structs steps c_type) (tested structs made c_type (slots_to structs steps c_type) (type_at structs steps c_type) leads.part) in
+    omega (arith, inside, leads.some)
 
 module _ (tac : Tac) (owner : Owner) (graph : Graph) where
   -- what is known of a base is held by its node

@@ -17,7 +17,7 @@ use Rattle.heap_graph.proofs.MapsCompose.{at_some, at_there, at_from, element_tr
 use Rattle.point_asks.specs.Asks.{is_certain}
 use Rattle.point_asks.proofs.Certain.{certain_some, target_of_certain}
 use Rattle.graph_steps.proofs.Named.{names_kept}
-use Rattle.graph_points.specs.Fits.{is_object, LeadsToPart, has_own, PathFits, TakesFit, ValueFits, OpFits}
+use Rattle.graph_points.specs.Fits.{is_object, LeadsToPart, has_own, PathFits, SlotsFit, TakesFit, ValueFits, OpFits}
 
 -- the name of an object or of a pointer with which a path begins
 abbrev pub base_name : Owner → Base → Name
@@ -116,9 +116,11 @@ module _ (tac : Tac) (made : AreMade tac.structs) (owner : Owner) (old new : Gra
             (ap (λ x. at_target new x (holds_part structs (elements_of (base_part tac old owner path.base).c_type))) (base_named tac new owner path.base)
             ∙ held_kept structs made old new map sound maps name (elements_of (base_part tac old owner path.base).c_type) (has is)
             (ap (λ x. at_target old x (holds_part structs (elements_of (base_part tac old owner path.base).c_type))) (sym (base_named tac old owner path.base)) ∙ fits.object is));
-        slots = subst (λ t. is_object path.base ≡ false → is_complete structs t ≡ true → 0 < slots_of structs t) same fits.slots;
         leads = λ is. subst (LeadsToPart structs path.base path.steps) same (fits.leads is);
       }
+
+  pub slots_kept : (path : Path) → SlotsFit tac old owner path → SlotsFit tac new owner path
+  slots_kept path fits = subst (λ t. is_object path.base ≡ false → is_complete tac.structs t ≡ true → 0 < slots_of tac.structs t) (base_typed_by_code tac old new owner path.base) fits
 
   pub value_kept : (scalar : CType) (value : Operand) → ValueFits tac old owner scalar value → ValueFits tac new owner scalar value
   value_kept scalar (IntegerOperand tree) fits = tt
@@ -133,9 +135,9 @@ module _ (tac : Tac) (made : AreMade tac.structs) (owner : Owner) (old new : Gra
   fits_kept (O.Move to from element is_minus number) fits = taken_kept _ _ from (own_kept to) fits
   fits_kept (O.Repoint to target from) fits = (taken_kept _ _ from (own_kept to) fits.0, fits.1)
   fits_kept (O.AddressOf to path) fits = (own_kept to fits.0, path_fits_kept path fits.1)
-  fits_kept (O.Load to scalar path) fits = (λ is. own_kept to (fits.0 is), path_fits_kept path fits.1)
-  fits_kept (O.Store path scalar (IntegerOperand tree)) fits = (tt, path_fits_kept path fits.1)
-  fits_kept (O.Store path scalar (PointerOperand register)) fits = (λ is some. own_kept register (fits.0 is some), path_fits_kept path fits.1)
+  fits_kept (O.Load to scalar path) fits = (λ is. own_kept to (fits.0 is), (path_fits_kept path fits.1.0, slots_kept path fits.1.1))
+  fits_kept (O.Store path scalar (IntegerOperand tree)) fits = (tt, (path_fits_kept path fits.1.0, slots_kept path fits.1.1))
+  fits_kept (O.Store path scalar (PointerOperand register)) fits = (λ is some. own_kept register (fits.0 is some), (path_fits_kept path fits.1.0, slots_kept path fits.1.1))
   fits_kept (O.Allocate site size) fits = own_kept _ fits
   fits_kept (O.Return None) fits = tt
   fits_kept (O.Return (Some (IntegerOperand tree))) fits = tt

@@ -17,7 +17,7 @@ use Rattle.heap_graph.specs.Graphs.{Name, Graph}
 use Rattle.heap_graph.specs.Targets.{Part, same_target, at_target, edge_at, points_to, implies}
 use Rattle.heap_graph.specs.Points.{is_null, type_of_inner, is_data_pointer, is_member, of_register, takes, base_part, path_part, base_typed, base_used, stored_closed}
 use Rattle.heap_graph.specs.Structures.{AreMade}
-use Rattle.heap_graph.specs.Merging.{GraphMap, Maps}
+use Rattle.heap_graph.specs.Merging.{GraphMap, Maps, IsOnto}
 use Rattle.function_scopes.specs.Known.{is_marked, local_type, owner_at}
 use Rattle.graph_memory.specs.declared.graph.Graph as memory_graph
 use Rattle.graph_memory.specs.Memory.{graph_in}
@@ -60,6 +60,7 @@ pub record Applies (structs : List StructDef) (changed : Bool) (old new : Graph)
   pub leads : Leads structs old new wanted
   pub map : GraphMap
   pub maps : Maps structs old new map
+  pub onto : IsOnto old new map
   pub done : changed ≡ false → (new ≡ old) × wanted new
 
 abbrev pub AppliesTo : Applied → Bool → memory_graph.Graph → memory_graph.Graph → (Graph → Type 0) → Type 0

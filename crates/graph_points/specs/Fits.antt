@@ -54,8 +54,11 @@ module _ (tac : Tac) (graph : Graph) (owner : Owner) where
     pub based : is_object path.base ≡ true → has_target (base_part tac graph owner path.base).target ≡ true
     pub object : is_object path.base ≡ true
         → at_target graph (base_part tac graph owner path.base).target (holds_part tac.structs (elements_of (base_part tac graph owner path.base).c_type)) ≡ true
-    pub slots : is_object path.base ≡ false → is_complete tac.structs (base_part tac graph owner path.base).c_type ≡ true → 0 < slots_of tac.structs (base_part tac graph owner path.base).c_type
     pub leads : list_any is_member path.steps ≡ true → LeadsToPart tac.structs path.base path.steps (base_part tac graph owner path.base).c_type
+
+  -- a scalar is read or written there: where a pointer tells a type whose size is known, that has a slot
+  abbrev pub SlotsFit : Path → Type 0
+  SlotsFit path = is_object path.base ≡ false → is_complete tac.structs (base_part tac graph owner path.base).c_type ≡ true → 0 < slots_of tac.structs (base_part tac graph owner path.base).c_type
 
   -- what takes a pointer that isn't a null constant has a target, and so has the pointer
   abbrev pub TakesFit : Bool → Register → Type 0
@@ -74,8 +77,8 @@ module _ (tac : Tac) (graph : Graph) (owner : Owner) where
   OpFits (O.Move to from element is_minus number) = TakesFit (has_own to) from
   OpFits (O.Repoint to target from) = TakesFit (has_own to) from × (is_complete tac.structs target ≡ true → 0 < slots_of tac.structs target)
   OpFits (O.AddressOf to path) = (has_own to ≡ true) × PathFits path
-  OpFits (O.Load to scalar path) = (is_data_pointer scalar ≡ true → has_own to ≡ true) × PathFits path
-  OpFits (O.Store path scalar value) = ValueFits scalar value × PathFits path
+  OpFits (O.Load to scalar path) = (is_data_pointer scalar ≡ true → has_own to ≡ true) × (PathFits path × SlotsFit path)
+  OpFits (O.Store path scalar value) = ValueFits scalar value × (PathFits path × SlotsFit path)
   OpFits (O.Allocate site size) = has_own (R.Call site) ≡ true
   OpFits (O.Return value) = ReturnFits value
   OpFits op = Unit {0}

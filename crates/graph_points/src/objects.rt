@@ -7,7 +7,7 @@ ghost use Rattle.heap_graph.specs.Targets as T;
 ghost use Rattle.graph_memory.specs.Memory.{IsGraph};
 ghost use Rattle.point_asks.specs.Asks as A;
 ghost use Rattle.graph_points.specs.Applying.{code_of, owner_of, shown, IsKnown, AppliesTo, IsKept, IsMemberTyped, base_at};
-ghost use Rattle.graph_points.specs.Fits.{has_own, PathFits, ValueFits};
+ghost use Rattle.graph_points.specs.Fits.{has_own, PathFits, SlotsFit, ValueFits};
 
 use crate::applied::{Applied, is_indexed};
 use crate::names::{either, is_certain, mark_if};
@@ -53,6 +53,7 @@ impl<'a> Applied<'a> {
         requires graph { IsGraph self.tac.now.types graph.old }
         requires target { Q.is_data_pointer (scalar_in self.tac.now.types scalar) ≡ true → has_own (code_of self) (shown self graph.old) (owner_of self) to ≡ true }
         requires fits { PathFits (code_of self) (shown self graph.old) (owner_of self) (path_in self.tac.now.types path.now) }
+        requires slots { SlotsFit (code_of self) (shown self graph.old) (owner_of self) (path_in self.tac.now.types path.now) }
         ensures graph { OnOk result (IsGraph self.entry.tac.now.types graph.new) }
         ensures applies { IfOk result (λ changed. AppliesTo self.entry changed graph.old graph.new (λ other. A.load_asked (code_of self.entry) other (owner_of self.entry) to (scalar_in self.entry.tac.now.types scalar) (path_in self.entry.tac.now.types path.now) ≡ true)) }
     {
@@ -76,6 +77,7 @@ impl<'a> Applied<'a> {
         requires graph { IsGraph self.tac.now.types graph.old }
         requires value { ValueFits (code_of self) (shown self graph.old) (owner_of self) (scalar_in self.tac.now.types scalar) (operand_of value.now) }
         requires fits { PathFits (code_of self) (shown self graph.old) (owner_of self) (path_in self.tac.now.types path.now) }
+        requires slots { SlotsFit (code_of self) (shown self graph.old) (owner_of self) (path_in self.tac.now.types path.now) }
         ensures graph { OnOk result (IsGraph self.entry.tac.now.types graph.new) }
         ensures applies { IfOk result (λ changed. AppliesTo self.entry changed graph.old graph.new (λ other. A.store_asked (code_of self.entry) other (owner_of self.entry) (path_in self.entry.tac.now.types path.now) (scalar_in self.entry.tac.now.types scalar) (operand_of value.now) ≡ true)) }
     {

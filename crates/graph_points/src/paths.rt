@@ -11,7 +11,7 @@ ghost use Rattle.heap_graph.specs.Targets as T;
 ghost use Rattle.graph_memory.specs.Memory.{name_of, IsGraph};
 ghost use Rattle.point_asks.specs.Asks as A;
 ghost use Rattle.graph_points.specs.Applying.{code_of, owner_of, shown, IsKnown, AppliesTo, IsPlace, IsLinked, IsTouched, IsHeld, IsKept, IsMemberTyped, base_at, path_at};
-ghost use Rattle.graph_points.specs.Fits.{is_object, has_own, PathFits, ValueFits};
+ghost use Rattle.graph_points.specs.Fits.{is_object, has_own, PathFits, SlotsFit, ValueFits};
 
 use crate::applied::{Applied, is_indexed};
 use crate::names::{either, is_certain, mark, mark_if, tell};
@@ -151,6 +151,7 @@ impl<'a> Applied<'a> {
         requires graph { IsGraph self.tac.now.types graph.old }
         requires base { T.has_target (base_at self graph.old path.now.base).target ≡ true }
         requires fits { PathFits (code_of self) (shown self graph.old) (owner_of self) (path_in self.tac.now.types path.now) }
+        requires slots { SlotsFit (code_of self) (shown self graph.old) (owner_of self) (path_in self.tac.now.types path.now) }
         ensures graph { OnOk result (IsGraph self.entry.tac.now.types graph.new) }
         ensures typed { OnOk result (IsMemberTyped (code_of self.entry) (owner_of self.entry) (path_in self.entry.tac.now.types path.now) (shown self.entry graph.new)) }
         ensures applies { IfOk result (λ changed. AppliesTo self.entry changed graph.old graph.new (IsTouched (code_of self.entry) (owner_of self.entry) (path_in self.entry.tac.now.types path.now) flag)) }

@@ -1,12 +1,20 @@
 use Rattle.std.proofs.Common.{map, sym, ap, ◌∙◌}
 use Rattle.std.specs.List.{list_any}
 use Rattle.tac_ir.specs.Views.{step_of, path_in}
-use Rattle.heap_graph.specs.Points.{is_member}
+use Rattle.heap_graph.specs.Points.{is_member, base_part}
 use Rattle.graph_points.specs.Applying.{code_of, owner_of, shown}
 use Rattle.graph_points.proofs.NamedSteps.{on_ok, if_ok}
+use Rattle.graph_points.proofs.PathSteps.{told_slots}
 use Rattle.graph_points.proofs.PointSteps.{implies_any}
 use Rattle.graph_points.proofs.ObjectSteps.{member_told, no_member, nothing_told}
 use Rattle.graph_points.proofs.applied.Applied.tell_member.Goals as goal
+
+pub tell_base-requires-clause-some : goal.tell_base-requires-clause-some
+tell_base-requires-clause-some c = λ plain complete.
+    let own = c.args.self in
+    let path = path_in own.tac.now.types c.args.path.now in
+    told_slots (code_of own).structs c.requires.known.made path.base path.steps (base_part (code_of own) (shown own c.args.graph.now) (owner_of own) path.base).c_type plain
+    (c.requires.fits.leads (ap (λ s. list_any is_member (map step_of s)) (sym c.as_slice.ensures.value) ∙ sym c.if-has_member.ensures))
 
 pub returns-then-has_member-clause-typed : goal.returns-then-has_member-clause-typed
 returns-then-has_member-clause-typed c = on_ok c.tell_base.result c.tell_base.ensures.typed (λ typed. implies_any _ _ typed)
