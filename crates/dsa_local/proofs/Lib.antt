@@ -1,0 +1,6 @@
+pub mod Collecting
+pub mod Scoping
+pub mod Keeping
+pub mod Owning
+pub mod Assembling
+pub mod Fitted

@@ -1,0 +1,11 @@
+pub mod Covered
+pub mod Found
+pub mod WholeMember
+pub mod Beginning
+pub mod Steps
+pub mod Owners
+pub mod Telling
+pub mod Kept
+pub mod Closing
+pub mod Leading
+pub mod Completing

@@ -1,0 +1,4 @@
+pub mod Mentioned
+pub mod Beginning
+pub mod Told
+pub mod Shown

@@ -1,0 +1,5 @@
+pub mod RoundSteps
+pub mod Grown
+pub mod GrownPoints
+pub mod SizeSteps
+pub mod Closing

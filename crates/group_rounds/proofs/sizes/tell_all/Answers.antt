@@ -1,0 +1,57 @@
+use Rattle.std.proofs.Common.{◌≡◌, ◌+◌, true, [], drop, map, subst}
+use Rattle.std.proofs.lemmas.List.{drop_all}
+use Rattle.c_typed.specs.Table.{structs_in}
+use Rattle.tac_ir.specs.Views.{tac_of, op_in}
+use Rattle.function_scopes.specs.Known.{owner_at}
+use Rattle.graph_memory.specs.Memory.{graph_in}
+use Rattle.made_graphs.proofs.Goes.{goes_same, goes_then}
+use Rattle.point_asks.specs.Asks.{sizes_told}
+use Rattle.group_rounds.specs.Sizes.{AllSizesTold, SizesGoOn}
+use Rattle.group_rounds.proofs.RoundSteps.{next_of}
+use Rattle.group_rounds.proofs.Grown.{grown_same, grown_then}
+use Rattle.group_rounds.proofs.SizeSteps.{sizes_begin, sizes_on, sizes_end, sizes_grown}
+use Rattle.group_rounds.proofs.sizes.tell_all.Goals as goal
+
+pub loop-op-init : goal.loop-op-init
+loop-op-init c =
+    let table = c.args.tac.now.types in
+    let graph = graph_in table c.args.graph.now in
+    record {
+      graph = c.requires.graph;
+      goes = goes_same (structs_in table) c.requires.made graph c.requires.graph.sound;
+      grows = grown_same graph;
+      told = sizes_begin graph (AllSizesTold (tac_of c.args.tac.now) (owner_at c.args.owner) (map (op_in table) c.args.points.now));
+    }
+
+pub loop-op-preserved : goal.loop-op-preserved
+loop-op-preserved c =
+    let code = tac_of c.args.tac.now in
+    let table = c.args.tac.now.types in
+    let owner = owner_at c.args.owner in
+    let points = c.args.points.now in
+    let index = c.loop-op.op-index in
+    let op = op_in table c.op-item.result in
+    let start = graph_in table c.args.graph.now in
+    let graph = graph_in table c.loop-op.graph in
+    let next = graph_in table c.tell_point.new.graph in
+    let left = map (op_in table) (drop (index + 1) points) in
+    let all = AllSizesTold code owner (map (op_in table) points) in
+    let here = next_of points index c.op-item.result c.op-item.is c.loop-op-test.true in
+    record {
+      graph = c.tell_point.ensures.graph;
+      goes = goes_then (structs_in table) c.requires.made start graph next c.requires.graph.sound c.loop-op.invariant.goes c.tell_point.ensures.goes;
+      grows = grown_then start graph next c.loop-op.invariant.grows c.tell_point.ensures.grows;
+      told = sizes_on graph next (λ other. sizes_told code other owner op ≡ true) (AllSizesTold code owner left) all (λ new more. sizes_grown code next new more owner op)
+          (subst (λ l. SizesGoOn graph (AllSizesTold code owner (map (op_in table) l)) all) here c.loop-op.invariant.told) c.tell_point.ensures.grows c.tell_point.ensures.told;
+    }
+
+pub returns-clause-told : goal.returns-clause-told
+returns-clause-told c =
+    let code = tac_of c.args.tac.now in
+    let table = c.args.tac.now.types in
+    let owner = owner_at c.args.owner in
+    let points = c.args.points.now in
+    let graph = graph_in table c.loop-op.graph in
+    let all = AllSizesTold code owner (map (op_in table) points) in
+    sizes_end graph (AllSizesTold code owner []) all
+    (subst (λ l. SizesGoOn graph (AllSizesTold code owner (map (op_in table) l)) all) (drop_all c.loop-op.op-index points c.loop-op-test.false) c.loop-op.invariant.told) tt

@@ -1,0 +1,10 @@
+pub mod Joining
+pub mod Kept
+pub mod Passing
+pub mod CalledSteps
+pub mod Inside
+pub mod ClassSteps
+pub mod CallSteps
+pub mod Closing
+pub mod Completing
+pub mod Beginning
