@@ -1,0 +1,9 @@
+pub mod Carried
+pub mod Placed
+pub mod Noded
+pub mod Linked
+pub mod Seen
+pub mod Told
+pub mod Closing
+pub mod Listed
+pub mod Images

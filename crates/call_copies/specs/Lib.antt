@@ -1,0 +1,5 @@
+pub mod Copied
+pub mod Adding
+pub mod Steps
+pub mod Telling
+pub mod Images

@@ -1,0 +1,28 @@
+-- What is told of copies once all types are known.
+use Rattle.std.specs.Prelude.{◌≡◌, ℕ, Bool, true, ◌&&◌, Option, Some}
+use Rattle.heap_graph.specs.Graphs.{Name, Node, Graph, node_at, OfCopy}
+use Rattle.heap_graph.specs.Targets.{at_target, implies, types_differ}
+
+-- what holds allocations is of an array where they are of another type
+abbrev pub array_told : Node → Node → ℕ → Bool
+array_told node image shift = implies (node.flags.heap && types_differ node.element image.element) image.flags.array
+
+-- this is told of the copy of a node
+abbrev pub CopyTold : Graph → Graph → (ℕ → Option ℕ) → ℕ → Type 0
+CopyTold graph callee copies number =
+    (copy : ℕ) (node : Node) → copies number ≡ Some copy → node_at callee number ≡ Some node → at_target graph (graph.targets (OfCopy copy)) (array_told node) ≡ true
+
+abbrev pub CopiesTold : Graph → Graph → (ℕ → Option ℕ) → Type 0
+CopiesTold graph callee copies = (number : ℕ) → CopyTold graph callee copies number
+
+-- a node as it was, but that it may be of an array now
+pub record ArrayTold (graph : Graph) (number : ℕ) (node : Node) : Type 0 where
+  pub now : Node
+  pub is : node_at graph number ≡ Some now
+  pub same : now ≡ record node { flags = record node.flags { array = now.flags.array } }
+  pub kept : implies node.flags.array now.flags.array ≡ true
+
+-- of some nodes it is told that they are of arrays; all else is as it was
+pub record ArraysTold (old new : Graph) : Type 0 where
+  pub names : (name : Name) → new.targets name ≡ old.targets name
+  pub nodes : (number : ℕ) (node : Node) → node_at old number ≡ Some node → ArrayTold new number node

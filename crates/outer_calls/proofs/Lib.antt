@@ -1,0 +1,10 @@
+pub mod Kept
+pub mod Joining
+pub mod Adding
+pub mod Passing
+pub mod Listing
+pub mod Found
+pub mod Closing
+pub mod Completing
+pub mod Escaping
+pub mod Fitting

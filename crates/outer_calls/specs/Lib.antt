@@ -1,0 +1,4 @@
+pub mod Crossed
+pub mod Joins
+pub mod Shown
+pub mod Placed
