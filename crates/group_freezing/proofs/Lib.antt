@@ -1,0 +1,14 @@
+pub mod NamesTold
+pub mod KeptNodes
+pub mod EscapingOne
+pub mod CompleteNodes
+pub mod RestrictsMade
+pub mod ClosedGraph
+pub mod OutsideNodes
+pub mod MarkedNodes
+pub mod CopyEntries
+pub mod ShownKept
+pub mod FrozenGroup
+pub mod OwnersListed
+pub mod HaveSlots
+pub mod CopyImages
