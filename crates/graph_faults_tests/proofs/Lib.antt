@@ -1,0 +1,3 @@
+mod Fit
+mod Known
+mod Slots
