@@ -23,6 +23,10 @@ use Rattle.graph_points.specs.Fits.{is_object, LeadsToPart}
 abbrev pub HasSlot : List StructDef → CType → Type 0
 HasSlot structs c_type = 0 < slots_of structs (elements_of c_type)
 
+-- each local in memory stands once among a function's objects
+abbrev pub ObjectsApart : List LocalObject → Type 0
+ObjectsApart objects = (number : ℕ) (object : LocalObject) → slice_get objects number ≡ Some object → own_type objects object.local ≡ Some (record { offset = 0; c_type = object.c_type })
+
 module _ (tac : Tac) (owner : Owner) (function : Function) where
   -- the function has the register
   abbrev pub IsOwn : Register → Type 0
@@ -82,6 +86,7 @@ module _ (tac : Tac) (owner : Owner) (function : Function) where
   pub record FunctionStands : Type 0 where
     pub points : AllByRecursion OpStands function.points
     pub objects : (number : ℕ) (object : LocalObject) → slice_get function.objects number ≡ Some object → HasSlot tac.structs object.c_type
+    pub apart : ObjectsApart function.objects
 
 -- ---- programs
 

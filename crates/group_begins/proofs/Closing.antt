@@ -22,9 +22,10 @@ use Rattle.point_asks.proofs.Certain.{if_yes, has_if}
 use Rattle.point_asks.proofs.Restricting.{holds_depends, at_certain}
 use Rattle.graph_points.proofs.Staying.{implied_holds}
 use Rattle.graph_premises.specs.Named.{BaseNamed, OpNamed}
+use Rattle.graph_premises.specs.Standing.{ObjectsApart}
 use Rattle.graph_premises.proofs.Fitting.{found_below}
 use Rattle.group_begins.specs.Mentioned.{is_among}
-use Rattle.group_begins.specs.Told.{IsObject, FunctionTold, NamesTold, NoCopies, ObjectsApart}
+use Rattle.group_begins.specs.Told.{IsObject, FunctionTold, NamesTold, NoCopies}
 use Rattle.group_begins.specs.Shown.{Shows}
 use Rattle.group_begins.proofs.Telling.{certain_has}
 use Rattle.group_begins.proofs.Kept.{each_kept}

@@ -4,7 +4,7 @@ use Rattle.c_typed.specs.Types.{CType, literal_type}
 use Rattle.c_typed.specs.Layouts.{StructDef}
 use Rattle.c_typed.specs.Typed.{GlobalDef, LiteralDef}
 use Rattle.tac_ir.specs.declared.register.Local.{Local}
-use Rattle.tac_ir.specs.Code.{LocalObject, Function, Tac}
+use Rattle.tac_ir.specs.Code.{Function, Tac}
 use Rattle.tac_ir.specs.Layouts.{Inner}
 use Rattle.tac_ir.specs.Objects.{own_type}
 use Rattle.tac_ir.specs.States.{Owner, InFunction, function_of}
@@ -73,10 +73,6 @@ NoCopies graph = (number : ℕ) → graph.targets (OfCopy number) ≡ None
 -- the same names have targets, beside copies
 abbrev pub SameNames : Graph → Graph → Type 0
 SameNames old new = (name : Name) → is_copy name ≡ false → has_target (new.targets name) ≡ has_target (old.targets name)
-
--- each local in memory stands once among a function's objects
-abbrev pub ObjectsApart : List LocalObject → Type 0
-ObjectsApart objects = (number : ℕ) (object : LocalObject) → slice_get objects number ≡ Some object → own_type objects object.local ≡ Some (record { offset = 0; c_type = object.c_type })
 
 -- ---- other graphs
 

@@ -69,4 +69,4 @@ module _ (family : Family) (owners : List Owner) (inside : ℕ → Bool) (made k
     formals_hold = formals_close family made kept its.restricts owner shows function told
 
     pub locals_hold : IsGroup family owners inside → locals_closed family owner function.objects ≡ true
-    locals_hold group = locals_close family made kept its.restricts owner shows function (group.apart owner function is) told
+    locals_hold group = locals_close family made kept its.restricts owner shows function ((group.code.functions owner function is).apart) told

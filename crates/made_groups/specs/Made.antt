@@ -11,7 +11,7 @@ use Rattle.heap_graph.specs.Closed.{Family, graph_of, group_of, same_group, oute
 use Rattle.point_asks.specs.Restricted.{Restricts}
 use Rattle.graph_premises.specs.Standing.{CodeStands}
 use Rattle.group_begins.specs.Mentioned.{is_among}
-use Rattle.group_begins.specs.Told.{NamesTold, NoCopies, ObjectsApart}
+use Rattle.group_begins.specs.Told.{NamesTold, NoCopies}
 use Rattle.inner_calls.specs.Joined.{CallsJoined, ClassesJoined, IsCalled}
 use Rattle.group_rounds.specs.Rounds.{Settled}
 use Rattle.group_rounds.specs.Sizes.{SizesTold}
@@ -22,7 +22,6 @@ use Rattle.group_rounds.specs.Sizes.{SizesTold}
 -- a pointer are of one group.
 pub record IsGroup (family : Family) (owners : List Owner) (inside : ℕ → Bool) : Type 0 where
   pub code : CodeStands family.tac
-  pub apart : (owner : Owner) (function : Function) → function_of family.tac owner ≡ Some function → ObjectsApart function.objects
   pub own : (caller : ℕ) → is_among (InFunction caller) owners ≡ inside caller
   pub same : (owner : Owner) (called : ℕ) → is_among owner owners ≡ true → same_group family owner called ≡ true → inside called ≡ true
   pub members : (a b : ℕ) → inside a ≡ true → inside b ≡ true → group_of family a ≡ group_of family b
