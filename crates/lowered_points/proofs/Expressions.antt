@@ -230,12 +230,12 @@ module _ (program : Program) (tac : Tac) (owner : Owner) (function : O.Function)
       let own = object_own tac owner function home (home_stands tac owner function scope number home is about) object in
       record { base = (record { offset = 0; c_type = home.c_type }, own); own = home.c_type; is = own; steps = refl }
 
-  global_found : (name : List ℕ) (number : ℕ) (global : GlobalDef) → named_global 0 program.globals name ≡ Some (number, global) → PathFound tac owner function (path_from (AtGlobal number)) global.c_type
+  pub global_found : (name : List ℕ) (number : ℕ) (global : GlobalDef) → named_global 0 program.globals name ≡ Some (number, global) → PathFound tac owner function (path_from (AtGlobal number)) global.c_type
   global_found name number global is =
       let there = subst (λ globals. slice_get globals number ≡ Some global) (sym its.globals) (placed_at program.globals number global (global_there 0 program.globals name number global is)) in
       record { base = get_below tac.globals number global there; own = global.c_type; is = (global, there, refl); steps = refl }
 
-  literal_found : (place : Pos) (bytes : List ℕ) (number : ℕ) (literal : LiteralDef) → placed_literal 0 program.literals place ≡ Some (number, literal)
+  pub literal_found : (place : Pos) (bytes : List ℕ) (number : ℕ) (literal : LiteralDef) → placed_literal 0 program.literals place ≡ Some (number, literal)
       → PathFound tac owner function (path_from (AtLiteral number)) (literal_type bytes)
   literal_found place bytes number literal is =
       let there = subst (λ literals. slice_get literals number ≡ Some literal) (sym its.literals) (placed_at program.literals number literal (literal_there 0 program.literals place number literal is)) in

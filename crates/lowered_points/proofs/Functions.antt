@@ -85,6 +85,11 @@ slot_at structs [] have number object there = absurd (none-some object there)
 slot_at structs (first ∷ others) have zero object there = subst (λ (o : LocalObject). HasSlot structs o.c_type) (same_Some first object there) have.0
 slot_at structs (first ∷ others) have (suc number) object there = slot_at structs others have.1 number object there
 
+have_at : (own objects : List LocalObject) → HaveObjects own objects → (number : ℕ) (object : LocalObject) → slice_get objects number ≡ Some object → own_type own object.local ≡ whole object.c_type
+have_at own [] have number object there = absurd (none-some object there)
+have_at own (first ∷ others) have zero object there = subst (λ (o : LocalObject). own_type own o.local ≡ whole o.c_type) (same_Some first object there) have.0
+have_at own (first ∷ others) have (suc number) object there = have_at own others have.1 number object there
+
 module _ (program : Program) (tac : Tac) (owner : Owner) (function : O.Function) (its : IsOf program tac owner function) where
   -- ---- parameters
 
@@ -224,6 +229,7 @@ module _ (program : Program) (tac : Tac) (owner : Owner) (function : O.Function)
           let same = code.points in
           whole_leads.stand end_fits tt number op (omega arith) (omega (arith, low, same)) there);
       objects = slot_at tac.structs function.objects (subst (HaveSlots tac.structs) (sym code.objects) end_sound.slots);
+      apart = have_at function.objects function.objects (subst (λ objects. HaveObjects objects objects) (sym code.objects) end_sound.have);
     }
 
 -- as many parameters as its type tells
@@ -269,8 +275,12 @@ defined program (def ∷ defs) (own ∷ functions) (suc number) function code th
 pub start_stands : (program : Program) (tac : Tac) → Code program tac → FunctionStands tac InStart tac.start
 start_stands program tac code = record {
   points = subst (AllByRecursion (OpStands tac InStart tac.start)) (sym code.start) ((own, tt), (tt, tt));
-  objects = λ number object there. absurd (none-some object (ap (λ objects. slice_get objects number) (sym code.objects) ∙ there));
+  objects = λ number object there. absurd (none number object there);
+  apart = λ number object there. absurd (none number object there);
 }
   where
+    none : (number : ℕ) (object : LocalObject) → slice_get tac.start.objects number ≡ Some object → ⊥
+    none number object there = none-some object (ap (λ objects. slice_get objects number) (sym code.objects) ∙ there)
+
     own : IsOwn tac InStart tac.start (R.Call 0)
     own = let one = ap (λ (counts : Counts). counts.calls) code.counts in lt-ltb 0 tac.start.counts.calls (omega (arith, one))

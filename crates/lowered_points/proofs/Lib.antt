@@ -6,4 +6,5 @@ pub mod Parts
 pub mod Expressions
 pub mod Statements
 pub mod Functions
+pub mod First
 pub mod Programs

@@ -1,5 +1,5 @@
 -- The three-address code of a well typed program stands as its heap graphs need it.
-use Rattle.std.proofs.Common.{◌≡◌, ℕ, zero, suc, true, ◌&&◌, List, [], ◌∷◌, Some, sym, subst, arith}
+use Rattle.std.proofs.Common.{◌≡◌, ℕ, zero, suc, true, ◌&&◌, List, [], ◌∷◌, Some, refl, sym, subst, arith}
 use Rattle.std.specs.Prelude.{slice_get}
 use Rattle.std.proofs.lemmas.Bool.{and_parts}
 use Rattle.std.proofs.lemmas.Option.{none-some, same_Some}
@@ -13,11 +13,13 @@ use Rattle.tac_ir.specs.States.{Owner, InStart, InFunction, function_of}
 use Rattle.tac_build.specs.ProgramCode.{Code}
 use Rattle.heap_graph.specs.Structures.{AreMade}
 use Rattle.graph_premises.specs.Standing.{HasSlot, FunctionStands, CodeStands}
+use Rattle.graph_premises.specs.First.{ProgramStands}
 use Rattle.lowered_points.specs.Counted.{HaveFewSlots}
 use Rattle.lowered_points.proofs.Slots.{filling_slots, are_made}
 use Rattle.lowered_points.proofs.Paths.{IsOf}
 use Rattle.lowered_points.proofs.Statements.{elements_slots}
 use Rattle.lowered_points.proofs.Functions.{function_stands, parameters_told, IsDefined, defined, start_stands}
+use Rattle.lowered_points.proofs.First.{first_stand, calls_by_name}
 
 complete_slot : (structs : List StructDef) → are_filled structs ≡ true → (t : CType) → is_complete structs t ≡ true → is_storable structs t ≡ true → HasSlot structs t
 complete_slot structs filled t complete store =
@@ -102,3 +104,7 @@ module _ (program : Program) (tac : Tac) (code : Code program tac) (well : IsWel
         (global_slot program storable.0 program.globals typed.globals stored.globals number global (subst (λ globals. slice_get globals number ≡ Some global) code.globals there));
     literals = λ number literal there. omega arith;
   }
+
+  -- Its first values lie within its variables, and `start` calls functions by their names alone.
+  pub program_stands : ProgramStands tac
+  program_stands = record { code = code_stands; first = first_stand program tac (is_of InStart tac.start refl) typed.globals; start = calls_by_name program tac code }
