@@ -21,7 +21,8 @@ pub fn escaping(
     names: &FunctionNames,
 ) -> Result<NodeMarks, AllocError>
     requires { EdgesAreFound graph.now }
-    ensures { IfOk result (λ marks. (table : Interned) (family : Family) (owner : Owner) → ShowsGraph table family owner graph.now → ShowsNames family owner names.now
+    ensures size { IfOk result (λ marks. length marks.marks.items ≡ length graph.now.nodes.items) }
+    ensures escapes { IfOk result (λ marks. (table : Interned) (family : Family) (owner : Owner) → ShowsGraph table family owner graph.now → ShowsNames family owner names.now
         → (number : ℕ) → number < length graph.now.nodes.items → (is_marked marks number ≡ true) ↔ Escapes (graph_of family owner) owner number) }
 {
     let mut starts = NodeMarks::new(alloc, graph)?;

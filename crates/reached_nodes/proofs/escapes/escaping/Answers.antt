@@ -6,8 +6,11 @@ use Rattle.reached_nodes.proofs.Marking.{these_of_none, these_reached}
 use Rattle.reached_nodes.proofs.Escaped.{marked_escapes}
 use Rattle.reached_nodes.proofs.escapes.escaping.Goals as goal
 
-pub returns : goal.returns
-returns c =
+pub returns-clause-size : goal.returns-clause-size
+returns-clause-size c = IfOk-weaker c.reached.result _ _ (λ marks reached. reached.size) c.reached.ensures
+
+pub returns-clause-escapes : goal.returns-clause-escapes
+returns-clause-escapes c =
     let graph = c.args.graph.now in
     let names = c.args.names.now in
     let nodes = graph.nodes.items in

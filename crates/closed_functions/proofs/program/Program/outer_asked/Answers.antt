@@ -17,7 +17,7 @@ returns-in-Some c = λ owner member.
     (λ node.
     member.embeddings c.args.site called node
     ∙ image_found c.get.result kept c.in-Some.embedding (c.get.ensures.value ∙ found_either_way c.args.own.embeddings.now c.args.site called) c.in-Some.is node)
-    (λ node less. c.in_ok-escaping.ensures table family (InFunction called) also.graph also.names node less)
+    (λ node less. c.in_ok-escaping.ensures.escapes table family (InFunction called) also.graph also.names node less)
 
 pub returns : goal.returns
 returns c = λ owner member.
@@ -30,4 +30,4 @@ returns c = λ owner member.
     (λ node.
     member.embeddings c.args.site called node
     ∙ image_none c.get.result kept c.new-none.result (c.get.ensures.value ∙ found_either_way c.args.own.embeddings.now c.args.site called) c.in-None.is c.new-none.ensures.empty node)
-    (λ node less. c.in_ok-escaping.ensures table family (InFunction called) also.graph also.names node less)
+    (λ node less. c.in_ok-escaping.ensures.escapes table family (InFunction called) also.graph also.names node less)
