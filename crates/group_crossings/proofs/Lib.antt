@@ -1,0 +1,10 @@
+pub mod Reached
+pub mod Stepping
+pub mod Entering
+pub mod Collected
+pub mod Naming
+pub mod Keeping
+pub mod Arrays
+pub mod Images
+pub mod FrozenEntries
+pub mod ToldCopies

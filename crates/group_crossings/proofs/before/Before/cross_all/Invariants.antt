@@ -1,0 +1,12 @@
+use Rattle.graph_memory.specs.Memory.{IsGraph}
+use Rattle.group_crossings.specs.Before.{graphs_before}
+use Rattle.group_crossings.specs.CallSteps.{shown}
+use Rattle.group_crossings.proofs.Collected.{SoFar}
+use Rattle.group_crossings.proofs.before.Before.cross_all.Given as goal
+
+-- the calls of the owners so far are joined
+abbrev pub invariant-loop-owner : goal.invariant-loop-owner
+invariant-loop-owner l = record {
+  graph : IsGraph l.self.tac.now.types l.graph;
+  so_far : SoFar (graphs_before l.self) l.group l.owners l.all.items l.owner-index l.next (shown l.self l.fn.graph) (shown l.self l.graph);
+}

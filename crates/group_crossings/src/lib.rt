@@ -1,0 +1,13 @@
+//! All calls out of a group of functions, in the heap graph of the group while that is made: the nodes that escape the functions that are
+//! called are copied, and the calls are joined with the copies.
+//!
+//! `specs/Before.antt` says what is known of the groups before, and `specs/Crossings.antt` what holds of the graph afterwards.
+#![tactic(auto)]
+
+mod before;
+mod crossing;
+mod freezing;
+mod telling;
+
+pub use before::{Before, Crossings};
+pub use freezing::frozen_crossings;
