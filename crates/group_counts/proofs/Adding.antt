@@ -1,0 +1,68 @@
+-- Names that are mentioned one after another.
+use Rattle.std.proofs.Common.{◌≡◌, ℕ, ◌+◌, ◌<◌, ◌≤◌, ◌||◌, Bool, false, List, ◌∷◌, map, drop, length, get_or, refl, sym, ap, subst, ◌∙◌, arith}
+use Rattle.std.proofs.lemmas.List.{drop_more, drop_all}
+use Rattle.heap_graph.specs.Graphs.{Name, OfGlobal, OfLiteral}
+use Rattle.group_counts.specs.declared.mentions.Mentions.{Mentions}
+use Rattle.group_counts.specs.declared.tally.Tally.{Tally}
+use Rattle.group_counts.specs.Counting.{total}
+use Rattle.group_counts.specs.Tallies.{Adds, Counts, any_of}
+use Rattle.group_counts.proofs.MarkSteps.{marks_nothing, marks_both, marks_same}
+
+-- ---- names
+
+pub adds_nothing : (names : Name → Bool) (mentions : Mentions) → ((name : Name) → names name ≡ false) → Adds names mentions mentions
+adds_nothing names mentions never = record {
+  globals = marks_nothing (λ number. names (OfGlobal number)) mentions.globals.items (λ number. never (OfGlobal number));
+  literals = marks_nothing (λ number. names (OfLiteral number)) mentions.literals.items (λ number. never (OfLiteral number));
+}
+
+pub adds_both : (first second : Name → Bool) (old mid new : Mentions) → Adds first old mid → Adds second mid new → Adds (λ name. first name || second name) old new
+adds_both first second old mid new one two = record {
+  globals = marks_both (λ number. first (OfGlobal number)) (λ number. second (OfGlobal number)) old.globals.items mid.globals.items new.globals.items one.globals two.globals;
+  literals = marks_both (λ number. first (OfLiteral number)) (λ number. second (OfLiteral number)) old.literals.items mid.literals.items new.literals.items one.literals two.literals;
+}
+
+pub adds_same : (names other : Name → Bool) (old new : Mentions) → ((name : Name) → names name ≡ other name) → Adds names old new → Adds other old new
+adds_same names other old new same adds = record {
+  globals = marks_same (λ number. names (OfGlobal number)) (λ number. other (OfGlobal number)) old.globals.items new.globals.items (λ number. same (OfGlobal number)) adds.globals;
+  literals = marks_same (λ number. names (OfLiteral number)) (λ number. other (OfLiteral number)) old.literals.items new.literals.items (λ number. same (OfLiteral number)) adds.literals;
+}
+
+-- ---- with counts
+
+pub counts_nothing : (names : Name → Bool) (tally : Tally) → ((name : Name) → names name ≡ false) → Counts 0 names tally tally
+counts_nothing names tally never = record { count = omega arith; names = adds_nothing names tally.mentions never }
+
+pub counts_both : (more most : ℕ) (first second : Name → Bool) (old mid new : Tally) → Counts more first old mid → Counts most second mid new
+    → Counts (more + most) (λ name. first name || second name) old new
+counts_both more most first second old mid new one two = record {
+  count = let a : mid.count ≡ old.count + more = one.count in let b : new.count ≡ mid.count + most = two.count in omega (arith, a, b);
+  names = adds_both first second old.mentions mid.mentions new.mentions one.names two.names;
+}
+
+pub counts_same : (more most : ℕ) (names other : Name → Bool) (old new : Tally) → more ≡ most → ((name : Name) → names name ≡ other name) → Counts more names old new → Counts most other old new
+counts_same more most names other old new equal same counts = record {
+  count = counts.count ∙ ap (λ n. old.count + n) equal;
+  names = adds_same names other old.mentions new.mentions same counts.names;
+}
+
+-- ---- in a loop: counting what is left counts all
+
+module _ {X Y : Type 0} (f : X → Y) (of : Y → ℕ) (names : Y → Name → Bool) (xs : List X) (start : Tally) where
+  pub record Left (i : ℕ) (now : Tally) : Type 0 where
+    pub to : (final : Tally) → Counts (total of (map f (drop i xs))) (any_of names (map f (drop i xs))) now final → Counts (total of (map f xs)) (any_of names (map f xs)) start final
+
+  pub at_start : Left 0 start
+  at_start = record { to = λ final counts. counts }
+
+  split : (i : ℕ) (d x : X) → x ≡ get_or xs i d → i < length xs → map f (drop i xs) ≡ f x ∷ map f (drop (i + 1) xs)
+  split i d x is within = ap (map f) (drop_more xs i d within) ∙ ap (λ y. f y ∷ map f (drop (i + 1) xs)) (sym is)
+
+  pub one_more : (i : ℕ) (d x : X) → x ≡ get_or xs i d → i < length xs → (now mid : Tally) → Counts (of (f x)) (names (f x)) now mid → Left i now → Left (i + 1) mid
+  one_more i d x is within now mid counts left = record {
+    to = λ final rest. left.to final (subst (λ l. Counts (total of l) (any_of names l) now final) (sym (split i d x is within))
+        (counts_both (of (f x)) (total of (map f (drop (i + 1) xs))) (names (f x)) (any_of names (map f (drop (i + 1) xs))) now mid final counts rest));
+  }
+
+  pub ends : (i : ℕ) (now : Tally) → length xs ≤ i → Left i now → Counts (total of (map f xs)) (any_of names (map f xs)) start now
+  ends i now out left = left.to now (subst (λ l. Counts (total of (map f l)) (any_of names (map f l)) now now) (sym (drop_all i xs out)) (counts_nothing (λ name. false) now (λ name. refl)))

@@ -1,0 +1,6 @@
+pub mod MarkSteps
+pub mod Adding
+pub mod Totals
+pub mod TargetSums
+pub mod Firsts
+pub mod Points

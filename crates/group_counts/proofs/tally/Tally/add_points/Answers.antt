@@ -1,0 +1,27 @@
+use Rattle.tac_ir.specs.Views.{tac_of, op_in}
+use Rattle.group_crossings.specs.Before.{graphs_before}
+use Rattle.group_counts.specs.Counting.{copies_of}
+use Rattle.group_counts.specs.Sums.{outside_of}
+use Rattle.group_counts.specs.Tallies.{op_mentions}
+use Rattle.group_counts.proofs.Adding.{at_start, one_more, ends}
+use Rattle.group_counts.proofs.tally.Tally.add_points.Goals as goal
+
+pub loop-op-init : goal.loop-op-init
+loop-op-init c =
+    let tac = c.args.before.tac.now in
+    let outside = outside_of (graphs_before c.args.before) c.args.group in
+    at_start (op_in tac.types) (copies_of (tac_of tac) outside) (op_mentions (tac_of tac) outside) c.args.points.now c.args.self.now
+
+pub loop-op-preserved : goal.loop-op-preserved
+loop-op-preserved c =
+    let tac = c.args.before.tac.now in
+    let outside = outside_of (graphs_before c.args.before) c.args.group in
+    one_more (op_in tac.types) (copies_of (tac_of tac) outside) (op_mentions (tac_of tac) outside) c.args.points.now c.args.self.now c.loop-op.op-index c.op-item.result c.op-item.result c.op-item.is
+    c.loop-op-test.true c.loop-op.self c.add_op.new.self c.in_ok-add_op.ensures c.loop-op.invariant
+
+pub returns : goal.returns
+returns c =
+    let tac = c.args.before.tac.now in
+    let outside = outside_of (graphs_before c.args.before) c.args.group in
+    ends (op_in tac.types) (copies_of (tac_of tac) outside) (op_mentions (tac_of tac) outside) c.args.points.now c.args.self.now c.loop-op.op-index c.loop-op.self c.loop-op-test.false
+    c.loop-op.invariant

@@ -1,0 +1,5 @@
+pub mod Counting
+pub mod Sums
+pub mod Marks
+pub mod Tallies
+pub mod FirstValues

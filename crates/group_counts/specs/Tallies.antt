@@ -1,0 +1,80 @@
+-- Marks of the variables outside functions and the literals that are mentioned, and counts that go on with them.
+use Rattle.std.specs.Prelude.{◌≡◌, ℕ, ◌+◌, ◌&&◌, Bool, false, if◌then◌else◌, nat_lt, List, length, Option}
+use Rattle.std.specs.List.{list_any}
+use Rattle.tac_ir.specs.Code.{Base, Callee, Op, Tac}
+use Rattle.tac_ir.specs.States.{Owner, function_of, points_of}
+use Rattle.tac_ir.specs.Views.{tac_of}
+use Rattle.heap_graph.specs.Graphs.{Name, OfGlobal, OfLiteral}
+use Rattle.group_begins.specs.Mentioned.{is_global, is_literal}
+use Rattle.group_crossings.specs.declared.before.Before.{Before}
+use Rattle.group_crossings.specs.Before.{graphs_before}
+use Rattle.group_counts.specs.declared.mentions.Mentions.{Mentions}
+use Rattle.group_counts.specs.declared.tally.Tally.{Tally}
+use Rattle.group_counts.specs.Counting.{Outside, any_below, comes_out, mentions}
+use Rattle.group_counts.specs.Sums.{outside_of}
+use Rattle.group_counts.specs.Marks.{AddsMarks, AreUnmarked}
+
+-- these variables outside functions and these literals are marked beside those that were
+pub record Adds (mentioned : Name → Bool) (old new : Mentions) : Type 0 where
+  pub globals : AddsMarks (λ number. mentioned (OfGlobal number)) old.globals.items new.globals.items
+  pub literals : AddsMarks (λ number. mentioned (OfLiteral number)) old.literals.items new.literals.items
+
+pub record AreNone (tac : Tac) (mentions : Mentions) : Type 0 where
+  pub globals : AreUnmarked (length tac.globals) mentions.globals.items
+  pub literals : AreUnmarked (length tac.literals) mentions.literals.items
+
+-- ---- names
+
+-- a path begins with the variable outside functions or the literal
+abbrev pub begins : Name → Base → Bool
+begins (OfGlobal number) = is_global number
+begins (OfLiteral number) = is_literal number
+begins name = λ base. false
+
+-- one of a list mentions it
+abbrev pub any_of : {X : Type 0} → (X → Name → Bool) → List X → Name → Bool
+any_of mentions xs name = list_any (λ x. mentions x name) xs
+
+-- ---- counts
+
+-- so many nodes more are counted, and these names are mentioned
+pub record Counts (more : ℕ) (mentioned : Name → Bool) (old new : Tally) : Type 0 where
+  pub count : new.count ≡ old.count + more
+  pub names : Adds mentioned old.mentions new.mentions
+
+-- so many nodes are counted, and nothing is mentioned
+pub record IsNew (tac : Tac) (own : ℕ) (tally : Tally) : Type 0 where
+  pub count : tally.count ≡ own
+  pub names : AreNone tac tally.mentions
+
+-- ---- groups
+
+abbrev pub code_of : Before → Tac
+code_of before = tac_of before.tac.now
+
+-- the functions of all groups but one
+abbrev pub beyond : Before → Option ℕ → Outside
+beyond before group = outside_of (graphs_before before) group
+
+module _ (tac : Tac) (outside : Outside) where
+  -- one of the program's functions, and outside the group
+  abbrev pub is_apart : ℕ → Bool
+  is_apart called = nat_lt called (length tac.functions) && outside.is_out called
+
+  -- the copies at a call that comes to a function, and what is mentioned by that
+  abbrev pub copies_from : ℕ → ℕ
+  copies_from called = if is_apart called then outside.escaping called else 0
+
+  abbrev pub told_from : ℕ → Name → Bool
+  told_from called name = is_apart called && outside.tells called name
+
+  -- what is mentioned by the functions outside the group to which a call may come
+  abbrev pub call_names : Callee → Name → Bool
+  call_names callee name = any_below (length tac.functions) (λ number. comes_out tac outside callee number && outside.tells number name)
+
+  -- what a point mentions, and what the points of a function do
+  abbrev pub op_mentions : Op → Name → Bool
+  op_mentions op name = mentions tac outside (begins name) name op
+
+  abbrev pub owner_mentions : Owner → Name → Bool
+  owner_mentions owner name = any_of op_mentions (points_of (function_of tac owner)) name

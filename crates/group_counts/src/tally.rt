@@ -1,0 +1,149 @@
+// Counts of the nodes of a group.
+
+ghost use Rattle.std.specs.Prelude.{◌≡◌, ◌+◌, length, map, IfOk, OnOk};
+ghost use Rattle.tac_ir.specs.Views.{tac_of, op_in, callee_in};
+ghost use Rattle.graph_memory.specs.Memory.{owner_of};
+ghost use Rattle.call_targets.specs.ClassLists.{numbers_of};
+ghost use Rattle.function_groups.specs.GroupViews.{IsOf};
+ghost use Rattle.group_counts.specs.Counting.{total, copies_to, copies_of, copies_in, count_below};
+ghost use Rattle.group_counts.specs.Marks.{is_marked};
+ghost use Rattle.group_counts.specs.Tallies.{code_of, beyond, IsNew, Counts, any_of, copies_from, told_from, call_names, op_mentions, owner_mentions};
+
+use crate::mentions::Mentions;
+use crate::outside::{escaping, graph_before, is_apart};
+use crate::sums::sum;
+use group_crossings::Before;
+use std::alloc::{AllocError, Global};
+use tac_ir::{Callee, FunctionId, Op, Tac};
+
+/// Nodes that are counted, and the variables outside functions and the literals that are mentioned, each of which counts once.
+#[derive(Drop)]
+pub(crate) struct Tally {
+    pub(crate) count: u64,
+    pub(crate) mentions: Mentions,
+}
+
+impl Tally {
+    /// So many nodes, and nothing that is mentioned.
+    pub(crate) fn new(alloc: Global, tac: &Tac, count: u64) -> Result<Tally, AllocError>
+        ensures { IfOk result (IsNew (tac_of tac.now) count) }
+    {
+        Ok(Tally {
+            count,
+            mentions: Mentions::new(alloc, tac)?,
+        })
+    }
+
+    /// All of them.
+    pub(crate) fn total(&self) -> Result<u64, AllocError>
+        ensures { IfOk result (λ total. total ≡ self.now.count + (count_below (length self.now.mentions.globals.items) (is_marked self.now.mentions.globals.items) + count_below (length self.now.mentions.literals.items) (is_marked self.now.mentions.literals.items))) }
+    {
+        sum(self.count, self.mentions.count()?)
+    }
+
+    /// Adds the copies at the calls of a function, or of `start`, and what it mentions.
+    pub(crate) fn add_owner(
+        &mut self,
+        alloc: Global,
+        before: Before<'_>,
+        group: Option<usize>,
+        owner: Option<FunctionId>,
+    ) -> Result<(), AllocError>
+        requires { IsOf before.tac.now before.groups.now }
+        ensures { OnOk result (Counts (copies_in (code_of before.entry) (beyond before.entry group) (owner_of owner)) (owner_mentions (code_of before.entry) (beyond before.entry group) (owner_of owner)) self.old self.new) }
+    {
+        match owner {
+            None => self.add_points(alloc, before, group, before.tac.start.points.as_slice()),
+            Some(number) => match before.tac.functions.get(number.0) {
+                Some(function) => self.add_points(alloc, before, group, function.points.as_slice()),
+                None => Ok(()),
+            },
+        }
+    }
+
+    /// The same of points.
+    fn add_points(
+        &mut self,
+        alloc: Global,
+        before: Before<'_>,
+        group: Option<usize>,
+        points: &[Op],
+    ) -> Result<(), AllocError>
+        requires { IsOf before.tac.now before.groups.now }
+        ensures { OnOk result (Counts (total (copies_of (code_of before.entry) (beyond before.entry group)) (map (op_in before.entry.tac.now.types) points.now)) (any_of (op_mentions (code_of before.entry) (beyond before.entry group)) (map (op_in before.entry.tac.now.types) points.now)) self.old self.new) }
+    {
+        for op in points {
+            self.add_op(alloc, before, group, op)?;
+        }
+        Ok(())
+    }
+
+    /// The same of one point.
+    fn add_op(
+        &mut self,
+        alloc: Global,
+        before: Before<'_>,
+        group: Option<usize>,
+        op: &Op,
+    ) -> Result<(), AllocError>
+        requires { IsOf before.tac.now before.groups.now }
+        ensures { OnOk result (Counts (copies_of (code_of before.entry) (beyond before.entry group) (op_in before.entry.tac.now.types op.now)) (op_mentions (code_of before.entry) (beyond before.entry group) (op_in before.entry.tac.now.types op.now)) self.old self.new) }
+    {
+        self.mentions.add_path(op);
+        match op {
+            Op::Call { callee, .. } => self.add_call(alloc, before, group, *callee),
+            _ => Ok(()),
+        }
+    }
+
+    /// Adds the copies at a call, for each function outside the group to which it may come, and what the graphs of these tell of.
+    fn add_call(
+        &mut self,
+        alloc: Global,
+        before: Before<'_>,
+        group: Option<usize>,
+        callee: Callee,
+    ) -> Result<(), AllocError>
+        requires { IsOf before.tac.now before.groups.now }
+        ensures { OnOk result (Counts (copies_to (code_of before.entry) (beyond before.entry group) (length (code_of before.entry).functions) (callee_in before.entry.tac.now.types callee)) (call_names (code_of before.entry) (beyond before.entry group) (callee_in before.entry.tac.now.types callee)) self.old self.new) }
+    {
+        let targets = before.groups.classes.targets(alloc, before.tac, callee)?;
+        self.add_targets(before, group, targets.as_slice())
+    }
+
+    /// The same of these functions.
+    fn add_targets(
+        &mut self,
+        before: Before<'_>,
+        group: Option<usize>,
+        targets: &[FunctionId],
+    ) -> Result<(), AllocError>
+        requires { IsOf before.tac.now before.groups.now }
+        ensures { OnOk result (Counts (total (copies_from (code_of before.entry) (beyond before.entry group)) (numbers_of targets.now)) (any_of (told_from (code_of before.entry) (beyond before.entry group)) (numbers_of targets.now)) self.old self.new) }
+    {
+        for target in targets {
+            self.add_called(before, group, target.0)?;
+        }
+        Ok(())
+    }
+
+    /// The same of one function, if it is outside the group.
+    fn add_called(
+        &mut self,
+        before: Before<'_>,
+        group: Option<usize>,
+        called: usize,
+    ) -> Result<(), AllocError>
+        requires { IsOf before.tac.now before.groups.now }
+        ensures { OnOk result (Counts (copies_from (code_of before.entry) (beyond before.entry group) called) (told_from (code_of before.entry) (beyond before.entry group) called) self.old self.new) }
+    {
+        if !is_apart(before, group, called) {
+            return Ok(());
+        }
+        self.count = sum(self.count, escaping(before, called) as u64)?;
+        if let Some(graph) = graph_before(before, called) {
+            self.mentions.add_graph(graph);
+        }
+        Ok(())
+    }
+}
