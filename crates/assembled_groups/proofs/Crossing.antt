@@ -1,0 +1,98 @@
+-- The calls out of a group that was assembled, in the graphs of a program that show it: they are closed, and copies are images.
+use Rattle.std.proofs.Common.{◌≡◌, ℕ, true, false, List, Option, Some, refl, sym, ap, subst, ◌∙◌}
+use Rattle.std.specs.Prelude.{slice_get}
+use Rattle.tac_ir.specs.declared.register.FunctionId.{FunctionId}
+use Rattle.tac_ir.specs.Code as O
+use Rattle.tac_ir.specs.States.{Owner}
+use Rattle.tac_ir.specs.Views.{tac_of}
+use Rattle.heap_graph.specs.Graphs.{Graph}
+use Rattle.heap_graph.specs.Closed.{graph_of, same_group, crossing}
+use Rattle.graph_memory.specs.Memory.{owner_of}
+use Rattle.c_typed.specs.Table.{structs_in}
+use Rattle.frozen_graphs.specs.declared.frozen.FrozenGraph.{FrozenGraph}
+use Rattle.program_graphs.specs.declared.program.FunctionGraph.{FunctionGraph}
+use Rattle.program_graphs.specs.declared.program.ProgramGraphs.{ProgramGraphs}
+use Rattle.program_graphs.specs.Programs.{function_embedding}
+use Rattle.point_asks.specs.Restricted.{Restricts}
+use Rattle.call_copies.specs.declared.copies.Copies.{Copies}
+use Rattle.call_copies.specs.Copied.{numbers_in, named_copy, copy_at}
+use Rattle.call_copies.proofs.Closing.{KeepsCertain, restricts_keeps}
+use Rattle.call_copies.proofs.Listed.{embeds}
+use Rattle.outer_calls.proofs.Closing.{outer_closed}
+use Rattle.group_begins.specs.Mentioned.{is_among}
+use Rattle.group_freezing.specs.Embedded.{CopiesAreImages}
+use Rattle.group_freezing.specs.Owners.{is_owner}
+use Rattle.group_freezing.proofs.RestrictsMade.{restricts}
+use Rattle.made_groups.specs.Made.{AreOuterClosed}
+use Rattle.group_crossings.specs.declared.before.Crossings.{Crossings}
+use Rattle.group_crossings.specs.Before.{GraphsBefore, is_out}
+use Rattle.group_crossings.specs.Crossings.{owners_in, copies_at}
+use Rattle.group_crossings.proofs.Images.{call_images}
+use Rattle.assembled_groups.specs.Assembled.{kept_graph, IsAssembled}
+use Rattle.assembled_groups.specs.Making.{family_at}
+use Rattle.assembled_groups.specs.Shown.{ShowsReached, ShowsOwners}
+use Rattle.assembled_groups.proofs.Placed.{also_there, owner_there, among_there, all_told}
+use Rattle.assembled_groups.proofs.Copying.{bare_sound, embedding_told}
+
+module _ (before : GraphsBefore) (group : Option ℕ) (owners : List (Option FunctionId)) (begun : Graph) (graph : FrozenGraph) (functions : List FunctionGraph)
+    (assembled : IsAssembled before group owners begun graph functions) where
+  -- the graph that is only read is that of the certain nodes
+  pub kept_restricts : Restricts assembled.made (kept_graph before owners graph functions)
+  kept_restricts =
+      restricts (tac_of before.tac) (is_owner owners) assembled.made (kept_graph before owners graph functions) assembled.frozen (all_told (tac_of before.tac) owners assembled.made assembled.told.only)
+
+  module _ (all : ProgramGraphs) (shows : ShowsOwners all owners functions) where
+    -- the embedding of a call is that of its copies
+    pub embedding_is : (place : ℕ) (owner : Option FunctionId) (own : Crossings) → slice_get owners place ≡ Some owner → slice_get assembled.crossings place ≡ Some own → (site called : ℕ) (copies : Copies)
+        → copies_at own site called ≡ Some copies → (node : ℕ)
+        → (family_at before all).graphs.embedding (crossing (family_at before all) (owner_of owner) site called) node ≡ copy_at assembled.made (numbers_in copies) node
+    embedding_is place owner own at there site called copies is node =
+        let told = also_there functions owners place owner assembled.size at in
+        let stand = (assembled.crossed.entries place owner own at there site called copies is).0 in
+        embedding_told all (owner_of owner) site called node
+        ∙ (ap (λ f. function_embedding f site called node) (shows place owner at ∙ told.1)
+        ∙ call_images assembled.made own told.0.embeddings (assembled.embeddings place own told.0 there told.1) site called before copies is stand node)
+
+    module _ (reached : ShowsReached before all) (stands : (owner : Owner) → is_among owner (owners_in owners) ≡ true → graph_of (family_at before all) owner ≡ kept_graph before owners graph functions) where
+      -- calls of an owner to functions of other groups are closed, and have embeddings
+      pub outer_are_closed : (place : ℕ) (owner : Option FunctionId) → slice_get owners place ≡ Some owner
+          → ((called : ℕ) → same_group (family_at before all) (owner_of owner) called ≡ false → is_out before.groups group called ≡ true) → AreOuterClosed (family_at before all) (owner_of owner)
+      outer_are_closed place owner at apart function point site callee arguments called is call target outer =
+          let own = also_there assembled.crossings owners place owner assembled.crossed.size at in
+          let uses = assembled.crossed.calls place owner own.0 at own.1 function point (O.Call site callee arguments) is call site callee arguments called refl target (apart called outer) in
+          let its = uses.stand.reached in
+          let shown = reached called its in
+          let images = embedding_is place owner own.0 at own.1 site called uses.copies uses.is in
+          let same = stands (owner_of owner) (among_there owners place owner at) in
+          let keeps = subst (λ g. KeepsCertain assembled.made g) (sym same) (restricts_keeps assembled.made (kept_graph before owners graph functions) kept_restricts) in
+          record {
+            condition = outer_closed (family_at before all) (owner_of owner) site called assembled.made (kept_graph before owners graph functions) kept_restricts
+                (λ name plain. ap (λ (g : Graph). g.targets name) same) keeps before.tac.types its.graph its.own.names shown.0 shown.1 (numbers_in uses.copies) images arguments uses.crossed;
+            embedding = embeds before.tac.types (family_at before all) called its.graph shown.0 (bare_sound (structs_in before.tac.types) before.tac.types its.graph its.own.names its.ready.sound)
+                its.ready.found its.ready.marks (its.ready.escapes (family_at before all) shown.0 shown.1) its.numbers its.ready.listed (owner_of owner) site assembled.made (numbers_in uses.copies)
+                uses.stand.first uses.stand.next keeps uses.stand.numbered uses.stand.copied (assembled.copies place own.0 site called uses.copies own.1 uses.is its) images;
+          }
+
+    -- where no function outside the group is of the owners' group, copies are the images of nodes at the owners' calls
+    pub copies_are_images : ((place : ℕ) (owner : Option FunctionId) → slice_get owners place ≡ Some owner → (called : ℕ) → is_out before.groups group called ≡ true
+        → same_group (family_at before all) (owner_of owner) called ≡ false) → CopiesAreImages (family_at before all) (is_owner owners) assembled.made
+    copies_are_images apart number target is certain =
+        let copy = assembled.crossed.names number target is in
+        let owner = also_there owners assembled.crossings copy.place copy.own (sym assembled.crossed.size) copy.there in
+        let from = (assembled.crossed.entries copy.place owner.0 copy.own owner.1 copy.there copy.site copy.called copy.copies copy.at).1 in
+        record {
+          at = crossing (family_at before all) (owner_of owner.0) copy.site copy.called;
+          own = owner_there owners copy.place owner.0 owner.1;
+          crossing = record {
+            function = from.function;
+            is = from.is;
+            point = from.at;
+            callee = from.callee;
+            arguments = from.arguments;
+            call = from.call;
+            target = from.target;
+            outer = apart copy.place owner.0 owner.1 copy.called from.out;
+          };
+          node = copy.node;
+          is = embedding_is copy.place owner.0 copy.own owner.1 copy.there copy.site copy.called copy.copies copy.at copy.node ∙ (ap (named_copy assembled.made) copy.is ∙ is);
+        }

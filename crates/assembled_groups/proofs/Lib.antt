@@ -1,0 +1,11 @@
+pub mod Placed
+pub mod Copying
+pub mod Crossing
+pub mod Members
+pub mod Classes
+pub mod Closing
+pub mod Starting
+pub mod Whole
+pub mod Ready
+pub mod Growing
+pub mod Ending

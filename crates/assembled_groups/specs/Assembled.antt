@@ -1,0 +1,45 @@
+-- The graph of a group, or of `start`, that is closed: what is told of the one that was made, and what is kept of that.
+use Rattle.std.specs.Prelude.{◌≡◌, ℕ, true, List, length, map, slice_get, Option, Some}
+use Rattle.c_typed.specs.Table.{structs_in}
+use Rattle.tac_ir.specs.declared.register.FunctionId.{FunctionId}
+use Rattle.tac_ir.specs.Views.{tac_of}
+use Rattle.heap_graph.specs.Graphs.{Graph}
+use Rattle.heap_graph.specs.Merging.{IsSound}
+use Rattle.frozen_graphs.specs.Frozen.{graph_with}
+use Rattle.frozen_graphs.specs.declared.frozen.FrozenGraph.{FrozenGraph}
+use Rattle.program_graphs.specs.declared.program.FunctionGraph.{FunctionGraph}
+use Rattle.reached_nodes.specs.Edges.{EdgesAreFound}
+use Rattle.made_graphs.specs.Going.{AllNamed, GoesOn}
+use Rattle.group_begins.specs.Told.{NamesTold}
+use Rattle.inner_calls.specs.Joined.{CallsJoined, ClassesJoined}
+use Rattle.group_rounds.specs.Rounds.{Settled}
+use Rattle.group_rounds.specs.Sizes.{SizesTold}
+use Rattle.group_freezing.specs.Kept.{IsFrozen}
+use Rattle.group_freezing.specs.Owners.{is_owner, names_in}
+use Rattle.group_crossings.specs.declared.before.Crossings.{Crossings}
+use Rattle.group_crossings.specs.Before.{GraphsBefore, is_inside}
+use Rattle.group_crossings.specs.Crossings.{owners_in, AreCrossed, AllCopiesTold, TellsCrossings}
+
+-- the graph that is only read, in which the owners have their names
+abbrev pub kept_graph : GraphsBefore → List (Option FunctionId) → FrozenGraph → List FunctionGraph → Graph
+kept_graph before owners graph functions = graph_with before.tac.types graph (names_in owners (map (λ (function : FunctionGraph). function.names) functions))
+
+-- The graph goes on from the one that was begun. All is told of it that the owners' names, points and calls ask; its certain nodes are kept,
+-- with what the owners' names and the copies lead to.
+pub record IsAssembled (before : GraphsBefore) (group : Option ℕ) (owners : List (Option FunctionId)) (begun : Graph) (graph : FrozenGraph) (functions : List FunctionGraph) : Type 0 where
+  pub made : Graph
+  pub crossings : List Crossings
+  pub goes : GoesOn (structs_in before.tac.types) begun made
+  pub sound : IsSound (structs_in before.tac.types) made
+  pub told : NamesTold (tac_of before.tac) (owners_in owners) made
+  pub named : AllNamed made
+  pub classes : ClassesJoined (tac_of before.tac) (is_inside before.groups group) made
+  pub calls : (caller : ℕ) → is_inside before.groups group caller ≡ true → CallsJoined (tac_of before.tac) (is_inside before.groups group) caller made
+  pub settled : Settled (tac_of before.tac) (owners_in owners) made
+  pub sizes : SizesTold (tac_of before.tac) (owners_in owners) made
+  pub crossed : AreCrossed before group owners crossings made
+  pub copies : AllCopiesTold before crossings made
+  pub size : length functions ≡ length owners
+  pub frozen : IsFrozen (tac_of before.tac) (is_owner owners) made (kept_graph before owners graph functions)
+  pub found : EdgesAreFound graph
+  pub embeddings : (place : ℕ) (own : Crossings) (function : FunctionGraph) → slice_get crossings place ≡ Some own → slice_get functions place ≡ Some function → TellsCrossings made own function.embeddings

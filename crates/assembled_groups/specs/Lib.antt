@@ -1,0 +1,3 @@
+pub mod Assembled
+pub mod Making
+pub mod Shown
