@@ -1,0 +1,64 @@
+-- Groups are counted one after the other: none so far begins with too many nodes, or one does, and the program is refused.
+use Rattle.std.proofs.Common.{◌≡◌, ℕ, suc, ◌<◌, ◌≤◌, ◌⊎◌, List, length, refl, sym, subst, inl, inr, arith}
+use Rattle.std.proofs.lemmas.Bool.{cases_lt}
+use Rattle.tac_ir.specs.declared.program.Tac as memory_tac
+use Rattle.tac_ir.specs.Views.{tac_of}
+use Rattle.function_groups.specs.declared.group_lists.Groups.{Groups}
+use Rattle.function_groups.specs.GroupViews.{groups_of}
+use Rattle.program_graphs.specs.declared.program.ProgramGraphs.{ProgramGraphs}
+use Rattle.assembled_groups.specs.Making.{family_at, BeginsWith, IsMaking}
+use Rattle.dsa_bottom_up.specs.declared.making.Making.{Making}
+use Rattle.dsa_bottom_up.specs.Making.{made_in}
+use Rattle.dsa_bottom_up.specs.Refused.{limit, AreFew, GroupCounts, StartCounts, IsRefused, in_group, in_start}
+
+-- the graphs so far
+abbrev pub all_so_far : Making → ProgramGraphs
+all_so_far making = record { graphs = making.graphs; functions = making.functions; start = making.start; start_function = making.start_function }
+
+-- so many groups have their graphs, and none of them begins with too many nodes
+pub record SoFar (tac : memory_tac.Tac) (groups : Groups) (counts : List ℕ) (making : Making) (number : ℕ) : Type 0 where
+  pub made : IsMaking (made_in tac groups making) number
+  pub few : (all : ProgramGraphs) → BeginsWith (made_in tac groups making) number all → AreFew (family_at (made_in tac groups making) all) counts number
+
+module _ (tac : memory_tac.Tac) (groups : Groups) (counts : List ℕ) where
+  pub begins_itself : (making : Making) (number : ℕ) → IsMaking (made_in tac groups making) number → BeginsWith (made_in tac groups making) number (all_so_far making)
+  begins_itself making number made = record { functions = made.functions; graphs = λ at less. refl; own = λ called group is less. refl }
+
+  pub none_so_far : (making : Making) → IsMaking (made_in tac groups making) 0 → SoFar tac groups counts making 0
+  none_so_far making made = record { made = made; few = λ all begins at less. absurd (omega (arith, less)) }
+
+  -- one group more
+  pub one_more : (old new : Making) (number : ℕ) → SoFar tac groups counts old number → IsMaking (made_in tac groups new) (suc number)
+      → ((all : ProgramGraphs) → BeginsWith (made_in tac groups new) (suc number) all → BeginsWith (made_in tac groups old) number all)
+      → ((all : ProgramGraphs) → BeginsWith (made_in tac groups old) number all → (count : ℕ) × GroupCounts (family_at (made_in tac groups old) all) counts number count × (count ≤ limit))
+      → SoFar tac groups counts new (suc number)
+  one_more old new number so_far made begins counted = record {
+    made = made;
+    few = λ all begun at less. by all (begins all begun) at (less_or at less);
+  }
+    where
+      less_or : (at : ℕ) → at < suc number → (at < number) ⊎ (at ≡ number)
+      less_or at less = elim (cases_lt at number) [
+        | inl before ↦ inl before
+        | inr past ↦ inr (omega (arith, less, past))
+      ]
+
+      by : (all : ProgramGraphs) → BeginsWith (made_in tac groups old) number all → (at : ℕ) → (at < number) ⊎ (at ≡ number)
+          → (count : ℕ) × GroupCounts (family_at (made_in tac groups old) all) counts at count × (count ≤ limit)
+      by all begun at (inl less) = so_far.few all begun at less
+      by all begun at (inr same) = subst (λ n. (count : ℕ) × GroupCounts (family_at (made_in tac groups old) all) counts n count × (count ≤ limit)) (sym same) (counted all begun)
+
+  -- the next group begins with too many
+  pub group_refused : (making : Making) (own number count : ℕ) → SoFar tac groups counts making number → limit < count
+      → ((all : ProgramGraphs) → BeginsWith (made_in tac groups making) number all → GroupCounts (family_at (made_in tac groups making) all) counts number count)
+      → IsRefused (tac_of tac) (groups_of groups) counts own count
+  group_refused making own number count so_far many counted =
+      let begins = begins_itself making number so_far.made in
+      in_group (family_at (made_in tac groups making) (all_so_far making)) number refl refl (so_far.made.closed (all_so_far making) begins) (so_far.few (all_so_far making) begins) (counted (all_so_far making) begins) many
+
+  pub start_refused : (making : Making) (own count : ℕ) → SoFar tac groups counts making (length (groups_of groups)) → limit < count
+      → ((all : ProgramGraphs) → BeginsWith (made_in tac groups making) (length (groups_of groups)) all → StartCounts (family_at (made_in tac groups making) all) own count)
+      → IsRefused (tac_of tac) (groups_of groups) counts own count
+  start_refused making own count so_far many counted =
+      let begins = begins_itself making (length (groups_of groups)) so_far.made in
+      in_start (family_at (made_in tac groups making) (all_so_far making)) refl refl (so_far.made.closed (all_so_far making) begins) (so_far.few (all_so_far making) begins) (counted (all_so_far making) begins) many

@@ -1,0 +1,105 @@
+-- What is told of the graph of a group is kept on the way to the one that is closed.
+use Rattle.std.proofs.Common.{◌≡◌, ℕ, List, length, Option, sym, ap, subst, ◌∙◌}
+use Rattle.std.proofs.lemmas.List.{length-map}
+use Rattle.c_typed.specs.Table.{structs_in}
+use Rattle.tac_ir.specs.declared.register.FunctionId.{FunctionId}
+use Rattle.tac_ir.specs.Views.{tac_of}
+use Rattle.heap_graph.specs.Graphs.{Name, Graph}
+use Rattle.heap_graph.specs.Targets.{has_target}
+use Rattle.heap_graph.specs.Structures.{AreMade}
+use Rattle.heap_graph.specs.Merging.{IsSound}
+use Rattle.frozen_graphs.specs.Frozen.{graph_with}
+use Rattle.program_graphs.specs.declared.program.FunctionGraph.{FunctionGraph}
+use Rattle.call_copies.specs.Telling.{ArraysTold}
+use Rattle.made_graphs.specs.Going.{GoesOn}
+use Rattle.made_graphs.proofs.Goes.{goes_then}
+use Rattle.group_begins.specs.Told.{NamesTold}
+use Rattle.inner_calls.proofs.Kept.{calls_joined_kept, classes_joined_kept}
+use Rattle.dsa_local.specs.Local.{IsJoinedGroup}
+use Rattle.dsa_local.proofs.Keeping.{EachSame, joined_kept}
+use Rattle.group_rounds.specs.Rounds.{Settled}
+use Rattle.group_rounds.specs.Sizes.{SizesTold}
+use Rattle.group_freezing.specs.declared.group.Frozen.{Frozen}
+use Rattle.group_freezing.specs.Groups.{IsFrozenGroup}
+use Rattle.group_freezing.specs.Kept.{IsFrozen}
+use Rattle.group_freezing.specs.Owners.{is_owner, names_in}
+use Rattle.group_crossings.specs.declared.before.Crossings.{Crossings}
+use Rattle.group_crossings.specs.Before.{GraphsBefore, is_inside}
+use Rattle.group_crossings.specs.Crossings.{owners_in, AreCrossed, AllCopiesTold}
+use Rattle.group_crossings.proofs.Arrays.{settled_still, sizes_still}
+use Rattle.group_crossings.proofs.Keeping.{crossings_kept}
+use Rattle.assembled_groups.specs.Assembled.{IsAssembled}
+use Rattle.dsa_bottom_up.specs.Assembling.{TellEach}
+
+-- what is told of a graph of a group from its calls out of it on
+pub record IsCrossing (before : GraphsBefore) (group : Option ℕ) (owners : List (Option FunctionId)) (all : List Crossings) (graph : Graph) : Type 0 where
+  pub sound : IsSound (structs_in before.tac.types) graph
+  pub joined : IsJoinedGroup (tac_of before.tac) (owners_in owners) (is_inside before.groups group) graph
+  pub crossed : AreCrossed before group owners all graph
+
+module _ (before : GraphsBefore) (made : AreMade (structs_in before.tac.types)) (group : Option ℕ) (owners : List (Option FunctionId)) where
+  -- the calls out of the group have their copies
+  pub crossing_first : (all : List Crossings) (begun graph : Graph) → IsSound (structs_in before.tac.types) begun → IsSound (structs_in before.tac.types) graph → GoesOn (structs_in before.tac.types) begun graph
+      → IsJoinedGroup (tac_of before.tac) (owners_in owners) (is_inside before.groups group) begun → NamesTold (tac_of before.tac) (owners_in owners) graph → AreCrossed before group owners all graph
+      → IsCrossing before group owners all graph
+  crossing_first all begun graph from sound goes joined told crossed = record {
+    sound = sound;
+    joined = record {
+      told = told;
+      named = goes.named joined.named;
+      classes = classes_joined_kept (structs_in before.tac.types) made (tac_of before.tac) (is_inside before.groups group) begun graph from goes joined.classes;
+      calls = λ caller is. calls_joined_kept (structs_in before.tac.types) made (tac_of before.tac) (is_inside before.groups group) caller begun graph from goes (joined.calls caller is);
+    };
+    crossed = crossed;
+  }
+
+  -- and have them still where the graph goes on
+  pub crossing_next : (all : List Crossings) (old new : Graph) → IsSound (structs_in before.tac.types) new → GoesOn (structs_in before.tac.types) old new → EachSame old new
+      → IsCrossing before group owners all old → IsCrossing before group owners all new
+  crossing_next all old new sound goes same its = record {
+    sound = sound;
+    joined = joined_kept (tac_of before.tac) made (owners_in owners) (is_inside before.groups group) old new its.sound goes (λ name own. same name) its.joined;
+    crossed = crossings_kept before group owners all old new made its.sound goes same its.crossed;
+  }
+
+  -- once its points are settled and sizes are told
+  pub crossing_sized : (all : List Crossings) (begun crossed settled sized : Graph) → IsSound (structs_in before.tac.types) begun → IsSound (structs_in before.tac.types) crossed → IsSound (structs_in before.tac.types) settled
+      → IsSound (structs_in before.tac.types) sized → GoesOn (structs_in before.tac.types) begun crossed → GoesOn (structs_in before.tac.types) crossed settled → GoesOn (structs_in before.tac.types) settled sized
+      → IsJoinedGroup (tac_of before.tac) (owners_in owners) (is_inside before.groups group) begun → NamesTold (tac_of before.tac) (owners_in owners) crossed → AreCrossed before group owners all crossed
+      → EachSame crossed settled → ((name : Name) → sized.targets name ≡ settled.targets name) → IsCrossing before group owners all sized
+  crossing_sized all begun crossed settled sized from first second third a b c joined told are same names =
+      crossing_next all settled sized third c (λ name. ap has_target (names name)) (crossing_next all crossed settled second b same (crossing_first all begun crossed from first a joined told are))
+
+  -- the graph that was made, with what is kept of it
+  pub assembled : (all : List Crossings) (begun sized told : Graph) (frozen : Frozen) (functions : List FunctionGraph) → GoesOn (structs_in before.tac.types) begun told → IsCrossing before group owners all sized
+      → IsSound (structs_in before.tac.types) told → GoesOn (structs_in before.tac.types) sized told → ArraysTold sized told → Settled (tac_of before.tac) (owners_in owners) sized
+      → SizesTold (tac_of before.tac) (owners_in owners) sized → AllCopiesTold before all told → IsFrozenGroup before.tac.types before.tac owners told frozen
+      → TellEach told frozen.names.items all functions → IsAssembled before group owners begun frozen.graph functions
+  assembled all begun sized told frozen functions goes its sound last arrays settled sizes copies kept each =
+      let now = crossing_next all sized told sound last (λ name. ap has_target (arrays.names name)) its in
+      let named = now.joined.named in
+      record {
+        made = told;
+        crossings = all;
+        goes = goes;
+        sound = sound;
+        told = now.joined.told;
+        named = named;
+        classes = now.joined.classes;
+        calls = now.joined.calls;
+        settled = settled_still (tac_of before.tac) sized told its.sound named arrays (owners_in owners) settled;
+        sizes = sizes_still (tac_of before.tac) sized told its.sound named arrays (owners_in owners) sizes;
+        crossed = now.crossed;
+        copies = copies;
+        size = sym (length-map functions (λ (function : FunctionGraph). function.names)) ∙ ap length each.names' ∙ kept.size;
+        frozen = subst (λ names. IsFrozen (tac_of before.tac) (is_owner owners) told (graph_with before.tac.types frozen.graph (names_in owners names))) (sym each.names') kept.kept;
+        found = kept.found;
+        embeddings = each.embeddings;
+      }
+
+  -- one step after the other
+  pub goes_all : (one two three four five : Graph) → IsSound (structs_in before.tac.types) one → GoesOn (structs_in before.tac.types) one two → GoesOn (structs_in before.tac.types) two three
+      → GoesOn (structs_in before.tac.types) three four → GoesOn (structs_in before.tac.types) four five → GoesOn (structs_in before.tac.types) one five
+  goes_all one two three four five sound a b c d =
+      let then = goes_then (structs_in before.tac.types) made in
+      then one four five sound (then one three four sound (then one two three sound a b) c) d

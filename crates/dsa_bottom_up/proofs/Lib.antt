@@ -1,0 +1,6 @@
+pub mod Counted
+pub mod Crossed
+pub mod EachTold
+pub mod Finishing
+pub mod Keeping
+pub mod Outside

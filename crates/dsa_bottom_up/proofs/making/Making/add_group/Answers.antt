@@ -1,0 +1,131 @@
+use Rattle.std.proofs.Common.{◌≡◌, ◌<◌, ℕ, List, Vec, Global, length, map, All, get_or, option_map, Some, refl, sym, ap, ◌∙◌, subst}
+use Rattle.std.specs.Prelude.{slice_get}
+use Rattle.std.proofs.lemmas.Option.{slice_get-map, slice_get_read}
+use Rattle.c_typed.specs.DefinitionViews.{LiteralsStand}
+use Rattle.tac_ir.specs.declared.register.FunctionId.{FunctionId}
+use Rattle.tac_ir.specs.Views.{tac_of}
+use Rattle.graph_memory.specs.Memory.{graph_in}
+use Rattle.call_targets.specs.ClassLists.{numbers_of}
+use Rattle.function_groups.specs.GroupViews.{lists_of, groups_of, IsOf}
+use Rattle.graph_premises.specs.Standing.{CodeStands}
+use Rattle.group_freezing.specs.Owners.{IsFunctionOf}
+use Rattle.dsa_local.specs.Local.{IsJoinedGroup, owners_at}
+use Rattle.group_crossings.specs.Before.{GraphsBefore, graphs_before, is_inside}
+use Rattle.group_crossings.specs.Crossings.{AllReached, owners_in}
+use Rattle.assembled_groups.specs.Assembled.{IsAssembled}
+use Rattle.assembled_groups.proofs.Growing.{all_reached}
+use Rattle.dsa_bottom_up.specs.Making.{made_in}
+use Rattle.dsa_bottom_up.proofs.Keeping.{group_added, begins_still, members_are, members_apart, owners_are, members_below}
+use Rattle.dsa_bottom_up.proofs.making.Making.add_group.Goals as goal
+
+listed : (lists : List (Vec FunctionId Global)) (n : ℕ) (list : Vec FunctionId Global) (members : List FunctionId) → n < length lists → list ≡ get_or lists n list → members ≡ list.items
+    → slice_get (lists_of lists) n ≡ Some (numbers_of members)
+listed lists n list members less is same =
+    slice_get-map (λ (l : Vec FunctionId Global). numbers_of l.items) lists n
+    ∙ (ap (option_map (λ (l : Vec FunctionId Global). numbers_of l.items)) (slice_get_read lists (length lists) n list refl less is) ∙ ap (λ (l : List FunctionId). Some (numbers_of l)) (sym same))
+
+pub assemble-requires-clause-known : goal.assemble-requires-clause-known
+assemble-requires-clause-known c =
+    let same = sym c.before-2.ensures in
+    record {
+      code = subst (λ (g : GraphsBefore). CodeStands (tac_of g.tac)) same c.requires.grouped.stands.code;
+      literals = subst (λ (g : GraphsBefore). LiteralsStand g.tac.types g.tac.literals.items) same c.requires.grouped.literals;
+      groups = subst (λ (g : GraphsBefore). IsOf g.tac g.groups) same c.requires.grouped.of;
+    }
+
+pub assemble-requires-clause-owners : goal.assemble-requires-clause-owners
+assemble-requires-clause-owners c =
+    let tac = c.args.tac.now in
+    let groups = c.args.groups.now in
+    let n = c.args.number in
+    let members = c.as_slice-members.result.now in
+    let row : slice_get (groups_of groups) n ≡ Some (numbers_of members) =
+    listed groups.members.items n c.index.result.now members c.requires.within c.index.ensures c.as_slice-members.ensures.value in
+    let list : c.deref.result.now ≡ map Some members = c.deref.ensures.value ∙ c.in_ok-owners.ensures in
+    subst (λ (g : GraphsBefore). All (IsFunctionOf g.tac) c.deref.result.now) (sym c.before-2.ensures)
+    (subst (All (IsFunctionOf tac)) (sym list) (members_are tac groups n members c.requires.grouped row))
+
+pub assemble-requires-clause-reached : goal.assemble-requires-clause-reached
+assemble-requires-clause-reached c =
+    let tac = c.args.tac.now in
+    let groups = c.args.groups.now in
+    let n = c.args.number in
+    let members = c.as_slice-members.result.now in
+    let row : slice_get (groups_of groups) n ≡ Some (numbers_of members) =
+    listed groups.members.items n c.index.result.now members c.requires.within c.index.ensures c.as_slice-members.ensures.value in
+    let list : c.deref.result.now ≡ map Some members = c.deref.ensures.value ∙ c.in_ok-owners.ensures in
+    let before = made_in tac groups c.args.self.now in
+    subst (λ (g : GraphsBefore). AllReached g (Some n) c.deref.result.now) (sym c.before-2.ensures)
+    (subst (AllReached before (Some n)) (sym list) (all_reached before n members c.requires.grouped c.requires.making row))
+
+pub assemble-requires-clause-joined : goal.assemble-requires-clause-joined
+assemble-requires-clause-joined c =
+    let tac = c.args.tac.now in
+    let groups = c.args.groups.now in
+    let n = c.args.number in
+    let members = c.as_slice-members.result.now in
+    let row : slice_get (groups_of groups) n ≡ Some (numbers_of members) =
+    listed groups.members.items n c.index.result.now members c.requires.within c.index.ensures c.as_slice-members.ensures.value in
+    let list : c.deref.result.now ≡ map Some members = c.deref.ensures.value ∙ c.in_ok-owners.ensures in
+    let owners : owners_at (groups_of groups) n ≡ owners_in c.deref.result.now = owners_are tac groups n members c.requires.grouped row ∙ sym (ap owners_in list) in
+    let graph = c.in_ok-local.local.graph in
+    subst (λ (g : GraphsBefore). IsJoinedGroup (tac_of g.tac) (owners_in c.deref.result.now) (is_inside g.groups (Some n)) (graph_in g.tac.types graph)) (sym c.before-2.ensures)
+    (subst (λ os. IsJoinedGroup (tac_of tac) os (is_inside groups (Some n)) (graph_in tac.types graph)) owners c.in_ok-local.ensures.joined)
+
+pub assemble-requires-clause-owned : goal.assemble-requires-clause-owned
+assemble-requires-clause-owned c =
+    let tac = c.args.tac.now in
+    let groups = c.args.groups.now in
+    let n = c.args.number in
+    let members = c.as_slice-members.result.now in
+    let row : slice_get (groups_of groups) n ≡ Some (numbers_of members) =
+    listed groups.members.items n c.index.result.now members c.requires.within c.index.ensures c.as_slice-members.ensures.value in
+    let list : c.deref.result.now ≡ map Some members = c.deref.ensures.value ∙ c.in_ok-owners.ensures in
+    c.in_ok-local.ensures.owners ∙ (owners_are tac groups n members c.requires.grouped row ∙ sym (ap owners_in list))
+
+pub keep-requires-clause-functions : goal.keep-requires-clause-functions
+keep-requires-clause-functions c =
+    let tac = c.args.tac.now in
+    let groups = c.args.groups.now in
+    let n = c.args.number in
+    let members = c.as_slice-members.result.now in
+    let row : slice_get (groups_of groups) n ≡ Some (numbers_of members) =
+    listed groups.members.items n c.index.result.now members c.requires.within c.index.ensures c.as_slice-members.ensures.value in
+    members_below tac groups n members c.requires.grouped row c.args.self.now c.requires.making
+
+pub keep-requires-clause-apart : goal.keep-requires-clause-apart
+keep-requires-clause-apart c =
+    let tac = c.args.tac.now in
+    let groups = c.args.groups.now in
+    let n = c.args.number in
+    let members = c.as_slice-members.result.now in
+    let row : slice_get (groups_of groups) n ≡ Some (numbers_of members) =
+    listed groups.members.items n c.index.result.now members c.requires.within c.index.ensures c.as_slice-members.ensures.value in
+    members_apart tac groups n members c.requires.grouped row
+
+pub returns-in-Ok-clause-making : goal.returns-in-Ok-clause-making
+returns-in-Ok-clause-making c =
+    let tac = c.args.tac.now in
+    let groups = c.args.groups.now in
+    let n = c.args.number in
+    let members = c.as_slice-members.result.now in
+    let row : slice_get (groups_of groups) n ≡ Some (numbers_of members) =
+    listed groups.members.items n c.index.result.now members c.requires.within c.index.ensures c.as_slice-members.ensures.value in
+    let list : c.deref.result.now ≡ map Some members = c.deref.ensures.value ∙ c.in_ok-owners.ensures in
+    let graph = c.in_ok-made.made.graph in
+    let functions = c.in_ok-made.made.functions.items in
+    let begun = graph_in c.before-2.result.tac.now.types c.in_ok-local.local.graph in
+    let assembled =
+    subst (λ (g : GraphsBefore). IsAssembled g (Some n) (map Some members) begun graph functions) c.before-2.ensures
+    (subst (λ os. IsAssembled (graphs_before c.before-2.result) (Some n) os begun graph functions) list c.in_ok-made.ensures) in
+    group_added tac groups n members c.requires.grouped row c.args.self.now c.keep.new.self c.push.new.self begun graph functions c.requires.making assembled c.in_ok-keep.ensures c.in-Ok.ensures.items
+
+pub returns-in-Ok-clause-begins : goal.returns-in-Ok-clause-begins
+returns-in-Ok-clause-begins c =
+    let tac = c.args.tac.now in
+    let groups = c.args.groups.now in
+    let n = c.args.number in
+    let members = c.as_slice-members.result.now in
+    let row : slice_get (groups_of groups) n ≡ Some (numbers_of members) =
+    listed groups.members.items n c.index.result.now members c.requires.within c.index.ensures c.as_slice-members.ensures.value in
+    begins_still tac groups n members c.requires.grouped row c.args.self.now c.keep.new.self c.push.new.self c.in_ok-made.made.graph c.in_ok-made.made.functions.items c.requires.making c.in_ok-keep.ensures c.in-Ok.ensures.items

@@ -1,0 +1,42 @@
+use Rattle.std.proofs.Common.{◌≡◌, List, [], ◌∷◌, ◌++◌, Option, None, refl, ap, ◌∙◌}
+use Rattle.tac_ir.specs.declared.register.FunctionId.{FunctionId}
+use Rattle.tac_ir.specs.Views.{tac_of}
+use Rattle.graph_memory.specs.Memory.{graph_in}
+use Rattle.program_graphs.specs.declared.program.ProgramGraphs.{ProgramGraphs}
+use Rattle.dsa_bottom_up.proofs.Finishing.{known_of, reached_of, first_joined, still_joined, first_copies, still_no_copies, start_assembled, ends_closed, groups_many}
+use Rattle.dsa_bottom_up.proofs.making.Making.finish.Goals as goal
+
+pub assemble-requires-clause-known : goal.assemble-requires-clause-known
+assemble-requires-clause-known c = known_of c.before-2.result c.args.tac.now c.args.groups.now c.args.self c.before-2.ensures c.requires.grouped
+
+pub assemble-requires-clause-reached : goal.assemble-requires-clause-reached
+assemble-requires-clause-reached c =
+    let owners : c.deref.result.now ≡ None ∷ [] = c.deref.ensures.value ∙ (c.in_ok-push.ensures.items ∙ ap (λ (l : List (Option FunctionId)). l ++ None ∷ []) c.new-owners.ensures.items) in
+    reached_of c.before-2.result c.args.tac.now c.args.groups.now c.args.self c.before-2.ensures c.requires.grouped c.requires.making c.deref.result.now owners
+
+pub assemble-requires-clause-joined : goal.assemble-requires-clause-joined
+assemble-requires-clause-joined c =
+    let tac = c.args.tac.now in
+    let owners : c.deref.result.now ≡ None ∷ [] = c.deref.ensures.value ∙ (c.in_ok-push.ensures.items ∙ ap (λ (l : List (Option FunctionId)). l ++ None ∷ []) c.new-owners.ensures.items) in
+    still_joined c.before-2.result tac c.args.groups.now c.args.self c.before-2.ensures c.deref.result.now owners c.apply_first.new.graph
+    (first_joined tac c.args.groups.now c.requires.grouped.stands.code.made (graph_in tac.types c.in_ok-graph.field-0.graph) (graph_in tac.types c.apply_first.new.graph) c.in_ok-graph.ensures.graph.sound c.in_ok-apply_first.ensures.keeps
+    c.in_ok-graph.ensures.joined)
+
+pub assemble-requires-clause-copies : goal.assemble-requires-clause-copies
+assemble-requires-clause-copies c =
+    let tac = c.args.tac.now in
+    still_no_copies c.before-2.result tac c.args.groups.now c.args.self c.before-2.ensures c.apply_first.new.graph
+    (first_copies (tac_of tac) (graph_in tac.types c.in_ok-graph.field-0.graph) (graph_in tac.types c.apply_first.new.graph) c.in_ok-apply_first.ensures.keeps c.in_ok-graph.ensures.copies)
+
+pub returns-clause-closed : goal.returns-clause-closed
+returns-clause-closed c =
+    let tac = c.args.tac.now in
+    let groups = c.args.groups.now in
+    let owners : c.deref.result.now ≡ None ∷ [] = c.deref.ensures.value ∙ (c.in_ok-push.ensures.items ∙ ap (λ (l : List (Option FunctionId)). l ++ None ∷ []) c.new-owners.ensures.items) in
+    let all : ProgramGraphs = record { graphs = c.args.self.graphs; functions = c.args.self.functions; start = c.in_ok-made.made.graph; start_function = c.in-Some.own } in
+    let assembled = start_assembled c.before-2.result tac groups c.args.self c.before-2.ensures c.deref.result.now owners c.apply_first.new.graph c.in_ok-made.made.graph c.in_ok-made.made.functions.items c.pop.new.self.items c.in-Some.own
+    c.in-Some.ensures.items c.in_ok-made.ensures in
+    ends_closed tac groups c.args.self c.requires.grouped c.requires.making all refl refl (graph_in tac.types c.apply_first.new.graph) c.in-Some.own c.in_ok-apply_first.ensures.graph.sound c.in_ok-apply_first.ensures.told assembled refl
+
+pub returns-clause-graphs : goal.returns-clause-graphs
+returns-clause-graphs c = c.requires.making.graphs ∙ groups_many c.args.groups.now

@@ -1,0 +1,12 @@
+-- What is told of the functions of a group.
+use Rattle.std.specs.Prelude.{◌≡◌, ℕ, List, map, slice_get, Some}
+use Rattle.heap_graph.specs.Graphs.{Graph}
+use Rattle.frozen_graphs.specs.declared.frozen.FunctionNames.{FunctionNames}
+use Rattle.program_graphs.specs.declared.program.FunctionGraph.{FunctionGraph}
+use Rattle.group_crossings.specs.declared.before.Crossings.{Crossings}
+use Rattle.group_crossings.specs.Crossings.{TellsCrossings}
+
+-- the functions have these names, and of each call it is told where the copies are
+pub record TellEach (graph : Graph) (names : List FunctionNames) (crossings : List Crossings) (functions : List FunctionGraph) : Type 0 where
+  pub names' : map (λ (function : FunctionGraph). function.names) functions ≡ names
+  pub embeddings : (place : ℕ) (own : Crossings) (function : FunctionGraph) → slice_get crossings place ≡ Some own → slice_get functions place ≡ Some function → TellsCrossings graph own function.embeddings

@@ -1,0 +1,50 @@
+-- The graphs of groups so far, in memory.
+use Rattle.std.specs.Prelude.{◌≡◌, ℕ, List, [], length, slice_get, Some}
+use Rattle.tac_ir.specs.declared.program.Tac as memory_tac
+use Rattle.tac_ir.specs.declared.register.FunctionId.{FunctionId}
+use Rattle.frozen_graphs.specs.declared.frozen.FrozenGraph.{FrozenGraph}
+use Rattle.program_graphs.specs.declared.program.FunctionGraph.{FunctionGraph}
+use Rattle.function_groups.specs.declared.group_lists.Groups.{Groups}
+use Rattle.group_crossings.specs.Before.{GraphsBefore, rows_of}
+use Rattle.assembled_groups.specs.Making.{AreAt, ListsEscaping, SameOthers}
+use Rattle.dsa_bottom_up.specs.declared.making.Making.{Making}
+
+abbrev pub made_in : memory_tac.Tac → Groups → Making → GraphsBefore
+made_in tac groups making = record {
+  tac = tac;
+  groups = groups;
+  graphs = making.graphs.items;
+  functions = making.functions.items;
+  escaping = rows_of making.escaping.items;
+}
+
+-- no group has a graph yet
+pub record IsEmpty (tac : memory_tac.Tac) (making : Making) : Type 0 where
+  pub graphs : making.graphs.items ≡ []
+  pub functions : length making.functions.items ≡ length tac.functions.items
+  pub escaping : length making.escaping.items ≡ length tac.functions.items
+
+-- each function stands once
+abbrev pub AreApart : List FunctionId → Type 0
+AreApart members = (a b : ℕ) (one other : FunctionId) → slice_get members a ≡ Some one → slice_get members b ≡ Some other → one.0 ≡ other.0 → a ≡ b
+
+-- what is told of a function is kept at its number, and which nodes escape it
+pub record KeepsOne (old new : Making) (member : ℕ) (graph : FrozenGraph) (own : FunctionGraph) : Type 0 where
+  pub graphs : new.graphs ≡ old.graphs
+  pub size : length new.functions.items ≡ length old.functions.items
+  pub own' : slice_get new.functions.items member ≡ Some own
+  pub others : (number : ℕ) → (number ≡ member → ⊥) → slice_get new.functions.items number ≡ slice_get old.functions.items number
+  pub lists : length new.escaping.items ≡ length old.escaping.items
+  pub same_lists : (number : ℕ) → (number ≡ member → ⊥) → slice_get (rows_of new.escaping.items) number ≡ slice_get (rows_of old.escaping.items) number
+  pub listed : (tac : memory_tac.Tac) → (numbers : List ℕ) × (slice_get (rows_of new.escaping.items) member ≡ Some numbers) × ListsEscaping tac member graph own.names numbers
+
+-- so it is for each function of a group
+pub record KeepsMembers (old new : Making) (members : List FunctionId) (graph : FrozenGraph) (functions : List FunctionGraph) : Type 0 where
+  pub graphs : new.graphs ≡ old.graphs
+  pub size : length new.functions.items ≡ length old.functions.items
+  pub own : AreAt new.functions.items members functions
+  pub others : SameOthers old.functions.items new.functions.items members
+  pub lists : length new.escaping.items ≡ length old.escaping.items
+  pub same_lists : SameOthers (rows_of old.escaping.items) (rows_of new.escaping.items) members
+  pub listed : (tac : memory_tac.Tac) (place : ℕ) (member : FunctionId) (own : FunctionGraph) → slice_get members place ≡ Some member → slice_get functions place ≡ Some own
+      → (numbers : List ℕ) × (slice_get (rows_of new.escaping.items) member.0 ≡ Some numbers) × ListsEscaping tac member.0 graph own.names numbers

@@ -1,0 +1,90 @@
+// The graph of one group.
+
+ghost use Rattle.std.specs.Prelude.{◌≡◌, length, All, IfOk};
+ghost use Rattle.tac_ir.specs.Views.{tac_of};
+ghost use Rattle.c_typed.specs.Table.{Interned};
+ghost use Rattle.graph_memory.specs.Memory.{graph_in, IsGraph};
+ghost use Rattle.group_begins.specs.Told.{NoCopies};
+ghost use Rattle.group_rounds.specs.Rounds.{owners_of};
+ghost use Rattle.group_freezing.specs.Owners.{IsFunctionOf};
+ghost use Rattle.dsa_local.specs.Local.{AreScopes, IsJoinedGroup};
+ghost use Rattle.group_crossings.specs.Before.{graphs_before, is_inside};
+ghost use Rattle.group_crossings.specs.Crossings.{owners_in, AllReached, IsKnown};
+ghost use Rattle.assembled_groups.specs.Assembled.{IsAssembled};
+ghost use Rattle.dsa_bottom_up.specs.Assembling.{TellEach};
+
+use dsa_local::LocalGraph;
+use frozen_graphs::{FrozenGraph, FunctionNames};
+use graph_memory::Graph;
+use group_crossings::{Before, Crossings, frozen_crossings};
+use group_freezing::{Frozen, freeze_group};
+use group_rounds::{settle, tell_sizes};
+use program_graphs::FunctionGraph;
+use std::alloc::{AllocError, Global};
+use tac_ir::FunctionId;
+
+/// What was made of a group: its graph, and what that tells of its functions, in the order of the group.
+#[derive(Drop)]
+pub(crate) struct Assembled {
+    pub(crate) graph: FrozenGraph,
+    pub(crate) functions: Vec<FunctionGraph>,
+}
+
+/// Closes the graph of a group that was begun.
+pub(crate) fn assemble(
+    alloc: Global,
+    before: Before<'_>,
+    local: LocalGraph,
+    owners: &[Option<FunctionId>],
+    group: Option<usize>,
+) -> Result<Assembled, AllocError>
+    requires known { IsKnown before }
+    requires owners { All (IsFunctionOf before.tac.now) owners.now }
+    requires reached { AllReached (graphs_before before) group owners.now }
+    requires graph { IsGraph before.tac.now.types local.graph }
+    requires joined { IsJoinedGroup (tac_of before.tac.now) (owners_in owners.now) (is_inside before.groups.now group) (graph_in before.tac.now.types local.graph) }
+    requires copies { NoCopies (graph_in before.tac.now.types local.graph) }
+    requires owned { owners_of local.scopes.items ≡ owners_in owners.now }
+    requires scopes { AreScopes before.tac.now local.scopes.items }
+    ensures { IfOk result (λ made. IsAssembled (graphs_before before.entry) group owners.now (graph_in before.entry.tac.now.types local.graph) made.graph made.functions.items) }
+{
+    let LocalGraph { mut graph, scopes } = local;
+    let crossings = before.cross_all(alloc, &mut graph, owners, group)?;
+    settle(before.tac, &scopes, &mut graph)?;
+    tell_sizes(before.tac, &scopes, &mut graph);
+    before.tell_all(&mut graph, &crossings);
+    let Frozen {
+        graph: frozen,
+        names,
+    } = freeze_group(alloc, before.tac, &graph, owners)?;
+    let functions = function_graphs(alloc, &graph, names, &crossings)?;
+    Ok(Assembled {
+        graph: frozen,
+        functions,
+    })
+}
+
+/// The names of functions with where the copies at their calls are.
+fn function_graphs(
+    alloc: Global,
+    graph: &Graph,
+    names: Vec<FunctionNames>,
+    crossings: &[Crossings],
+) -> Result<Vec<FunctionGraph>, AllocError>
+    requires size { length crossings.now ≡ length names.items }
+    ensures { IfOk result (λ functions. (table : Interned) → IsGraph table graph.now → TellEach (graph_in table graph.now) names.items crossings.now functions.items) }
+{
+    let mut functions = Vec::new(alloc);
+    for (place, own) in names.into_iter().enumerate() {
+        let embeddings = frozen_crossings(alloc, graph, &crossings[place])?;
+        let function = FunctionGraph {
+            names: own,
+            embeddings,
+        };
+        match functions.push(function) {
+            Ok(()) => {}
+            Err(_) => return Err(AllocError),
+        }
+    }
+    Ok(functions)
+}
