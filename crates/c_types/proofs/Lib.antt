@@ -10,6 +10,7 @@ mod ParameterLocals
 mod VariableNumbers
 mod DeclaredMembers
 mod Firsts
+mod KeptValues
 mod ListedFirsts
 mod LocalFirsts
 mod LiteralFirsts

@@ -6,12 +6,14 @@ use Rattle.c_syntax.specs.declared.declaration.Init as memory_init
 use Rattle.c_syntax.specs.Views.{init_tree}
 use Rattle.c_syntax.specs.Trees.{NameTree, InitTree, InitDeclaratorTree}
 use Rattle.c_typed.specs.declared.c_type.CType as number
+use Rattle.c_typed.specs.declared.typed.Value as memory_value
 use Rattle.c_typed.specs.declared.definition.First as memory_first
 use Rattle.c_typed.specs.Types
 use Rattle.c_typed.specs.Types.{CType}
 use Rattle.c_typed.specs.Typed.{GlobalDef}
 use Rattle.c_typed.specs.Table.{Interned, Stands, type_in}
 use Rattle.c_typed.specs.DefinitionViews.{all_first}
+use Rattle.c_typed.proofs.Grown.{stays}
 use Rattle.c_rules.specs.Names.{Scope}
 use Rattle.c_rules.specs.declared.rule.TypeRule.TheVariants as T
 use Rattle.c_rules.specs.Known.{Checked, given, with_known, unless}
@@ -32,9 +34,11 @@ use Rattle.c_types.specs.declared.initializers.Target.{Target}
 use Rattle.c_types.specs.NamedItems.{named_in_init, named_in_first, named_in_file_declarator, named_in_file_declarators}
 use Rattle.c_types.specs.Made.{Covers, Makes, IsFirst}
 use Rattle.c_types.specs.FirstValues.{HoldsFirst}
+use Rattle.c_types.specs.InitialValues.{AddsValues, optional_values, declarator_values, declarators_values}
 use Rattle.c_types.specs.Outside.{HasDefined, outside_rule, body_rule}
 use Rattle.c_types.proofs.Covering.{covers-none, covers-then, covers-same, covers-passes, covers-named, makes-same, makes-behind}
 use Rattle.c_types.proofs.Filed.{each_stays}
+use Rattle.c_types.proofs.KeptValues.{ValuesFar, adds-same, kept-more, kept-all}
 use Rattle.c_types.proofs.DefinedStays.{Defines, defined_stays, each_global-append}
 
 -- ---- a name that is declared
@@ -159,6 +163,10 @@ module _ (base : Option CType) (tree : InitDeclaratorTree) (name : NameTree) whe
     declared_covers : Covers ((its_type (scope_of s0.checker)).found ++ (its_file (scope_of s0.checker)).found) (type_names (scope_of s0.checker) ++ named_at name.place (its_type (scope_of s0.checker)).known) (its_file (scope_of s0.checker)).scope s0 s4
     declared_covers = outside-covers type_part outside_part type_names name (has_first tree.init) false first' second same names third'
 
+    -- its expressions that were kept
+    pub declarator-keeps : (s5 : Pass) {before after : List memory_value.Value} → AddsValues (optional_values (scope_of s4.checker) tree.init) s5.checker.table before after → AddsValues (declarator_values (scope_of s0.checker) base tree (Some name)) s5.checker.table before after
+    declarator-keeps s5 adds = adds-same (ap (λ scope. optional_values scope tree.init) declared_covers.scope) adds
+
     module _ {s5 : Pass} {values : Vec memory_first.First Global}
         (makes : Makes IsFirst (first_rules (scope_of s4.checker) (each_in type_in s4.checker.table own) tree.init) (first_held (scope_of s4.checker) (each_in type_in s4.checker.table own) tree.init) (named_in_first (scope_of s4.checker) tree.init) (scope_of s4.checker) s4 s5 values) where
       whole : Makes IsFirst (file_declarator (scope_of s0.checker) name.place base tree (Some name)).found (first_held (file_declarator (scope_of s0.checker) name.place base tree (Some name)).scope (its_type (scope_of s0.checker)).known tree.init) (named_in_file_declarator (scope_of s0.checker) base tree (Some name)) (file_declarator (scope_of s0.checker) name.place base tree (Some name)).scope s0 s5 values
@@ -235,3 +243,29 @@ module _ {base : Option CType} {t : Option number.CType} {all : List InitDeclara
   pub files-defines : (place : Pos) → Defines old.checker.table defined now.checker.table defined_now (declared_globals (scope_of old.checker) place base all)
   files-defines place = far.defines place now.checker.table defined_now
       (subst (λ (left : List InitDeclaratorTree). Defines now.checker.table defined_now now.checker.table defined_now (declared_globals (scope_of now.checker) place base left)) (sym is) (λ globals functions h. h))
+
+-- what was kept of the declarators so far, and then of those that are left, is what is kept of all
+abbrev pub FilesKept : Option CType → List InitDeclaratorTree → Pass → List memory_value.Value → List InitDeclaratorTree → Pass → List memory_value.Value → Type 0
+FilesKept base all old before left now here =
+    (place : Pos) → ValuesFar (declarators_values (scope_of old.checker) place base all) (declarators_values (scope_of now.checker) place base left) now.checker.table before here
+
+module _ (base : Option CType) (t : Option number.CType) (all : List InitDeclaratorTree) (old now new : Pass) {before here after : List memory_value.Value} where
+  pub kept-declarator : (left rest : List InitDeclaratorTree) (d : InitDeclaratorTree) → left ≡ d ∷ rest → each_in type_in now.checker.table t ≡ base
+      → ((place : Pos) → Covers (file_declarator (scope_of now.checker) place (each_in type_in now.checker.table t) d (declared_name d.declarator)).found (named_in_file_declarator (scope_of now.checker) (each_in type_in now.checker.table t) d (declared_name d.declarator)) (file_declarator (scope_of now.checker) place (each_in type_in now.checker.table t) d (declared_name d.declarator)).scope now new)
+      → AddsValues (declarator_values (scope_of now.checker) (each_in type_in now.checker.table t) d (declared_name d.declarator)) new.checker.table here after
+      → FilesKept base all old before left now here → FilesKept base all old before rest new after
+  kept-declarator left rest d is known one adds far place =
+      let scope = scope_of now.checker in
+      let name = declared_name d.declarator in
+      let covers = one place in
+      let behind : scope_of new.checker ≡ (file_declarator scope place base d name).scope = covers.scope ∙ ap (λ (base : Option CType). (file_declarator scope place base d name).scope) known in
+      subst (λ (there : Scope). ValuesFar (declarators_values (scope_of old.checker) place base all) (declarators_values there place base rest) new.checker.table before after) (sym behind)
+      (kept-more (declarator_values scope base d name)
+      (subst (λ (left : List InitDeclaratorTree). ValuesFar (declarators_values (scope_of old.checker) place base all) (declarators_values scope place base left) now.checker.table before here) is (far place))
+      (stays now.checker.table new.checker.table covers.grows)
+      (adds-same (ap (λ (base : Option CType). declarator_values scope base d name) known) adds))
+
+pub kept-declarators : (base : Option CType) (all : List InitDeclaratorTree) (old now : Pass) {before here : List memory_value.Value} (left : List InitDeclaratorTree) → left ≡ [] → FilesKept base all old before left now here
+    → (place : Pos) → AddsValues (declarators_values (scope_of old.checker) place base all) now.checker.table before here
+kept-declarators base all old now {before = before} {here = here} left none far place =
+    kept-all (subst (λ (left : List InitDeclaratorTree). ValuesFar (declarators_values (scope_of old.checker) place base all) (declarators_values (scope_of now.checker) place base left) now.checker.table before here) none (far place))

@@ -8,7 +8,8 @@ use Rattle.c_syntax.specs.Trees.{NameTree, DeclaratorTree, InitDeclaratorTree, B
 use Rattle.c_typed.specs.declared.definition.Program as memory_program
 use Rattle.c_typed.specs.Types.{CType}
 use Rattle.c_typed.specs.Layouts.{MemberDef, members_by_tag}
-use Rattle.c_typed.specs.Typed.{GlobalDef, FunctionDef}
+use Rattle.c_typed.specs.declared.typed.Value as memory_value
+use Rattle.c_typed.specs.Typed.{Value, GlobalDef, FunctionDef}
 use Rattle.c_typed.specs.Table.{Interned, Grows}
 use Rattle.c_typed.specs.DefinitionViews.{global_in, function_in, literal_of, program_of, GlobalsStand, LiteralsStand, FunctionsStand, ProgramStands}
 use Rattle.c_typed.proofs.Grown.{stays}
@@ -34,10 +35,13 @@ use Rattle.c_types.specs.declared.defined.Defined.{Defined}
 use Rattle.c_types.specs.declared.program.TypeErr.{TypeErr}
 use Rattle.c_types.specs.declared.program.TypeErr.TheVariants as E
 use Rattle.c_types.specs.NamedItems.{named_in_item, named_in_items, named_types}
+use Rattle.c_types.specs.InitialValues.{AddsValues, item_values, items_values, first_values}
 use Rattle.c_types.specs.Made.{Reaches, without_structs}
 use Rattle.c_types.specs.Outside.{IsOutside, HasDefined, item_globals, item_functions}
 use Rattle.c_types.proofs.Covering.{noted-append}
 use Rattle.c_types.proofs.DefinedStays.{defined_stays}
+use Rattle.c_types.proofs.KeptValues.{ValuesFar, adds-grow, kept-none, kept-more, kept-all}
+use Rattle.c_types.proofs.Reaching.{reaches-types}
 
 -- ---- what an item leaves of a scope: its locals, and the functions that the program defines
 
@@ -197,6 +201,32 @@ module _ (program : ProgramTree) (left others : List ItemTree) (tree : ItemTree)
             ∙ ap (λ trees. reading.functions ++ (in_items here trees).functions) (sym is)
             ∙ reading.all_functions;
       }
+
+-- ---- the expressions of first values that were kept
+
+-- with those of the items that are left, they are those of the whole program
+abbrev pub Keeping : ProgramTree → List ItemTree → Pass → List memory_value.Value → Type 0
+Keeping program left pass values = ValuesFar (first_values program) (items_values (scope_of pass.checker) left) pass.checker.table [] values
+
+pub keeping-start : (program : ProgramTree) (pass : Pass) (values : List memory_value.Value) → pass.checker ≡ with_outline program.items no_state → values ≡ [] → Keeping program program.items pass values
+keeping-start program pass values is none =
+    subst (λ (values : List memory_value.Value). Keeping program program.items pass values) (sym none)
+    (subst (λ (all : List Value). ValuesFar all (items_values (scope_of pass.checker) program.items) pass.checker.table [] []) (ap (λ (state : State). items_values (scope_of state) program.items) is)
+    (kept-none (items_values (scope_of pass.checker) program.items) pass.checker.table []))
+
+pub keeping-step : (program : ProgramTree) (left others : List ItemTree) (tree : ItemTree) (now next : Pass) (before after : List memory_value.Value) → left ≡ tree ∷ others
+    → Reaches (item (scope_of now.checker) tree).found (named_in_item (scope_of now.checker) tree) (item (scope_of now.checker) tree).scope now next
+    → AddsValues (item_values (scope_of now.checker) tree) next.checker.table before after → Keeping program left now before → Keeping program others next after
+keeping-step program left others tree now next before after is reaches adds far =
+    subst (λ (there : Scope). ValuesFar (first_values program) (items_values there others) next.checker.table [] after) (sym reaches.scope)
+    (kept-more (item_values (scope_of now.checker) tree)
+    (subst (λ (trees : List ItemTree). ValuesFar (first_values program) (items_values (scope_of now.checker) trees) now.checker.table [] before) is far)
+    (reaches-types reaches) adds)
+
+-- none of the items is left, and the table grows once more
+pub keeping-end : (program : ProgramTree) (left : List ItemTree) (pass : Pass) (values : List memory_value.Value) (table : Interned) → left ≡ [] → Keeping program left pass values → Grows pass.checker.table table → AddsValues (first_values program) table [] values
+keeping-end program left pass values table none far grows =
+    adds-grow grows (kept-all (subst (λ (trees : List ItemTree). Keeping program trees pass values) none far))
 
 -- ---- a program that was read
 

@@ -4,6 +4,7 @@ use Rattle.text_place.specs.declared.place.Pos.{Pos}
 use Rattle.c_syntax.specs.Trees
 use Rattle.c_syntax.specs.Trees.{NameTree, BaseTree, DeclaratorTree, InitDeclaratorTree, BlockTree, ItemTree}
 use Rattle.c_typed.specs.declared.c_type.CType as number
+use Rattle.c_typed.specs.declared.typed.Value as memory_value
 use Rattle.c_typed.specs.Types.{CType}
 use Rattle.c_typed.specs.Table.{Interned, type_in}
 use Rattle.c_typed.specs.Typed.{GlobalDef, FunctionDef}
@@ -18,6 +19,8 @@ use Rattle.c_types.specs.declared.defined.Defined.{Defined}
 use Rattle.c_types.specs.Made.{Covers, Reaches}
 use Rattle.c_types.specs.NamedItems.{named_in_base, named_in_file_declarators, named_in_function, named_in_item}
 use Rattle.c_types.specs.Outside.{HasDefined, item_globals, item_functions}
+use Rattle.c_types.specs.InitialValues.{AddsValues, declarators_values, item_values}
+use Rattle.c_types.proofs.KeptValues.{adds-same}
 use Rattle.c_types.proofs.Reaching.{reaches-then-covers, reaches-types, defined-stays}
 
 -- what is reached of an item, and what is defined with it
@@ -44,6 +47,9 @@ module _ {s t : Pass} (base : BaseTree) (c_type : Option number.CType)
         let of_base : Option CType = (base_type (scope_of s.checker) base).type_of.known in
         reaches-then-covers (λ scope. (file_declarators scope (base_place base) of_base trees).found) (λ scope. named_in_file_declarators scope (base_place base) of_base trees) (λ scope. (file_declarators scope (base_place base) of_base trees).scope) first
         (subst (λ b. Covers (file_declarators (scope_of t.checker) (base_place base) b trees).found (named_in_file_declarators (scope_of t.checker) (base_place base) b trees) (file_declarators (scope_of t.checker) (base_place base) b trees).scope t u) known covers)
+
+    pub keeps-declaration : {before after : List memory_value.Value} → AddsValues (declarators_values (scope_of t.checker) (base_place base) (each_in type_in t.checker.table c_type) trees) u.checker.table before after → AddsValues (item_values (scope_of s.checker) (Trees.Declaration base trees)) u.checker.table before after
+    keeps-declaration adds = adds-same (λ i. declarators_values (first.scope i) (base_place base) (known i) trees) adds
 
     pub defines-declaration : {old new : Defined}
         → ((globals : List GlobalDef) (functions : List FunctionDef) → HasDefined t.checker.table old globals functions → HasDefined u.checker.table new (each_global globals (declared_globals (scope_of t.checker) (base_place base) (each_in type_in t.checker.table c_type) trees)) functions)

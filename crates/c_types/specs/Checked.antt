@@ -1,5 +1,5 @@
 -- What checking each part of a text comes to, and what is made of it.
-use Rattle.std.specs.Prelude.{◌≡◌, Bool, false, ℕ, ℤ, List, [], ◌++◌, map, Option, Some, None, Vec}
+use Rattle.std.specs.Prelude.{◌≡◌, Bool, false, if◌then◌else◌, ℕ, ℤ, List, [], ◌∷◌, ◌++◌, map, Option, Some, None, Vec}
 use Rattle.text_place.specs.declared.place.Pos.{Pos}
 use Rattle.c_num.specs.declared.IntType.{IntType}
 use Rattle.c_syntax.specs.declared.declaration.Member as text_member
@@ -29,15 +29,17 @@ use Rattle.c_typed.specs.declared.structure.Member as memory_member
 use Rattle.c_typed.specs.declared.c_type.StructId as tag
 use Rattle.c_typed.specs.Types as T
 use Rattle.c_typed.specs.Types.{CType}
-use Rattle.c_typed.specs.Values.{FirstScalar}
+use Rattle.c_typed.specs.Values.{FirstScalar, NullValue}
 use Rattle.c_typed.specs.Typed as typed
 use Rattle.c_typed.specs.Typed.{GlobalDef, FunctionDef}
 use Rattle.c_typed.specs.Table.{Interned, type_in, tag_in, structs_in, members_of}
+use Rattle.c_typed.specs.Views.{value_in}
 use Rattle.c_typed.specs.DefinitionViews.{all_first}
 use Rattle.c_rules.specs.declared.rule.TypeRule.{TypeRule}
 use Rattle.c_rules.specs.declared.violation.Violation.{Violation}
 use Rattle.c_rules.specs.Names.{Scope, file_name}
 use Rattle.c_rules.specs.Known.{as_value, at}
+use Rattle.c_rules.specs.Constants.{address_as}
 use Rattle.c_rules.specs.Operators.{as_integer}
 use Rattle.c_rules.specs.Expressions as expressions
 use Rattle.c_rules.specs.Initializers as initializers
@@ -46,7 +48,8 @@ use Rattle.c_rules.specs.Programs as programs
 use Rattle.c_rules.specs.Elaborated as elaborated
 use Rattle.c_types_state.specs.declared.file_name.FileEntry as memory_file
 use Rattle.c_types_state.specs.NameTables.{State, scope_of}
-use Rattle.c_types_state.specs.Finding.{each_in, noted}
+use Rattle.c_types_state.specs.declared.known.Address as memory_address
+use Rattle.c_types_state.specs.Finding.{each_in, address_in, noted}
 use Rattle.c_types_state.specs.Staying.{IsValue, IsSame}
 use Rattle.c_types_operands.specs.declared.operands.Operand as memory_operand
 use Rattle.c_types_operands.specs.Operands.{IsOperand, operand_in}
@@ -62,6 +65,7 @@ use Rattle.c_types.specs.NamedItems.{named_in_init, named_in_inits, named_in_fir
 use Rattle.c_types.specs.Made.{Covers, Makes, Reaches, IsBoth, IsOptionalType, IsOptionalValue, IsStmt, IsBlock, IsSwitchItems, IsStart, IsLocal, IsLocals, IsFirst, IsMembers, AddsItems}
 use Rattle.c_types.specs.Parts.{around_in, behind_block, item_found, item_named, item_adds, item_scope, part_found, part_named, part_adds, IsPart, switched_type, switched_value}
 use Rattle.c_types.specs.FirstValues.{HoldsFirst, scalar_found, too_many}
+use Rattle.c_types.specs.InitialValues.{AddsValues, init_values, inits_values, optional_values, declarator_values, declarators_values, item_values}
 use Rattle.c_types.specs.Outside.{HasDefined, defs_in, item_globals, item_functions, row_of, local_type, local_types, AreTypes}
 
 -- ---- values
@@ -234,6 +238,26 @@ CoversAllWithin tree old new = Covers (initializers.found_within_all (scope_of o
 abbrev pub CoversTooMany : InitsTree → Pass → Pass → Type 0
 CoversTooMany tree old new = Covers (too_many (scope_of old.checker) tree) (named_in_inits (scope_of old.checker) tree) (scope_of old.checker) old new
 
+-- an expression for its typed tree alone
+abbrev pub CoversValue : ExprTree → Pass → Pass → Type 0
+CoversValue tree old new = Covers (initializers.value_found (scope_of old.checker) tree) (named_in (scope_of old.checker) tree) (scope_of old.checker) old new
+
+-- their typed trees, which are kept
+abbrev pub AddsExpr : ExprTree → Pass → Pass → List memory_value.Value → List memory_value.Value → Type 0
+AddsExpr tree old new before after = AddsValues (elaborated.value_of (scope_of old.checker) tree ∷ []) new.checker.table before after
+
+abbrev pub AddsInit : InitTree → Pass → Pass → List memory_value.Value → List memory_value.Value → Type 0
+AddsInit tree old new before after = AddsValues (init_values (scope_of old.checker) tree) new.checker.table before after
+
+abbrev pub AddsInits : InitsTree → Pass → Pass → List memory_value.Value → List memory_value.Value → Type 0
+AddsInits tree old new before after = AddsValues (inits_values (scope_of old.checker) tree) new.checker.table before after
+
+abbrev pub AddsOptional : Option InitTree → Pass → Pass → List memory_value.Value → List memory_value.Value → Type 0
+AddsOptional tree old new before after = AddsValues (optional_values (scope_of old.checker) tree) new.checker.table before after
+
+abbrev pub AddsOperand : memory_operand.Operand → Pass → Pass → List memory_value.Value → List memory_value.Value → Type 0
+AddsOperand operand old new before after = AddsValues (value_in old.checker.table operand.value.value ∷ []) new.checker.table before after
+
 -- these are no literal in braces
 abbrev pub IsNoText : InitsTree → Type 0
 IsNoText tree = (place : Pos) (element : CType) → (initializers.literal_alone (Trees.InitList place tree) ≡ None) × (initializers.is_text element tree ≡ false)
@@ -308,12 +332,13 @@ HoldsScalar pass index c_type operand old new =
     HoldsFirst (elaborated.scalar_held (scope_of pass.checker) old.parts.items index (type_in pass.checker.table c_type) (Some (operand_in pass.checker.table operand))) old new
 
 -- a pointer: what it violates was noted
-abbrev pub NotesPointer : Pos → number.CType → memory_operand.Operand → State → State → Type 0
-NotesPointer place pointed operand old new =
-    new ≡ record old { least = noted old.least (initializers.known_first (scope_of old) place (T.Pointer (type_in old.table pointed)) (operand_in old.table operand)) }
+abbrev pub NotesPointer : Pos → number.CType → Bool → memory_address.Address → State → State → Type 0
+NotesPointer place pointed is_null address old new =
+    new ≡ record old { least = noted old.least (if is_null then [] else initializers.address_first place (address_as (scope_of old).completed (T.Pointer (type_in old.table pointed)) (address_in old.table address))) }
 
-abbrev pub first_pointer : State → number.CType → memory_operand.Operand → FirstScalar
-first_pointer state pointed operand = elaborated.scalar_of (scope_of state) (T.Pointer (type_in state.table pointed)) (operand_in state.table operand)
+abbrev pub first_pointer : State → number.CType → Bool → memory_address.Address → FirstScalar
+first_pointer state pointed is_null address =
+    if is_null then NullValue else elaborated.address_value (address_as (scope_of state).completed (T.Pointer (type_in state.table pointed)) (address_in state.table address))
 
 -- ---- outside functions
 
@@ -354,6 +379,17 @@ abbrev pub DefinesGlobal : NameTree → Option number.CType → List memory_firs
 DefinesGlobal name c_type first table before after =
     (globals : List GlobalDef) (functions : List FunctionDef) → HasDefined table before globals functions
     → HasDefined table after (elaborated.each_global globals (elaborated.global_of name (each_in type_in table c_type) (all_first first))) functions
+
+-- the typed trees of their first values' expressions
+abbrev pub AddsFirstOfDeclarator : Option number.CType → InitDeclaratorTree → Pass → Pass → List memory_value.Value → List memory_value.Value → Type 0
+AddsFirstOfDeclarator base tree old new before after =
+    AddsValues (declarator_values (scope_of old.checker) (each_in type_in old.checker.table base) tree (expressions.declared_name tree.declarator)) new.checker.table before after
+
+abbrev pub AddsFirstOfFile : Pos → Option number.CType → List InitDeclaratorTree → Pass → Pass → List memory_value.Value → List memory_value.Value → Type 0
+AddsFirstOfFile place base trees old new before after = AddsValues (declarators_values (scope_of old.checker) place (each_in type_in old.checker.table base) trees) new.checker.table before after
+
+abbrev pub AddsFirstOfItem : ItemTree → Pass → Pass → List memory_value.Value → List memory_value.Value → Type 0
+AddsFirstOfItem tree old new before after = AddsValues (item_values (scope_of old.checker) tree) new.checker.table before after
 
 -- a function with its body
 abbrev pub CoversFunction : Option number.CType → text_declarator.Declarator → text_block.Block → text_name.Name → Pass → Pass → Type 0

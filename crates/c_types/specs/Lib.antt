@@ -2,6 +2,7 @@ pub mod Made
 pub mod NamedItems
 pub mod Parts
 pub mod FirstValues
+pub mod InitialValues
 pub mod Globals
 pub mod Outside
 pub mod Checked

@@ -10,10 +10,10 @@ ghost use Rattle.c_rules.specs.Programs as programs;
 ghost use Rattle.c_types_state.specs.Finding.{AllStand};
 ghost use Rattle.c_types_expressions.specs.Roles.{role_of};
 ghost use Rattle.c_types.specs.Checked.{CoversWithin, CoversAllWithin, CoversTooMany, IsNoText, MakesLocalFirst, MakesLocalValue, CoversFirst};
-ghost use Rattle.c_types.specs.Checked.{HoldsInit, HoldsMember, CoversElements, HoldsElements, CoversStruct, HoldsStruct};
+ghost use Rattle.c_types.specs.Checked.{HoldsInit, HoldsMember, CoversElements, HoldsElements, CoversStruct, HoldsStruct, AddsInit, AddsInits};
 
 use crate::scalars::value_first;
-use crate::values::{value, value_as};
+use crate::values::{keep_value, value, value_as};
 use c_rules::TypeRule;
 use c_syntax::{ByteString, Expr, Init};
 use c_typed::{CType, First, Part, Shape, StructId, Value};
@@ -92,36 +92,48 @@ pub(crate) fn initialized_role(init: &Option<Init>) -> LengthRole
 
 /// The rules of the expressions in an initializer alone.
 #[cycle(within)]
-pub(crate) fn found_within(pass: &mut Pass, init: &Init) -> Result<(), AllocError>
-    ensures { OnOk result (CoversWithin (init_tree init.now) pass.old pass.new) }
+pub(crate) fn found_within(
+    pass: &mut Pass,
+    values: &mut Vec<Value>,
+    init: &Init,
+) -> Result<(), AllocError>
+    ensures found { OnOk result (CoversWithin (init_tree init.now) pass.old pass.new) }
+    ensures values { OnOk result (AddsInit (init_tree init.now) pass.old pass.new values.old.items values.new.items) }
 {
     match init {
-        Init::Value(tree) => {
-            drop(value(pass, tree)?);
-            Ok(())
-        }
-        Init::List { inits, .. } => found_within_all(pass, inits),
+        Init::Value(tree) => keep_value(pass, values, tree),
+        Init::List { inits, .. } => found_within_all(pass, values, inits),
     }
 }
 
 #[cycle(within)]
-pub(crate) fn found_within_all(pass: &mut Pass, inits: &[Init]) -> Result<(), AllocError>
-    ensures { OnOk result (CoversAllWithin (inits_of inits.now) pass.old pass.new) }
+pub(crate) fn found_within_all(
+    pass: &mut Pass,
+    values: &mut Vec<Value>,
+    inits: &[Init],
+) -> Result<(), AllocError>
+    ensures found { OnOk result (CoversAllWithin (inits_of inits.now) pass.old pass.new) }
+    ensures values { OnOk result (AddsInits (inits_of inits.now) pass.old pass.new values.old.items values.new.items) }
 {
     for init in inits {
-        found_within(pass, init)?;
+        found_within(pass, values, init)?;
     }
     Ok(())
 }
 
 /// Initializers for which there is no element or member; the first of them is refused (C17 6.7.9 paragraph 2).
-fn refuse_too_many(pass: &mut Pass, inits: &[Init]) -> Result<(), AllocError>
-    ensures { OnOk result (CoversTooMany (inits_of inits.now) pass.old pass.new) }
+fn refuse_too_many(
+    pass: &mut Pass,
+    values: &mut Vec<Value>,
+    inits: &[Init],
+) -> Result<(), AllocError>
+    ensures found { OnOk result (CoversTooMany (inits_of inits.now) pass.old pass.new) }
+    ensures values { OnOk result (AddsInits (inits_of inits.now) pass.old pass.new values.old.items values.new.items) }
 {
     if let Some(first) = inits.first() {
         pass.checker.note(TypeRule::T18, init_place(first));
     }
-    found_within_all(pass, inits)
+    found_within_all(pass, values, inits)
 }
 
 // ---- locals
@@ -141,12 +153,14 @@ pub(crate) fn local_first(
             Ok(Some(Box::new(pass.alloc(), Value::NullPointer)?))
         }
         (None, Init::List { inits, .. }) => {
-            found_within_all(pass, inits)?;
+            let mut values = Vec::new(pass.alloc());
+            found_within_all(pass, &mut values, inits)?;
             Ok(None)
         }
         (Some(_), Init::List { place, inits }) => {
             pass.checker.note(TypeRule::T18, *place);
-            found_within_all(pass, inits)?;
+            let mut values = Vec::new(pass.alloc());
+            found_within_all(pass, &mut values, inits)?;
             Ok(None)
         }
         (Some(c_type), Init::Value(tree)) => Ok(Some(local_value(pass, c_type, tree)?)),
@@ -183,7 +197,7 @@ fn local_value(pass: &mut Pass, c_type: CType, tree: &Expr) -> Result<Box<Value>
     value_as(&pass.checker, c_type, place, operand)
 }
 
-// ---- globals
+// ---- globals: the typed trees of all their expressions are kept
 
 /// Where first values go: the element with an index of the row to which these steps lead.
 #[derive(Drop)]
@@ -206,6 +220,7 @@ impl Target {
 pub(crate) fn first_of(
     pass: &mut Pass,
     target: &mut Target,
+    values: &mut Vec<Value>,
     index: u64,
     c_type: Option<CType>,
     init: &Init,
@@ -213,13 +228,16 @@ pub(crate) fn first_of(
     requires { AllStand Stands pass.old.checker.table c_type }
     ensures found { OnOk result (CoversFirst c_type (init_tree init.now) pass.old pass.new) }
     ensures held { OnOk result (HoldsInit pass.old index c_type (init_tree init.now) target.old target.new) }
+    ensures values { OnOk result (AddsInit (init_tree init.now) pass.old pass.new values.old.items values.new.items) }
 {
     let Some(c_type) = c_type else {
-        return found_within(pass, init);
+        return found_within(pass, values, init);
     };
     match init {
-        Init::Value(tree) => value_first(pass, target, index, c_type, tree),
-        Init::List { place, inits } => list_first(pass, target, index, c_type, *place, inits),
+        Init::Value(tree) => value_first(pass, target, values, index, c_type, tree),
+        Init::List { place, inits } => list_first(
+            pass, target, values, index, c_type, *place, inits,
+        ),
     }
 }
 
@@ -228,6 +246,7 @@ pub(crate) fn first_of(
 fn list_first(
     pass: &mut Pass,
     target: &mut Target,
+    values: &mut Vec<Value>,
     index: u64,
     c_type: CType,
     place: Pos,
@@ -236,23 +255,24 @@ fn list_first(
     requires { Stands pass.old.checker.table c_type }
     ensures found { OnOk result (CoversFirst (Some c_type) (Trees.InitList place (inits_of inits.now)) pass.old pass.new) }
     ensures held { OnOk result (HoldsInit pass.old index (Some c_type) (Trees.InitList place (inits_of inits.now)) target.old target.new) }
+    ensures values { OnOk result (AddsInits (inits_of inits.now) pass.old pass.new values.old.items values.new.items) }
 {
     match pass.checker.shape(c_type) {
         Shape::Array { element, length } => {
             if let Some(tree) = value_in(inits) {
                 if literal_of(tree).is_some() && is_character(&pass.checker, element) {
-                    return value_first(pass, target, index, c_type, tree);
+                    return value_first(pass, target, values, index, c_type, tree);
                 }
             }
             target.parts.push(Part::Elements { index })?;
-            elements_first(pass, target, element, length, inits)?;
+            elements_first(pass, target, values, element, length, inits)?;
             target.parts.pop();
             Ok(())
         }
-        Shape::Struct(id) => members_first(pass, target, index, id, inits),
+        Shape::Struct(id) => members_first(pass, target, values, index, id, inits),
         _ => {
             pass.checker.note(TypeRule::T18, place);
-            found_within_all(pass, inits)
+            found_within_all(pass, values, inits)
         }
     }
 }
@@ -262,6 +282,7 @@ fn list_first(
 fn elements_first(
     pass: &mut Pass,
     target: &mut Target,
+    values: &mut Vec<Value>,
     element: CType,
     length: u64,
     inits: &[Init],
@@ -269,12 +290,20 @@ fn elements_first(
     requires { Stands pass.old.checker.table element }
     ensures found { OnOk result (CoversElements element length (inits_of inits.now) pass.old pass.new) }
     ensures held { OnOk result (HoldsElements pass.old element length (inits_of inits.now) target.old target.new) }
+    ensures values { OnOk result (AddsInits (inits_of inits.now) pass.old pass.new values.old.items values.new.items) }
 {
     for index in 0..inits.len() {
         if index as u64 >= length {
-            return refuse_too_many(pass, &inits[index..]);
+            return refuse_too_many(pass, values, &inits[index..]);
         }
-        first_of(pass, target, index as u64, Some(element), &inits[index])?;
+        first_of(
+            pass,
+            target,
+            values,
+            index as u64,
+            Some(element),
+            &inits[index],
+        )?;
     }
     Ok(())
 }
@@ -284,6 +313,7 @@ fn elements_first(
 fn members_first(
     pass: &mut Pass,
     target: &mut Target,
+    values: &mut Vec<Value>,
     index: u64,
     id: StructId,
     inits: &[Init],
@@ -291,12 +321,13 @@ fn members_first(
     requires { TagStands pass.old.checker.table id }
     ensures found { OnOk result (CoversStruct id (inits_of inits.now) pass.old pass.new) }
     ensures held { OnOk result (HoldsStruct pass.old index id (inits_of inits.now) target.old target.new) }
+    ensures values { OnOk result (AddsInits (inits_of inits.now) pass.old pass.new values.old.items values.new.items) }
 {
     for number in 0..inits.len() {
         let Some(c_type) = pass.checker.member_at(id, number) else {
-            return refuse_too_many(pass, &inits[number..]);
+            return refuse_too_many(pass, values, &inits[number..]);
         };
-        member_first(pass, target, index, number, c_type, &inits[number])?;
+        member_first(pass, target, values, index, number, c_type, &inits[number])?;
     }
     Ok(())
 }
@@ -306,6 +337,7 @@ fn members_first(
 fn member_first(
     pass: &mut Pass,
     target: &mut Target,
+    values: &mut Vec<Value>,
     index: u64,
     number: usize,
     c_type: Option<CType>,
@@ -314,10 +346,11 @@ fn member_first(
     requires { AllStand Stands pass.old.checker.table c_type }
     ensures found { OnOk result (CoversFirst c_type (init_tree init.now) pass.old pass.new) }
     ensures held { OnOk result (HoldsMember pass.old index number c_type (init_tree init.now) target.old target.new) }
+    ensures values { OnOk result (AddsInit (init_tree init.now) pass.old pass.new values.old.items values.new.items) }
 {
     let number = u32::try_from(number).map_err(|_| AllocError)?;
     target.parts.push(Part::Member { index, number })?;
-    first_of(pass, target, 0, c_type, init)?;
+    first_of(pass, target, values, 0, c_type, init)?;
     target.parts.pop();
     Ok(())
 }

@@ -13,6 +13,7 @@ ghost use Rattle.c_types.specs.Outside.{IsOutside, outside_rule, body_rule, row_
 ghost use Rattle.c_types_expressions.specs.Parts.{OfType};
 ghost use Rattle.c_types.specs.Checked.{ReachesItem, DefinesItem, CoversFile, DefinesFile, CoversDeclarator, DefinesDeclarator, DefinesGlobal};
 ghost use Rattle.c_types.specs.Checked.{CoversFunction, DefinesFunction, CoversOutside, CoversAgain, IsJoined, CoversMain, MakesMain, MakesFirst};
+ghost use Rattle.c_types.specs.Checked.{AddsOptional, AddsFirstOfDeclarator, AddsFirstOfFile, AddsFirstOfItem};
 
 use crate::defined::Defined;
 use crate::initializers::{Target, first_of, initialized_role};
@@ -23,22 +24,28 @@ use c_num::IntType;
 use c_rules::TypeRule;
 use c_syntax::{Block, Declarator, Init, InitDeclarator, Item, Name};
 use c_typed as typed;
-use c_typed::{ByteString, CType, Shape};
+use c_typed::{ByteString, CType, Shape, Value};
 use c_types_expressions::{LengthRole, Pass, declared_name, declared_type};
 use c_types_state::{Checker, FileEntry, library_function};
 use std::alloc::AllocError;
 use text_place::Pos;
 
 /// An item: what it violates, and what it defines.
-pub(crate) fn item(pass: &mut Pass, defined: &mut Defined, item: &Item) -> Result<(), AllocError>
+pub(crate) fn item(
+    pass: &mut Pass,
+    defined: &mut Defined,
+    values: &mut Vec<Value>,
+    item: &Item,
+) -> Result<(), AllocError>
     requires { IsOutside (scope_of pass.old.checker) }
     ensures reaches { OnOk result (ReachesItem (item_tree item.now) pass.old pass.new) }
     ensures defined { OnOk result (DefinesItem (item_tree item.now) pass.old pass.new defined.old defined.new) }
+    ensures values { OnOk result (AddsFirstOfItem (item_tree item.now) pass.old pass.new values.old.items values.new.items) }
 {
     match item {
         Item::Declaration { base, declarators } => {
             let c_type = base_type(pass, base)?;
-            file_declarators(pass, defined, c_type, declarators.as_slice())
+            file_declarators(pass, defined, values, c_type, declarators.as_slice())
         }
         Item::Function {
             base,
@@ -58,15 +65,17 @@ pub(crate) fn item(pass: &mut Pass, defined: &mut Defined, item: &Item) -> Resul
 fn file_declarators(
     pass: &mut Pass,
     defined: &mut Defined,
+    values: &mut Vec<Value>,
     base: Option<CType>,
     trees: &[InitDeclarator],
 ) -> Result<(), AllocError>
     requires { AllStand Stands pass.old.checker.table base }
     ensures covers { OnOk result ((place : Pos) → CoversFile place base (map init_declarator_tree trees.now) pass.old pass.new) }
     ensures defined { OnOk result ((place : Pos) → DefinesFile place base (map init_declarator_tree trees.now) pass.old pass.new defined.old defined.new) }
+    ensures values { OnOk result ((place : Pos) → AddsFirstOfFile place base (map init_declarator_tree trees.now) pass.old pass.new values.old.items values.new.items) }
 {
     for tree in trees {
-        file_declarator(pass, defined, base, tree)?;
+        file_declarator(pass, defined, values, base, tree)?;
     }
     Ok(())
 }
@@ -75,12 +84,14 @@ fn file_declarators(
 fn file_declarator(
     pass: &mut Pass,
     defined: &mut Defined,
+    values: &mut Vec<Value>,
     base: Option<CType>,
     tree: &InitDeclarator,
 ) -> Result<(), AllocError>
     requires { AllStand Stands pass.old.checker.table base }
     ensures covers { OnOk result ((place : Pos) → CoversDeclarator place base (init_declarator_tree tree.now) pass.old pass.new) }
     ensures defined { OnOk result (DefinesDeclarator base (init_declarator_tree tree.now) pass.old pass.new defined.old defined.new) }
+    ensures values { OnOk result (AddsFirstOfDeclarator base (init_declarator_tree tree.now) pass.old pass.new values.old.items values.new.items) }
 {
     let Some(name) = declared_name(&tree.declarator) else {
         return Ok(());
@@ -90,7 +101,7 @@ fn file_declarator(
     let own = as_outside(&mut pass.checker, name.place, declared);
     pass.name_type(name.place, own)?;
     declare_outside(pass, name, own, tree.init.is_some(), false)?;
-    let first = first_values(pass, own, &tree.init)?;
+    let first = first_values(pass, values, own, &tree.init)?;
     define_global(&pass.checker, defined, name, own, first)
 }
 
@@ -276,18 +287,20 @@ fn joined(old: FileEntry, new: FileEntry) -> FileEntry
 /// The first values that an initializer, where there is one, gives a global.
 fn first_values(
     pass: &mut Pass,
+    values: &mut Vec<Value>,
     c_type: Option<CType>,
     init: &Option<Init>,
 ) -> Result<Vec<typed::First>, AllocError>
     requires { AllStand Stands pass.old.checker.table c_type }
-    ensures { IfOk result (MakesFirst c_type (option_map init_tree init.now) pass.old pass.new) }
+    ensures made { IfOk result (MakesFirst c_type (option_map init_tree init.now) pass.old pass.new) }
+    ensures values { IfOk result (λ _. AddsOptional (option_map init_tree init.now) pass.old pass.new values.old.items values.new.items) }
 {
     let mut target = Target {
         parts: Vec::new(pass.alloc()),
         first: Vec::new(pass.alloc()),
     };
     if let Some(init) = init {
-        first_of(pass, &mut target, 0, c_type, init)?;
+        first_of(pass, &mut target, values, 0, c_type, init)?;
     }
     Ok(target.first)
 }

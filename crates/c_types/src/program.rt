@@ -2,6 +2,7 @@
 
 ghost use Rattle.std.specs.Prelude.{◌≡◌, [], Some, map, IfOk, Err};
 ghost use Rattle.c_syntax.specs.Views.{program_tree};
+ghost use Rattle.c_typed.specs.Views.{value_in, ValuesStand};
 ghost use Rattle.c_typed.specs.DefinitionViews.{program_of, ProgramStands};
 ghost use Rattle.c_rules.specs.Programs as rules;
 ghost use Rattle.c_rules.specs.Elaborated as elaborated;
@@ -9,13 +10,14 @@ ghost use Rattle.c_well_typed.specs.Programs.{IsWellTyped};
 ghost use Rattle.c_types.specs.Literals.{LiteralsApart};
 ghost use Rattle.c_types_expressions.specs.Passes.{named_type, AllNamedStand};
 ghost use Rattle.c_types.specs.NamedItems.{named_types};
+ghost use Rattle.c_types.specs.InitialValues.{first_values};
 
 use crate::defined::Defined;
 use crate::items::item;
 use c_rules::{TypeRule, Violation};
 use c_syntax::{Base, Item, Program};
 use c_typed as typed;
-use c_typed::ByteString;
+use c_typed::{ByteString, Value};
 use c_types_expressions::{NamedType, Pass};
 use c_types_state::{literals_of, outermost};
 use indexmap::IndexSet;
@@ -26,6 +28,8 @@ use std::alloc::{AllocError, Global};
 pub struct Typed {
     pub program: typed::Program,
     pub named: Vec<NamedType>,
+    /// The expressions of the first values of variables outside functions, of which the program keeps the values alone.
+    pub first_values: Vec<Value>,
 }
 
 /// Why there is no typed tree.
@@ -53,14 +57,17 @@ pub fn check(alloc: Global, program: &Program) -> Result<Typed, TypeErr>
     ensures well_typed { IfOk result (λ typed. LiteralsApart (program_tree program.now) → IsWellTyped (program_of typed.program)) }
     ensures named { IfOk result (λ typed. map (named_type typed.program.types) typed.named.items ≡ named_types (program_tree program.now)) }
     ensures stands { IfOk result (λ typed. ProgramStands typed.program × AllNamedStand typed.program.types typed.named.items) }
+    ensures first { IfOk result (λ typed. map (value_in typed.program.types) typed.first_values.items ≡ first_values (program_tree program.now)) }
+    ensures first_stands { IfOk result (λ typed. ValuesStand typed.program.types typed.first_values.items) }
     ensures refused { (violation : Violation) → result ≡ Err (TypeErr.Rule violation) → rules.refusal (program_tree program.now) ≡ Some violation }
 {
     let completed = completed_by(alloc, program)?;
     let mut pass = Pass::new(alloc);
     outermost(&mut pass.checker, program)?;
     let mut defined = Defined::new(alloc);
+    let mut first_values = Vec::new(alloc);
     for tree in program.items.as_slice() {
-        item(&mut pass, &mut defined, tree)?;
+        item(&mut pass, &mut defined, &mut first_values, tree)?;
     }
     let has_main = pass.checker.defines(b"main");
     pass.checker.require(has_main, TypeRule::T01, program.end);
@@ -80,6 +87,7 @@ pub fn check(alloc: Global, program: &Program) -> Result<Typed, TypeErr>
             functions,
         },
         named,
+        first_values,
     })
 }
 

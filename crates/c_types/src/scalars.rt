@@ -9,18 +9,19 @@ ghost use Rattle.c_rules.specs.declared.rule.TypeRule.TheVariants as R;
 ghost use Rattle.c_rules.specs.Known.{unless};
 ghost use Rattle.c_rules.specs.Initializers as rules;
 ghost use Rattle.c_rules.specs.Elaborated as elaborated;
-ghost use Rattle.c_types_state.specs.Finding.{noted};
+ghost use Rattle.c_types_state.specs.Finding.{noted, AddressStands};
 ghost use Rattle.c_types_state.specs.NameTables.{scope_of};
 ghost use Rattle.c_types_operands.specs.Operands.{OperandStands};
 ghost use Rattle.c_types.specs.Made.{Covers};
 ghost use Rattle.c_types.specs.Checked.{CoversExpr, HoldsExpr, CoversRefused, HoldsText, CoversScalar, HoldsScalar, NotesPointer, first_pointer};
+ghost use Rattle.c_types.specs.Checked.{AddsExpr, AddsOperand};
 
 use crate::initializers::Target;
-use crate::values::value;
+use crate::values::{keep_value, value};
 use c_num::{IntType, convert};
 use c_rules::{Constness, TypeRule};
 use c_syntax::{ByteString, Expr};
-use c_typed::{CType, First, Held, Part, Scalar, Shape};
+use c_typed::{CType, First, Held, Part, Scalar, Shape, Value};
 use c_types_expressions::{Pass, is_character, place_of};
 use c_types_operands::{Operand, fits, retyped};
 use c_types_state::{Address, Checker};
@@ -31,6 +32,7 @@ use text_place::Pos;
 pub(crate) fn value_first(
     pass: &mut Pass,
     target: &mut Target,
+    values: &mut Vec<Value>,
     index: u64,
     c_type: CType,
     tree: &Expr,
@@ -38,16 +40,24 @@ pub(crate) fn value_first(
     requires { Stands pass.old.checker.table c_type }
     ensures found { OnOk result (CoversExpr (type_in pass.old.checker.table c_type) (expr_tree tree.now) pass.old pass.new) }
     ensures held { OnOk result (HoldsExpr pass.old index (type_in pass.old.checker.table c_type) (expr_tree tree.now) target.old target.new) }
+    ensures values { OnOk result (AddsExpr (expr_tree tree.now) pass.old pass.new values.old.items values.new.items) }
 {
     match pass.checker.shape(c_type) {
-        Shape::Array { element, length } => array_first(pass, target, index, element, length, tree),
-        Shape::Struct(_) => refused_first(pass, TypeRule::T18, tree),
-        Shape::Function { .. } => refused_first(pass, TypeRule::T10, tree),
+        Shape::Array { element, length } => {
+            array_first(pass, target, values, index, element, length, tree)
+        }
+        Shape::Struct(_) => refused_first(pass, values, TypeRule::T18, tree),
+        Shape::Function { .. } => refused_first(pass, values, TypeRule::T10, tree),
         _ => {
             let place = place_of(tree);
             match value(pass, tree)? {
-                Some(operand) => scalar_first(pass, target, index, place, c_type, operand),
-                None => Ok(()),
+                Some(operand) => {
+                    scalar_first(pass, target, values, index, place, c_type, operand)
+                }
+                None => {
+                    values.push(Value::NullPointer)?;
+                    Ok(())
+                }
             }
         }
     }
@@ -57,6 +67,7 @@ pub(crate) fn value_first(
 fn array_first(
     pass: &mut Pass,
     target: &mut Target,
+    values: &mut Vec<Value>,
     index: u64,
     element: CType,
     length: u64,
@@ -65,25 +76,33 @@ fn array_first(
     requires { Stands pass.old.checker.table element }
     ensures found { OnOk result (CoversExpr (T.Array (type_in pass.old.checker.table element) length) (expr_tree tree.now) pass.old pass.new) }
     ensures held { OnOk result (HoldsExpr pass.old index (T.Array (type_in pass.old.checker.table element) length) (expr_tree tree.now) target.old target.new) }
+    ensures values { OnOk result (AddsExpr (expr_tree tree.now) pass.old pass.new values.old.items values.new.items) }
 {
     match tree {
         Expr::Literal { bytes, place } => {
             if is_character(&pass.checker, element) {
-                text_first(pass, target, index, element, length, bytes, *place)
+                text_first(pass, target, index, element, length, bytes, *place)?;
+                keep_value(pass, values, tree)
             } else {
-                refused_first(pass, TypeRule::T18, tree)
+                refused_first(pass, values, TypeRule::T18, tree)
             }
         }
-        _ => refused_first(pass, TypeRule::T18, tree),
+        _ => refused_first(pass, values, TypeRule::T18, tree),
     }
 }
 
 /// An expression as the first value of what no expression initializes.
-fn refused_first(pass: &mut Pass, kind: TypeRule, tree: &Expr) -> Result<(), AllocError>
-    ensures { OnOk result (CoversRefused kind (expr_tree tree.now) pass.old pass.new) }
+fn refused_first(
+    pass: &mut Pass,
+    values: &mut Vec<Value>,
+    kind: TypeRule,
+    tree: &Expr,
+) -> Result<(), AllocError>
+    ensures found { OnOk result (CoversRefused kind (expr_tree tree.now) pass.old pass.new) }
+    ensures values { OnOk result (AddsExpr (expr_tree tree.now) pass.old pass.new values.old.items values.new.items) }
 {
     let place = place_of(tree);
-    drop(value(pass, tree)?);
+    keep_value(pass, values, tree)?;
     pass.checker.note(kind, place);
     Ok(())
 }
@@ -131,6 +150,7 @@ fn character_type(checker: &Checker, element: CType) -> IntType
 fn scalar_first(
     pass: &mut Pass,
     target: &mut Target,
+    values: &mut Vec<Value>,
     index: u64,
     place: Pos,
     c_type: CType,
@@ -140,18 +160,28 @@ fn scalar_first(
     requires operand { OperandStands pass.old.checker.table operand }
     ensures found { OnOk result (CoversScalar place c_type operand pass.old pass.new) }
     ensures held { OnOk result (HoldsScalar pass.old index c_type operand target.old target.new) }
+    ensures values { OnOk result (AddsOperand operand pass.old pass.new values.old.items values.new.items) }
 {
     let fits = fits(&pass.checker, c_type, &operand);
+    let Operand {
+        value,
+        constness,
+        is_null,
+        address,
+        ..
+    } = operand;
+    values.push(Box::into_inner(value))?;
     if !pass.checker.require(fits, TypeRule::T10, place) {
         return Ok(());
     }
     let value = match pass.checker.shape(c_type) {
         Shape::Integer(int_type) => {
-            let constness = operand.constness;
-            drop(operand);
+            drop(address);
             integer_first(&mut pass.checker, place, int_type, constness)
         }
-        Shape::Pointer(pointed) => pointer_first(&mut pass.checker, place, pointed, operand),
+        Shape::Pointer(pointed) => {
+            pointer_first(&mut pass.checker, place, pointed, is_null, address)
+        }
         _ => return Ok(()),
     };
     let parts = target.parts_here(pass.alloc())?;
@@ -182,16 +212,22 @@ fn integer_first(
 }
 
 /// An address constant (C17 6.6 paragraph 9).
-fn pointer_first(checker: &mut Checker, place: Pos, pointed: CType, operand: Operand) -> Scalar
+fn pointer_first(
+    checker: &mut Checker,
+    place: Pos,
+    pointed: CType,
+    is_null: bool,
+    address: Address,
+) -> Scalar
     requires pointed { Stands checker.old.table pointed }
-    requires operand { OperandStands checker.old.table operand }
-    ensures found { NotesPointer place pointed operand checker.old checker.new }
-    ensures value { scalar_of result ≡ first_pointer checker.old pointed operand }
+    requires address { AddressStands checker.old.table address }
+    ensures found { NotesPointer place pointed is_null address checker.old checker.new }
+    ensures value { scalar_of result ≡ first_pointer checker.old pointed is_null address }
 {
-    if operand.is_null {
+    if is_null {
         return Scalar::Null;
     }
-    match retyped(checker, pointed, operand.address) {
+    match retyped(checker, pointed, address) {
         Address::Null => Scalar::Null,
         Address::Function(name) => Scalar::Function(name),
         Address::Element {

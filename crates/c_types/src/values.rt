@@ -1,6 +1,6 @@
 // Expressions in statements and declarations: their values are used, dropped, tested, or converted.
 
-ghost use Rattle.std.specs.Prelude.{◌≡◌, IfOk, option_map};
+ghost use Rattle.std.specs.Prelude.{◌≡◌, IfOk, OnOk, option_map};
 ghost use Rattle.c_syntax.specs.Views.{expr_tree, value_tree};
 ghost use Rattle.c_typed.specs.Table.{Interned, Stands};
 ghost use Rattle.c_typed.specs.Views.{value_in, ValueStands};
@@ -8,7 +8,7 @@ ghost use Rattle.c_rules.specs.Elaborated as elaborated;
 ghost use Rattle.c_types_state.specs.Finding.{AllStand, each_in};
 ghost use Rattle.c_types_operands.specs.Operands.{OperandStands, operand_in};
 ghost use Rattle.c_types.specs.Checked.{ChecksValue, ChecksConstant, MakesUnused, MakesOptionalUnused, MakesTest, MakesOptionalTest, MakesSwitched};
-ghost use Rattle.c_types.specs.Checked.{MakesReturn, MakesReturned, IsValueAs};
+ghost use Rattle.c_types.specs.Checked.{MakesReturn, MakesReturned, IsValueAs, CoversValue, AddsExpr};
 
 use c_num::{IntType, promote};
 use c_rules::TypeRule;
@@ -50,6 +50,21 @@ pub(crate) fn value(pass: &mut Pass, tree: &Expr) -> Result<Option<Operand>, All
     let place = place_of(tree);
     let part = expr(pass, tree)?;
     as_value(&mut pass.checker, place, part)
+}
+
+/// An expression for its typed tree alone, which is put behind these.
+pub(crate) fn keep_value(
+    pass: &mut Pass,
+    values: &mut Vec<Value>,
+    tree: &Expr,
+) -> Result<(), AllocError>
+    ensures found { OnOk result (CoversValue (expr_tree tree.now) pass.old pass.new) }
+    ensures values { OnOk result (AddsExpr (expr_tree tree.now) pass.old pass.new values.old.items values.new.items) }
+{
+    let operand = value(pass, tree)?;
+    let value = value_or_null(pass.alloc(), operand)?;
+    values.push(Box::into_inner(value))?;
+    Ok(())
 }
 
 /// An expression whose value isn't used (C17 6.8.3 paragraph 2).

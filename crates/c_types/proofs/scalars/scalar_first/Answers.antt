@@ -10,6 +10,7 @@ use Rattle.c_types_state.specs.Finding.{noted}
 use Rattle.c_types_operands.specs.Operands.{operand_in}
 use Rattle.c_types.specs.FirstValues.{HoldsFirst}
 use Rattle.c_types.proofs.Firsts.{noted-scalar, unless-met, holds-one}
+use Rattle.c_types.proofs.KeptValues.{adds-one, adds-noted}
 use Rattle.c_types.proofs.scalars.scalar_first.Goals.{in-Integer, in-Pointer}
 use Rattle.c_types.proofs.scalars.scalar_first.Goals as goal
 
@@ -51,5 +52,19 @@ returns-clause-held c =
     ] in
     let steps = c.args.target.now.parts.items in
     let one = elaborated.held_at steps c.args.index (elaborated.scalar_of (scope_of s.checker) (type_in s.checker.table c.args.c_type) (operand_in s.checker.table c.args.operand)) in
-    subst (λ b. HoldsFirst (if b then one else []) c.args.target.now (record c.args.target.now { first = c.push.new.self })) (sym met ∙ c.fits-fits.ensures)
-    (holds-one _ refl c.in_ok-push.ensures.items (λ i. elaborated.held_at (c.in_ok-parts.ensures i) c.args.index (value i)))
+    subst (λ b. HoldsFirst (if b then one else []) c.args.target.now (record c.args.target.now { first = c.push-2.new.self })) (sym met ∙ c.fits-fits.ensures)
+    (holds-one _ refl c.in_ok-push-2.ensures.items (λ i. elaborated.held_at (c.in_ok-parts.ensures i) c.args.index (value i)))
+
+pub returns-then-not-require-clause-values : goal.returns-then-not-require-clause-values
+returns-then-not-require-clause-values c = adds-noted c.args.pass.now.checker c.require.new.self _ c.require.ensures.noted (adds-one c.args.operand.value.value c.into_inner.result c.into_inner.ensures c.in_ok-push.ensures.items c.requires.operand.1 refl)
+
+pub returns-in_default-clause-values : goal.returns-in_default-clause-values
+returns-in_default-clause-values c = adds-noted c.args.pass.now.checker c.require.new.self _ c.require.ensures.noted (adds-one c.args.operand.value.value c.into_inner.result c.into_inner.ensures c.in_ok-push.ensures.items c.requires.operand.1 refl)
+
+pub returns-clause-values : goal.returns-clause-values
+returns-clause-values c =
+    let there = adds-noted c.args.pass.now.checker c.require.new.self _ c.require.ensures.noted (adds-one c.args.operand.value.value c.into_inner.result c.into_inner.ensures c.in_ok-push.ensures.items c.requires.operand.1 refl) in
+    elim c.match-shape.branch [
+      | in-Integer w ↦ adds-noted c.require.new.self c.match-shape.pass.checker _ ((λ i. (w.pass-is i).checker) ∙ w.integer_first-value.ensures.found) there
+      | in-Pointer w ↦ adds-noted c.require.new.self c.match-shape.pass.checker _ ((λ i. (w.pass-is i).checker) ∙ w.pointer_first-value.ensures.found) there
+    ]

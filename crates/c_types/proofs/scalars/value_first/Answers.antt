@@ -1,10 +1,11 @@
-use Rattle.std.proofs.Common.{◌≡◌, List, [], ◌++◌, Option, Some, OnOk, refl, sym, ap, subst, ◌∙◌}
+use Rattle.std.proofs.Common.{◌≡◌, List, [], ◌∷◌, ◌++◌, Option, Some, None, OnOk, refl, sym, ap, subst, ◌∙◌}
 use Rattle.std.proofs.Common.{append-nil}
 use Rattle.c_syntax.specs.Trees.{ExprTree}
 use Rattle.c_syntax.specs.Views.{expr_tree}
 use Rattle.c_typed.specs.declared.c_type.Shape.{Shape}
 use Rattle.c_typed.specs.declared.c_type.Shape.TheVariants as S
 use Rattle.c_typed.specs.declared.part.Part.{Part}
+use Rattle.c_typed.specs.declared.typed.Value.TheVariants as V
 use Rattle.c_typed.specs.Table.{Interned, type_in, shape_type}
 use Rattle.c_typed.proofs.Grown.{stays}
 use Rattle.c_rules.specs.Names.{Scope}
@@ -20,6 +21,7 @@ use Rattle.c_types_expressions.specs.Named.{named_in}
 use Rattle.c_types.specs.FirstValues.{HoldsFirst, scalar_found}
 use Rattle.c_types.proofs.Covering.{covers-same, covers-then, covers-passes}
 use Rattle.c_types.proofs.Firsts.{on_ok}
+use Rattle.c_types.proofs.KeptValues.{adds-one, adds-same}
 use Rattle.c_types.proofs.scalars.value_first.Goals as goal
 
 -- a scalar's first value
@@ -89,3 +91,25 @@ returns-in-Some-clause-held c =
     ∙ scalar-held scope steps c.args.index s.checker.table c.shape.result tree c.in_default.not-Array
     ∙ (λ i. elaborated.value_held scope steps c.args.index (sym c.shape.ensures.means i) tree) in
     subst (λ held. OnOk c.scalar_first.result (HoldsFirst held c.args.target.now c.scalar_first.new.target)) whole c.scalar_first.ensures.held
+
+pub returns-in-Some-clause-values : goal.returns-in-Some-clause-values
+returns-in-Some-clause-values c =
+    let s = c.args.pass.now in
+    let t = c.value.new.pass in
+    let scope = scope_of s.checker in
+    let tree = expr_tree c.args.tree.now in
+    let part = as_value (place_of tree) (expr scope tree) in
+    let own : Some (operand_in t.checker.table c.in-Some.operand) ≡ part.known =
+    ap (λ r. each_in operand_in t.checker.table r) (sym c.in-Some.is) ∙ seen-known OperandStands operand_in t.checker.table c.in_ok-operand-in_default.field-0 part.known c.in_ok-operand-in_default.ensures.finds.known in
+    on_ok c.scalar_first.result (adds-same (ap (λ (k : Option Known). elaborated.known_value k ∷ []) own)) c.scalar_first.ensures.values
+
+pub returns-in_ok-push-in-None-clause-values : goal.returns-in_ok-push-in-None-clause-values
+returns-in_ok-push-in-None-clause-values c =
+    let s = c.args.pass.now in
+    let t = c.value.new.pass in
+    let scope = scope_of s.checker in
+    let tree = expr_tree c.args.tree.now in
+    let part = as_value (place_of tree) (expr scope tree) in
+    let own : None ≡ part.known =
+    ap (λ r. each_in operand_in t.checker.table r) (sym c.in-None.is) ∙ seen-known OperandStands operand_in t.checker.table c.in_ok-operand-in_default.field-0 part.known c.in_ok-operand-in_default.ensures.finds.known in
+    adds-one V.NullPointer V.NullPointer refl c.in_ok-push-in-None.ensures.items tt (ap elaborated.known_value own)
