@@ -9,10 +9,10 @@ use Rattle.pcc_status.specs.declared.status.Status.{Status}
 use Rattle.pcc_status.specs.declared.status.Status.TheVariants as S
 use Rattle.poolcc.specs.Build.{Builds, BuildsPart, BuildGives}
 use Rattle.poolcc.specs.Compiled.{IsAccepted, Compiles}
-use Rattle.poolcc.specs.Complete.{IsBuiltUnlessMemory}
+use Rattle.poolcc.specs.Complete.{IsBuiltUnlessHalted}
 use Rattle.poolcc.specs.Exec.{source_limit}
 use Rattle.poolcc.specs.Refused.{IsRefused}
-use Rattle.poolcc.proofs.Refusals.{one_refusal, not_refused}
+use Rattle.poolcc.proofs.Refusals.{only_refusal, not_refused, halted}
 
 module _ (text : List ℕ) (limits : MachineLimits) (base bytes : List ℕ) (written written' : Option (List ℕ)) (form : Form) (short : length text ≤ source_limit) (compiles : Compiles text limits form) (same : bytes ≡ image_bytes form) (told : written ≡ Some base) where
   pub all_written : Adds written bytes written' → Builds text limits base written'
@@ -33,13 +33,13 @@ module _ (text : List ℕ) (limits : MachineLimits) (base bytes : List ℕ) (wri
 
 module _ (text : List ℕ) (limits : MachineLimits) (base : List ℕ) (written' : Option (List ℕ)) (short : length text ≤ source_limit) where
   module _ (program : ProgramTree) (accepted : IsAccepted text program) where
-    -- an answer of build that is no fault is that it is done, or memory ran out
-    pub built : (status : Status) → BuildGives text limits base status written' → (status ≡ S.ReadFault → ⊥) → (status ≡ S.WriteFault → ⊥) → IsBuiltUnlessMemory text limits base status written'
+    -- an answer of build that is no fault is that it is done, or the text is refused for its heap graphs, or memory ran out
+    pub built : (status : Status) → BuildGives text limits base status written' → (status ≡ S.ReadFault → ⊥) → (status ≡ S.WriteFault → ⊥) → IsBuiltUnlessHalted text limits base status written'
     built S.Done gives read write = inr (record { form = gives.form; compiles = gives.compiles; ends = refl; output = gives.output })
-    built S.OutOfMemory gives read write = inl refl
+    built S.OutOfMemory gives read write = inl (inl refl)
     built S.ReadFault gives read write = absurd (read refl)
     built S.WriteFault gives read write = absurd (write refl)
-    built (S.Refused refusal) gives read write = absurd (not_refused text program refusal accepted gives.1)
+    built (S.Refused refusal) gives read write = inl (halted text program refusal accepted gives.1)
     built S.SourceTooLong gives read write = let long = gives.0 in absurd (omega arith)
     built (S.Program status) gives read write = absurd gives
     built S.Depth gives read write = absurd gives
@@ -58,7 +58,7 @@ module _ (text : List ℕ) (limits : MachineLimits) (base : List ℕ) (written' 
 
     -- a text that is refused gets that answer, or memory ran out
     pub build_refuses : (status : Status) → BuildGives text limits base status written' → (status ≡ S.ReadFault → ⊥) → (status ≡ S.WriteFault → ⊥) → (status ≡ S.OutOfMemory) ⊎ (status ≡ S.Refused refusal)
-    build_refuses (S.Refused other) gives read write = inr (ap S.Refused (one_refusal text other refusal gives.1 refused))
+    build_refuses (S.Refused other) gives read write = inr (ap S.Refused (only_refusal text other refusal gives.1 refused))
     build_refuses S.OutOfMemory gives read write = inl refl
     build_refuses S.ReadFault gives read write = absurd (read refl)
     build_refuses S.WriteFault gives read write = absurd (write refl)

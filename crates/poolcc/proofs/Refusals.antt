@@ -1,5 +1,5 @@
--- A text has at most one refusal, and none where it is accepted.
-use Rattle.std.proofs.Common.{◌≡◌, ℕ, List, Option, Some, None, sym, ap, ◌∙◌, refl}
+-- A text has at most one refusal, and none where it is accepted. That for its heap graphs comes only where it is accepted so far.
+use Rattle.std.proofs.Common.{◌≡◌, ℕ, ◌⊎◌, inr, List, Option, Some, None, sym, ap, ◌∙◌, refl}
 use Rattle.text_place.specs.declared.place.Pos.{Pos}
 use Rattle.c_syntax.specs.Trees
 use Rattle.c_rules.specs.declared.violation.Violation.{Violation}
@@ -18,9 +18,12 @@ use Rattle.pcc_status.specs.declared.status.LimitKind.{LimitKind}
 use Rattle.pcc_status.specs.declared.status.LimitKind.TheVariants as M
 use Rattle.pcc_status.specs.declared.status.Refusal.{Refusal}
 use Rattle.pcc_status.specs.declared.status.Refusal.TheVariants as R
+use Rattle.pcc_status.specs.declared.status.Status.TheVariants as S
+use Rattle.poolcc.specs.declared.text.Stop as code
 use Rattle.poolcc.specs.declared.text.Stop.TheVariants as stops
+use Rattle.poolcc.specs.Complete.{IsHalted}
 use Rattle.poolcc.specs.Compiled.{ReadsAs, IsAccepted}
-use Rattle.poolcc.specs.Refused.{fault_of, IsLexical, IsSyntactic, IsRefused, limit_named, stop_of}
+use Rattle.poolcc.specs.Refused.{fault_of, IsLexical, IsSyntactic, IsRefused, IsUncompiled, IsStop, IsHalt, limit_named, stop_of}
 use Rattle.poolcc.proofs.Misplacing.{one_syntactic}
 
 abbrev told_limit : Limit → LimitKind
@@ -118,3 +121,36 @@ no_reason text program refusal accepted (of_program whole reads is) =
 
 pub not_refused : (text : List ℕ) (program : Trees.ProgramTree) (refusal : Refusal) → IsAccepted text program → IsRefused text refusal → ⊥
 not_refused text program refusal accepted refused = no_reason text program refusal accepted (reason text refusal refused)
+
+-- ---- heap graphs
+
+-- a text that is refused isn't refused for its heap graphs
+pub only_refusal : (text : List ℕ) (other refusal : Refusal) → IsUncompiled text other → IsRefused text refusal → other ≡ refusal
+only_refusal text (R.Graph count) refusal overfull refused = absurd (not_refused text overfull.program refusal overfull.accepted refused)
+only_refusal text (R.Lex kind place) refusal other refused = one_refusal text (R.Lex kind place) refusal other refused
+only_refusal text (R.Syntax kind place) refusal other refused = one_refusal text (R.Syntax kind place) refusal other refused
+only_refusal text (R.TypeRule rule place) refusal other refused = one_refusal text (R.TypeRule rule place) refusal other refused
+only_refusal text (R.Limit limit count) refusal other refused = one_refusal text (R.Limit limit count) refusal other refused
+only_refusal text (R.Pools function count) refusal other refused = absurd other
+
+-- an accepted text that isn't compiled is refused for its heap graphs
+pub halted : (text : List ℕ) (program : Trees.ProgramTree) (refusal : Refusal) → IsAccepted text program → IsUncompiled text refusal → IsHalted text (S.Refused refusal)
+halted text program (R.Graph count) accepted overfull = inr (count, overfull, refl)
+halted text program (R.Lex kind place) accepted other = absurd (not_refused text program (R.Lex kind place) accepted other)
+halted text program (R.Syntax kind place) accepted other = absurd (not_refused text program (R.Syntax kind place) accepted other)
+halted text program (R.TypeRule rule place) accepted other = absurd (not_refused text program (R.TypeRule rule place) accepted other)
+halted text program (R.Limit limit count) accepted other = absurd (not_refused text program (R.Limit limit count) accepted other)
+halted text program (R.Pools function count) accepted other = absurd other
+
+refused_halts : (text : List ℕ) (refusal : Refusal) → IsRefused text refusal → IsUncompiled text refusal
+refused_halts text (R.Graph count) refused = absurd refused
+refused_halts text (R.Lex kind place) refused = refused
+refused_halts text (R.Syntax kind place) refused = refused
+refused_halts text (R.TypeRule rule place) refused = refused
+refused_halts text (R.Limit limit count) refused = refused
+refused_halts text (R.Pools function count) refused = absurd refused
+
+-- where there is no typed tree there is no image
+pub stop_halts : (text : List ℕ) (stop : code.Stop) → IsStop text stop → IsHalt text stop
+stop_halts text (stops.Refused refusal) refused = refused_halts text refusal refused
+stop_halts text stops.OutOfMemory memory = tt

@@ -16,7 +16,7 @@ use Rattle.pcc_status.specs.declared.status.Status.TheVariants as S
 use Rattle.poolcc.specs.Compiled.{Compiles}
 use Rattle.poolcc.specs.Exec.{source_limit, ExecGives}
 use Rattle.poolcc.specs.Refused.{fault_of, IsLexical, IsRefused, IsStop, stop_of}
-use Rattle.poolcc.proofs.Refusals.{one_refusal, not_refused}
+use Rattle.poolcc.proofs.Refusals.{only_refusal, not_refused}
 
 pub is_lexical : (text : List ℕ) (kind : LexKind) (place : Pos) → Faults first_place text (fault_of kind place) → IsLexical text kind place
 is_lexical text kind place faults = record {
@@ -41,7 +41,7 @@ module _ (text : List ℕ) (limits : MachineLimits) (steps : ℕ) (left base : L
 
     -- a text that is refused gets that answer, or memory ran out
     pub refuses : (answer : Status) → ExecGives text limits steps left base answer left' written' → (answer ≡ S.ReadFault → ⊥) → (answer ≡ S.WriteFault → ⊥) → (answer ≡ S.OutOfMemory) ⊎ (answer ≡ S.Refused refusal)
-    refuses (S.Refused other) gives read write = inr (ap S.Refused (one_refusal text other refusal gives.1 refused))
+    refuses (S.Refused other) gives read write = inr (ap S.Refused (only_refusal text other refusal gives.1 refused))
     refuses S.OutOfMemory gives read write = inl refl
     refuses S.ReadFault gives read write = absurd (read refl)
     refuses S.WriteFault gives read write = absurd (write refl)

@@ -7,7 +7,7 @@ use Rattle.pcc_status.specs.declared.status.Status.{Status}
 use Rattle.pcc_status.specs.declared.status.Status.TheVariants as S
 use Rattle.poolcc.specs.Compiled.{Compiles}
 use Rattle.poolcc.specs.Exec.{source_limit}
-use Rattle.poolcc.specs.Refused.{IsRefused}
+use Rattle.poolcc.specs.Refused.{IsUncompiled}
 
 -- The text, which is within the limit, was compiled, and all bytes of its image were written behind the base.
 pub record Builds (text : List ℕ) (limits : MachineLimits) (base : List ℕ) (written' : Option (List ℕ)) : Type 0 where
@@ -28,7 +28,7 @@ pub record BuildsPart (text : List ℕ) (limits : MachineLimits) (base : List �
 abbrev pub BuildGives : List ℕ → MachineLimits → List ℕ → Status → Option (List ℕ) → Type 0
 BuildGives text limits base S.Done written' = Builds text limits base written'
 BuildGives text limits base S.WriteFault written' = BuildsPart text limits base written'
-BuildGives text limits base (S.Refused refusal) written' = (length text ≤ source_limit) × IsRefused text refusal × (written' ≡ Some base)
+BuildGives text limits base (S.Refused refusal) written' = (length text ≤ source_limit) × IsUncompiled text refusal × (written' ≡ Some base)
 BuildGives text limits base S.SourceTooLong written' = (source_limit < length text) × (written' ≡ Some base)
 BuildGives text limits base S.ReadFault written' = written' ≡ Some base
 BuildGives text limits base S.OutOfMemory written' = written' ≡ Some base

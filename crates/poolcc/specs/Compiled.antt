@@ -1,12 +1,13 @@
 -- When an image is a program's.
-use Rattle.std.specs.Prelude.{◌≡◌, ℕ, ◌≤◌, List, [], Option, None}
+use Rattle.std.specs.Prelude.{◌≡◌, ℕ, ◌≤◌, List, [], ◌∷◌, Option, None}
 use Rattle.text_place.specs.Places.{first_place}
 use Rattle.run_theory.specs.Runs.{Run, FollowsBy}
 use Rattle.c_token.specs.Leaves.{Leaf}
 use Rattle.c_lexer.specs.Tokens.{Divides}
 use Rattle.c_syntax.specs.Trees
 use Rattle.c_reader.specs.Readings.{IsProgram}
-use Rattle.c_typed.specs.Typed.{Program}
+use Rattle.c_typed.specs.Typed as T
+use Rattle.c_typed.specs.Typed.{Value, Values, Program}
 use Rattle.c_well_typed.specs.Programs.{IsWellTyped}
 use Rattle.c_well_typed.specs.Sizes.{HasStorableTypes}
 use Rattle.c_sizes.specs.TypedNodes.{program_nodes, greatest_nodes}
@@ -17,8 +18,13 @@ use Rattle.c_types_expressions.specs.Named.{NamedType}
 use Rattle.ref_semantics.specs.First.{reference}
 use Rattle.c_rules.specs.Programs as rules
 use Rattle.c_rules.specs.Elaborated as elaborated
+use Rattle.c_types.specs.InitialValues.{first_values}
 use Rattle.c_types.specs.NamedItems.{named_types}
 use Rattle.c_types_limits.specs.Limits.{exceeded}
+use Rattle.tac_ir.specs.Code.{Tac}
+use Rattle.heap_graph.specs.Graphs.{ProgramGraphs}
+use Rattle.lowered_points.specs.Counted.{HaveFewSlots}
+use Rattle.code_graphs.specs.Graphed.{HasGraphs}
 use Rattle.pool_isa.specs.Machine.{State, initial, mach}
 use Rattle.image_form.specs.declared.image.MachineLimits.{MachineLimits}
 use Rattle.image_form.specs.Form.{Form, code_of, IsImage, ImageOf}
@@ -46,7 +52,8 @@ pub record IsAccepted (text : List ℕ) (program : Trees.ProgramTree) : Type 0 w
   pub within : exceeded (elaborated.typed_of program) (named_types program) ≡ None
 
 -- What is known of the typed tree of an accepted text, and is all that compiling asks of one: it is well typed, the types that its objects
--- get have exact sizes and a byte at least, it exceeds no limit, its nodes are few and don't nest deep, its functions have few parameters, and its calls few arguments.
+-- get have exact sizes and a byte at least, it exceeds no limit, its nodes are few and don't nest deep, its functions have few parameters, its
+-- calls few arguments, and its structures few slots.
 pub record IsCompilable (program : Program) : Type 0 where
   pub well_typed : IsWellTyped program
   pub storable : HasStorableTypes program
@@ -56,6 +63,26 @@ pub record IsCompilable (program : Program) : Type 0 where
   pub shallow : program_depth program ≤ greatest_depth
   pub parameters : HasFewParameters program
   pub few : CallsFew program
+  pub few_slots : HaveFewSlots program.structs
+
+-- ---- heap graphs
+
+abbrev pub listed : List Value → Values
+listed [] = T.NoValues
+listed (first ∷ others) = T.MoreValues first (listed others)
+
+-- the expressions of the first values of a program's variables outside functions
+abbrev pub initial_values : Trees.ProgramTree → Values
+initial_values program = listed (first_values program)
+
+-- A program's code has groups and closed heap graphs, of which none begins with more than 65,536 nodes.
+pub record IsGraphed (program : Program) (first : Values) : Type 0 where
+  pub tac : Tac
+  pub groups : List (List ℕ)
+  pub graphs : ProgramGraphs
+  pub has : HasGraphs program first tac groups graphs
+
+-- ---- images
 
 -- the run of an image on an input, within limits
 abbrev pub machine_run : Form → MachineLimits → List ℕ → Run
@@ -81,10 +108,11 @@ pub record IsImageFor (program : Program) (limits : MachineLimits) (form : Form)
   pub follows : (input : List ℕ) (within : MachineLimits) → AreInRange within → FollowsBy (heap_events within.slabs) (reference program input) (machine_run form within input)
   pub safe : (input : List ℕ) (within : MachineLimits) → AccessesAreSafe (code_of form) within.slabs within.index input
 
--- The text is compiled: the image, which has been encoded and decoded, is its program's.
+-- The text is compiled: its program has heap graphs, and the image, which has been encoded and decoded, is the program's.
 pub record Compiles (text : List ℕ) (limits : MachineLimits) (form : Form) : Type 0 where
   pub program : Trees.ProgramTree
   pub accepted : IsAccepted text program
+  pub graphed : IsGraphed (elaborated.typed_of program) (initial_values program)
   pub encoded : List ℕ
   pub decoded : ImageOf encoded form
   pub image : IsImageFor (elaborated.typed_of program) limits form

@@ -7,7 +7,7 @@ use Rattle.machine.specs.declared.ends.RunEnd.TheVariants as E
 use Rattle.pcc_status.specs.declared.status.Status.{Status}
 use Rattle.pcc_status.specs.declared.status.Status.TheVariants as S
 use Rattle.poolcc.specs.Compiled.{RunsImageTo, Compiles}
-use Rattle.poolcc.specs.Refused.{IsRefused}
+use Rattle.poolcc.specs.Refused.{IsUncompiled}
 
 -- a source has at most so many bytes
 abbrev pub source_limit : ℕ
@@ -35,7 +35,7 @@ ExecGives text limits steps left base S.HeapExhausted left' written' = Executes 
 ExecGives text limits steps left base S.IndexExhausted left' written' = Executes text limits steps left base E.IndexExhausted left' written'
 ExecGives text limits steps left base S.StepsSpent left' written' = Executes text limits steps left base E.StepsSpent left' written'
 ExecGives text limits steps left base (S.Trapped kind) left' written' = Executes text limits steps left base (E.Trapped kind) left' written'
-ExecGives text limits steps left base (S.Refused refusal) left' written' = (length text ≤ source_limit) × IsRefused text refusal × IsUntouched left base left' written'
+ExecGives text limits steps left base (S.Refused refusal) left' written' = (length text ≤ source_limit) × IsUncompiled text refusal × IsUntouched left base left' written'
 ExecGives text limits steps left base S.SourceTooLong left' written' = (source_limit < length text) × IsUntouched left base left' written'
 ExecGives text limits steps left base S.ReadFault left' written' = IsUntouched left base left' written' ⊎ Executes text limits steps left base E.ReadFault left' written'
 ExecGives text limits steps left base S.WriteFault left' written' = Executes text limits steps left base E.WriteFault left' written'

@@ -5,6 +5,7 @@ pub mod Premises
 pub mod Compiled
 pub mod Complete
 pub mod Exec
+pub mod Lowered
 pub mod ImageRun
 pub mod Ref
 pub mod Refused

@@ -15,6 +15,7 @@ use Rattle.c_types.specs.NamedItems.{named_types}
 use Rattle.c_types_limits.specs.declared.limits.Limit.{Limit}
 use Rattle.c_types_limits.specs.declared.limits.Limit.TheVariants as L
 use Rattle.c_types_limits.specs.Limits.{exceeded}
+use Rattle.code_graphs.specs.Graphed.{IsOvergrown}
 use Rattle.pcc_status.specs.declared.status.LexKind.{LexKind}
 use Rattle.pcc_status.specs.declared.status.LexKind.TheVariants as K
 use Rattle.pcc_status.specs.declared.status.SyntaxKind.{SyntaxKind}
@@ -23,7 +24,7 @@ use Rattle.pcc_status.specs.declared.status.LimitKind.{LimitKind}
 use Rattle.pcc_status.specs.declared.status.LimitKind.TheVariants as M
 use Rattle.pcc_status.specs.declared.status.Refusal.{Refusal}
 use Rattle.pcc_status.specs.declared.status.Refusal.TheVariants as R
-use Rattle.poolcc.specs.Compiled.{Reads, ReadsAs}
+use Rattle.poolcc.specs.Compiled.{Reads, ReadsAs, IsAccepted, initial_values}
 use Rattle.poolcc.specs.declared.text.Stop as code
 use Rattle.poolcc.specs.declared.text.Stop.TheVariants as stops
 
@@ -81,8 +82,7 @@ pub record IsTooLarge (text : List ℕ) (limit : LimitKind) (count : ℕ) : Type
 
 -- The refusal is the text's. It is lexical where the text doesn't divide into tokens, with the kind and place of its
 -- first fault; else syntactic where these are no program, with the kind and place of the first with which none goes on;
--- else of the least type rule that is violated; else of the first limit that is exceeded, with its count. No other refusal
--- comes yet.
+-- else of the least type rule that is violated; else of the first limit that is exceeded, with its count.
 abbrev pub IsRefused : List ℕ → Refusal → Type 0
 IsRefused text (R.Lex kind place) = IsLexical text kind place
 IsRefused text (R.Syntax kind place) = IsSyntactic text kind place
@@ -91,10 +91,27 @@ IsRefused text (R.Limit limit count) = IsTooLarge text limit count
 IsRefused text (R.Graph count) = ⊥
 IsRefused text (R.Pools function count) = ⊥
 
--- why a text has no image: it is refused, or memory ran out
+-- The text is accepted so far, and the heap graph of a group of functions, or of `start`, would begin with so many nodes: the first that
+-- would begin with more than 65,536.
+pub record IsOverfull (text : List ℕ) (count : ℕ) : Type 0 where
+  pub program : Trees.ProgramTree
+  pub accepted : IsAccepted text program
+  pub overgrown : IsOvergrown (elaborated.typed_of program) (initial_values program) count
+
+-- The text isn't compiled: it is refused, or its heap graphs are. No other refusal comes yet.
+abbrev pub IsUncompiled : List ℕ → Refusal → Type 0
+IsUncompiled text (R.Graph count) = IsOverfull text count
+IsUncompiled text refusal = IsRefused text refusal
+
+-- why a text has no typed tree: it is refused, or memory ran out
 abbrev pub IsStop : List ℕ → code.Stop → Type 0
 IsStop text (stops.Refused refusal) = IsRefused text refusal
 IsStop text stops.OutOfMemory = Unit {0}
+
+-- why a text has no image: it isn't compiled, or memory ran out
+abbrev pub IsHalt : List ℕ → code.Stop → Type 0
+IsHalt text (stops.Refused refusal) = IsUncompiled text refusal
+IsHalt text stops.OutOfMemory = Unit {0}
 
 -- what a text comes to for a fault, or for want of memory
 abbrev pub stop_of : LexErr → code.Stop

@@ -10,7 +10,7 @@ mod text;
 mod top;
 
 pub use build::build_file;
-pub use compilation::compile;
+pub use compilation::{Analysed, CompileErr, analyse, compile};
 pub use execution::exec;
 pub use image_run::run_file;
 pub use reference::ref_file;

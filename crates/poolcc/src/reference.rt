@@ -72,7 +72,7 @@ fn ref_text<I: Source, O: Sink>(
     ensures writes_counted { O.faults out.old ≤ O.faults out.new }
 {
     match typed_program(alloc, text) {
-        Ok(program) => status_of(ref_program(alloc, &program, steps, input, out)),
+        Ok(typed) => status_of(ref_program(alloc, &typed.program, steps, input, out)),
         Err(Stop::Refused(refusal)) => Status::Refused(refusal),
         Err(Stop::OutOfMemory) => Status::OutOfMemory,
     }

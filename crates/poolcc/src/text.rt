@@ -4,28 +4,30 @@ ghost use Rattle.std.specs.Prelude.{◌≡◌, ◌≤◌, ℕ, true, List, lengt
 ghost use Rattle.text_place.specs.Places.{first_place};
 ghost use Rattle.c_syntax.specs.Trees as whole;
 ghost use Rattle.c_rules.specs.Elaborated as elaborated;
-ghost use Rattle.c_typed.specs.DefinitionViews.{program_of as typed_program_of, ProgramStands};
+ghost use Rattle.c_typed.specs.DefinitionViews.{program_of as typed_program_of};
 ghost use Rattle.c_token.specs.Leaves.{Leaf, leaves_of};
 ghost use Rattle.c_lexer.specs.Tokens.{Divides};
 ghost use Rattle.c_syntax.specs.Views.{program_tree};
 ghost use Rattle.pool_isa.specs.Ranges.{IsWithin};
 ghost use Rattle.image_form.specs.Form.{form_of, IsImage, ImageOf};
-ghost use Rattle.poolcc.specs.Compiled.{ReadsAs, IsAccepted, IsCompilable, Compiles};
+ghost use Rattle.poolcc.specs.Compiled.{ReadsAs, IsAccepted, IsCompilable, initial_values, Compiles};
 ghost use Rattle.poolcc.specs.Exec.{source_limit};
-ghost use Rattle.poolcc.specs.Refused.{IsStop, limit_named, stop_of};
+ghost use Rattle.poolcc.specs.Lowered.{first_of, IsStanding};
+ghost use Rattle.poolcc.specs.Refused.{IsStop, IsHalt, limit_named, stop_of};
 
-use crate::compilation::compile;
+use crate::compilation::{CompileErr, compile};
 use c_lexer::{LexErr, tokens};
 use c_reader::{SyntaxErr, read};
 use c_rules::Violation;
 use c_syntax::Program;
 use c_token::Token;
+use c_types::Typed;
 use c_types_limits::{Limit, LimitErr, check_limits};
 use image_form::{Image, ImageErr, MachineLimits, from_bytes, to_bytes};
 use pcc_status::{LexKind, LimitKind, Refusal, SyntaxKind};
 use std::alloc::Global;
 
-/// Why a text has no image.
+/// Why a text has no typed tree or image.
 #[derive(Clone, Copy)]
 pub enum Stop {
     Refused(Refusal),
@@ -80,10 +82,11 @@ pub fn parse(alloc: Global, text: &[u8]) -> Result<Program, Stop>
 }
 
 /// The typed tree of a program that violates no type rule and exceeds no limit.
-fn elaborate(alloc: Global, program: &Program) -> Result<c_typed::Program, Stop>
+fn elaborate(alloc: Global, program: &Program) -> Result<Typed, Stop>
     ensures accepted { (text : List ℕ) → ReadsAs text (program_tree program.now) → IfOk result (λ typed. IsAccepted text (program_tree program.now)) }
-    ensures typed { IfOk result (λ typed. typed_program_of typed ≡ elaborated.typed_of (program_tree program.now)) }
-    ensures stands { IfOk result ProgramStands }
+    ensures typed { IfOk result (λ typed. typed_program_of typed.program ≡ elaborated.typed_of (program_tree program.now)) }
+    ensures first { IfOk result (λ typed. first_of typed ≡ initial_values (program_tree program.now)) }
+    ensures stands { IfOk result IsStanding }
     ensures stop { (text : List ℕ) → ReadsAs text (program_tree program.now) → IfErr result (IsStop text) }
 {
     let typed = match c_types::check(alloc, program) {
@@ -97,17 +100,17 @@ fn elaborate(alloc: Global, program: &Program) -> Result<c_typed::Program, Stop>
         Some(LimitErr { which, count }) => {
             Err(Stop::Refused(Refusal::Limit(limit_kind(which), count)))
         }
-        None => Ok(typed.program),
+        None => Ok(typed),
     }
 }
 
 /// The typed tree that an accepted text within the source limit has.
-pub fn typed_program(alloc: Global, text: &[u8]) -> Result<c_typed::Program, Stop>
+pub fn typed_program(alloc: Global, text: &[u8]) -> Result<Typed, Stop>
     requires { length text.now ≤ source_limit }
     ensures found { IfOk result (λ typed.
-        (program : whole.ProgramTree) × IsAccepted text.now program × (typed_program_of typed ≡ elaborated.typed_of program)) }
-    ensures compilable { IfOk result (λ typed. IsCompilable (typed_program_of typed)) }
-    ensures stands { IfOk result ProgramStands }
+        (program : whole.ProgramTree) × IsAccepted text.now program × (typed_program_of typed.program ≡ elaborated.typed_of program) × (first_of typed ≡ initial_values program)) }
+    ensures compilable { IfOk result (λ typed. IsCompilable (typed_program_of typed.program)) }
+    ensures stands { IfOk result IsStanding }
     ensures stop { IfErr result (IsStop text.now) }
 {
     let program = match parse(alloc, text) {
@@ -115,7 +118,7 @@ pub fn typed_program(alloc: Global, text: &[u8]) -> Result<c_typed::Program, Sto
         Err(stop) => return Err(stop),
     };
     match elaborate(alloc, &program) {
-        Ok(tree) => Ok(tree),
+        Ok(typed) => Ok(typed),
         Err(stop) => Err(stop),
     }
 }
@@ -156,14 +159,16 @@ pub fn image_of(alloc: Global, text: &[u8], limits: MachineLimits) -> Result<Ima
     requires slabs { IsWithin 1 1048576 limits.slabs }
     requires index { IsWithin 1 4294967295 limits.index }
     ensures compiled { IfOk result (λ image. Compiles text.now limits (form_of image)) }
-    ensures stop { IfErr result (IsStop text.now) }
+    ensures stop { IfErr result (IsHalt text.now) }
 {
-    let program = match typed_program(alloc, text) {
-        Ok(program) => program,
+    let typed = match typed_program(alloc, text) {
+        Ok(typed) => typed,
         Err(stop) => return Err(stop),
     };
-    let Ok(image) = compile(alloc, program, limits) else {
-        return Err(Stop::OutOfMemory);
+    let image = match compile(alloc, typed, limits) {
+        Ok(image) => image,
+        Err(CompileErr::Graph(count)) => return Err(Stop::Refused(Refusal::Graph(count))),
+        Err(CompileErr::OutOfMemory) => return Err(Stop::OutOfMemory),
     };
     match round_trip(alloc, &image) {
         Ok(image) => Ok(image),

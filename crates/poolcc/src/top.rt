@@ -24,7 +24,7 @@ ghost use Rattle.c_rules.specs.Elaborated.{typed_of};
 ghost use Rattle.ref_semantics.specs.First.{reference};
 ghost use Rattle.ref_meaning.specs.Running.{behaviour_of};
 ghost use Rattle.poolcc.specs.Answering.{IsAnswer};
-ghost use Rattle.poolcc.specs.Complete.{RunsUnlessMemory, IsToldUnlessMemory, IsReachedUnlessMemory, IsBuiltUnlessMemory, IsBadUnlessMemory};
+ghost use Rattle.poolcc.specs.Complete.{RunsUnlessHalted, IsToldUnlessMemory, IsReachedUnlessMemory, IsBuiltUnlessHalted, IsBadUnlessMemory};
 ghost use Rattle.poolcc.specs.Exec.{source_limit};
 ghost use Rattle.poolcc.specs.ImageRun.{image_limit};
 ghost use Rattle.image_form.specs.Form.{Form, ImageOf, IsImageBytes};
@@ -69,13 +69,14 @@ pub fn poolcc<F: Files, I: Source, O: Sink, E: Sink>(
         → F.contents files.old file ≡ Holds text → I.left input.old ≡ Some left → O.written out.old ≡ Some base
         → (program : ProgramTree) × IsAccepted text program × (n : ℕ) × IsUndefined (reference (typed_of program) left n) }
 
-    // Where the text is accepted and nothing outside fails, the answer is what the machine gives, or memory ran out.
+    // Where the text is accepted and nothing outside fails, the answer is what the machine gives, or a group of functions has too many
+    // nodes in its heap graph, or memory ran out.
     ensures complete { (file : List ℕ) (limits : SaidLimits) (one_pool : Bool) (steps : ℕ) (text left base : List ℕ) (program : ProgramTree)
         → line_said words.now ≡ Exec file limits one_pool steps
         → FromText source_limit (F.contents files.old file) text (I.left input.old) left (O.written out.old) base
         (Undisturbed (F.faults files.old file) (F.faults files.new file) (I.faults input.old) (I.faults input.new)
         (O.faults out.old) (O.faults out.new) (E.faults err.old) (E.faults err.new)
-        (IsAccepted text program → RunsUnlessMemory text (machine_limits limits) steps left base result (O.written out.new))) }
+        (IsAccepted text program → RunsUnlessHalted text (machine_limits limits) steps left base result (O.written out.new))) }
 
     // Where the text has a fault and nothing outside fails, the answer is the fault's kind and place, or memory ran out.
     ensures lexical { (file : List ℕ) (limits : SaidLimits) (one_pool : Bool) (steps : ℕ) (text left base : List ℕ) (kind : LexKind) (place : Pos)
@@ -108,14 +109,14 @@ pub fn poolcc<F: Files, I: Source, O: Sink, E: Sink>(
         (O.faults out.old) (O.faults out.new) (E.faults err.old) (E.faults err.new)
         (IsRefused text refusal → (result ≡ Status.OutOfMemory) ⊎ (result ≡ Status.Refused refusal))) }
 
-    // Where the text of `build` is accepted and nothing outside fails, the bytes of its image are written, or memory ran out;
-    // where it is refused, the answer is that refusal.
+    // Where the text of `build` is accepted and nothing outside fails, the bytes of its image are written, or a group of functions has
+    // too many nodes in its heap graph, or memory ran out; where it is refused, the answer is that refusal.
     ensures build_complete { (file : List ℕ) (limits : SaidLimits) (one_pool : Bool) (text base : List ℕ) (program : ProgramTree)
         → line_said words.now ≡ Build file limits one_pool
         → FromSource source_limit (F.contents files.old file) text (O.written out.old) base
         (Undisturbed (F.faults files.old file) (F.faults files.new file) (I.faults input.old) (I.faults input.new)
         (O.faults out.old) (O.faults out.new) (E.faults err.old) (E.faults err.new)
-        (IsAccepted text program → IsBuiltUnlessMemory text (machine_limits limits) base result (O.written out.new))) }
+        (IsAccepted text program → IsBuiltUnlessHalted text (machine_limits limits) base result (O.written out.new))) }
     ensures build_refused { (file : List ℕ) (limits : SaidLimits) (one_pool : Bool) (text base : List ℕ) (refusal : Refusal)
         → line_said words.now ≡ Build file limits one_pool
         → FromSource source_limit (F.contents files.old file) text (O.written out.old) base

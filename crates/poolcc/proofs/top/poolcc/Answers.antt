@@ -6,7 +6,7 @@ use Rattle.poolcc.specs.Compiled.{image_run}
 use Rattle.c_rules.specs.Elaborated as elaborated
 use Rattle.ref_meaning.specs.Running.{behaviour_of}
 use Rattle.poolcc.specs.Command.{Names, machine_limits}
-use Rattle.poolcc.specs.Complete.{RunsUnlessMemory, IsToldUnlessMemory, IsReachedUnlessMemory, IsBuiltUnlessMemory, IsBadUnlessMemory}
+use Rattle.poolcc.specs.Complete.{RunsUnlessHalted, IsToldUnlessMemory, IsReachedUnlessMemory, IsBuiltUnlessHalted, IsBadUnlessMemory}
 use Rattle.poolcc.specs.Exec.{ExecGives}
 use Rattle.poolcc.proofs.Completing.{said_as_it_is, said_memory, said_trap, completed, trapped, no_read_fault}
 use Rattle.poolcc.proofs.Refusing.{is_lexical, refuses}
@@ -31,7 +31,7 @@ returns-clause-complete g c = λ file limits one_pool steps text left base progr
     let no_read = λ (e : c.command-answer.result ≡ S.ReadFault).
     no_read_fault _ file (g.F.Files.faults c.args.files.now) (g.F.Files.faults c.command-answer.new.files) _ _ (subst (λ l. Names l file) (sym line) refl) quiet_files quiet_input (c.command-answer.ensures.read_cause e) in
     let no_write = λ (e : c.command-answer.result ≡ S.WriteFault). quiet_out (c.command-answer.ensures.write_cause e) in
-    subst (λ (status : Status). RunsUnlessMemory text (machine_limits limits) steps left base status written') (sym same)
+    subst (λ (status : Status). RunsUnlessHalted text (machine_limits limits) steps left base status written') (sym same)
     (completed text (machine_limits limits) steps left base left' written' program accepted short c.command-answer.result (c.command-answer.ensures.answers.exec file limits one_pool steps text left base line holds told wrote) no_read no_write)
 
 pub returns-clause-refused : goal.returns-clause-refused
@@ -78,7 +78,7 @@ returns-clause-build_complete g c = λ file limits one_pool text base program li
     let no_read = λ (e : c.command-answer.result ≡ S.ReadFault).
     no_read_fault _ file (g.F.Files.faults c.args.files.now) (g.F.Files.faults c.command-answer.new.files) _ _ (subst (λ l. Names l file) (sym line) refl) quiet_files quiet_input (c.command-answer.ensures.read_cause e) in
     let no_write = λ (e : c.command-answer.result ≡ S.WriteFault). quiet_out (c.command-answer.ensures.write_cause e) in
-    subst (λ (status : Status). IsBuiltUnlessMemory text (machine_limits limits) base status written') (sym same)
+    subst (λ (status : Status). IsBuiltUnlessHalted text (machine_limits limits) base status written') (sym same)
     (built text (machine_limits limits) base written' short program accepted c.command-answer.result (c.command-answer.ensures.answers.build file limits one_pool text base line holds wrote).1 no_read no_write)
 
 pub returns-clause-build_refused : goal.returns-clause-build_refused
