@@ -7,7 +7,7 @@ use Rattle.c_types.specs.NamedItems.{named_types}
 use Rattle.c_types_premises.proofs.Premises.{Premises, accepted_premises}
 use Rattle.c_types_arguments.proofs.Program.{limits_give_few_arguments}
 use Rattle.image_premises.proofs.FewParameters.{few_parameters}
-use Rattle.counted_slots.proofs.FewSlots.{few_slots}
+use Rattle.counted_slots.proofs.FewSlots.{accepted_few_slots}
 use Rattle.c_program_depths.proofs.Programs.{accepted_depth}
 use Rattle.poolcc.specs.Compiled.{IsAccepted, IsCompilable}
 use Rattle.poolcc.specs.Exec.{source_limit}
@@ -27,7 +27,7 @@ tree_compilable text program short accepted =
       shallow = accepted_depth reads.leaves program reads.spelled.accepted reads.spelled.shape;
       parameters = few_parameters program accepted.within;
       few = limits_give_few_arguments program accepted.typed accepted.within;
-      few_slots = few_slots program accepted.within;
+      few_slots = accepted_few_slots program (typed_of program) (named_types program) refl refl accepted.within;
     }
 
 pub accepted_compilable : (text : List ℕ) (program : ProgramTree) (typed : Program) → length text ≤ source_limit → IsAccepted text program → typed ≡ typed_of program → IsCompilable typed

@@ -1,0 +1,2 @@
+pub mod Graphed
+pub mod Made

@@ -1,0 +1,2 @@
+-- What the limits tell of structures.
+pub mod FewSlots
