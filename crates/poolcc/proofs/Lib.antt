@@ -1,5 +1,6 @@
 pub mod Completing
 pub mod Executing
+pub mod FirstValues
 pub mod Misplacing
 pub mod Pipeline
 pub mod Reading
