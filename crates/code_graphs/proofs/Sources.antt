@@ -1,5 +1,5 @@
 -- What is known of the code of a program before its graphs are made, and what its graphs come to.
-use Rattle.std.proofs.Common.{◌≡◌, ℕ, ◌<◌, ◌≤◌, List, [], length, refl, subst}
+use Rattle.std.proofs.Common.{ℕ, ◌<◌, ◌≤◌, List, [], length, refl, subst}
 use Rattle.std.proofs.lemmas.List.{length-map}
 use Rattle.c_typed.specs.Typed.{Values, Program}
 use Rattle.tac_ir.specs.declared.program.Tac as memory_tac
