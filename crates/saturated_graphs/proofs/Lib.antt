@@ -1,0 +1,2 @@
+pub mod SaturatedNodes
+pub mod SaturatedPoints
