@@ -1,2 +1,6 @@
 pub mod SaturatedNodes
 pub mod SaturatedPoints
+pub mod SaturatedFamilies
+pub mod SaturatedCalls
+pub mod SaturatedClosed
+pub mod SaturatedMaps

@@ -3,9 +3,10 @@ use Rattle.std.proofs.Common.{◌≡◌, ℕ, zero, suc, ◌+◌, Bool, true, fa
 use Rattle.std.specs.Prelude.{map, option_map}
 use Rattle.std.proofs.lemmas.Bool.{or_right}
 use Rattle.std.proofs.lemmas.Option.{none-some, same_Some}
+use Rattle.c_typed.specs.Layouts.{StructDef}
 use Rattle.tac_ir.specs.States.{Owner}
-use Rattle.heap_graph.specs.Graphs.{Target, Edge, Node, Name, Graph, there, edge_in, node_at}
-use Rattle.heap_graph.specs.Targets.{at_target, is_collapsed, shifted, edge_at, implies}
+use Rattle.heap_graph.specs.Graphs.{Target, Element, Missing, OfType, Collapsed, Edge, Node, Name, Graph, there, edge_in, node_at}
+use Rattle.heap_graph.specs.Targets.{at_target, is_collapsed, shifted, edge_at, implies, element_kept}
 use Rattle.heap_graph.specs.Escaping.{Reaches, here, along, Escapes}
 use Rattle.heap_graph.proofs.MapsCompose.{shift_in, at_some, at_there, at_from, shifted_there, edge_there}
 use Rattle.saturated_graphs.specs.Saturated.{saturated_node, saturated_graph}
@@ -71,7 +72,6 @@ shifted_none graph slots target e = rw e refl
 edge_none : (graph : Graph) (target : Target) → node_at graph target.node ≡ None → edge_at graph (Some target) ≡ None
 edge_none graph target e = rw e refl
 
--- what a test that looks at no flags says is the same
 pub at_saturated : (graph : Graph) (target : Option Target) (holds : Node → ℕ → Bool) → at_target (saturated_graph graph) target holds ≡ at_target graph target (λ node shift. holds (saturated_node node) shift)
 at_saturated graph None holds = refl
 at_saturated graph (Some x) holds = by (node_at graph x.node) refl
@@ -81,6 +81,19 @@ at_saturated graph (Some x) holds = by (node_at graph x.node) refl
     by (Some node) e =
         at_some (saturated_graph graph) x holds (saturated_node node) (node_there graph x.node node e) ∙ sym (at_some graph x (λ node shift. holds (saturated_node node) shift) node e)
 
+-- a test that looks at no flags
+abbrev pub IsFlagless : (Node → ℕ → Bool) → Type 0
+IsFlagless holds = (node : Node) (shift : ℕ) → holds (saturated_node node) shift ≡ holds node shift
+
+pub element_flagless : (structs : List StructDef) (element : Element) → IsFlagless (element_kept structs element)
+element_flagless structs Missing node shift = refl
+element_flagless structs (OfType c_type) node shift = refl
+element_flagless structs Collapsed node shift = refl
+
+pub at_flagless : (graph : Graph) (target : Option Target) (holds : Node → ℕ → Bool) → IsFlagless holds → at_target (saturated_graph graph) target holds ≡ at_target graph target holds
+at_flagless graph target holds flagless = at_saturated graph target holds ∙ (λ i. at_target graph target (λ node shift. flagless node shift i))
+
+-- what holds of a node in the graph holds of it with all flags
 pub at_grows : (graph : Graph) (target : Option Target) (few all : Node → ℕ → Bool) → Grows few all → at_target graph target few ≡ true → at_target (saturated_graph graph) target all ≡ true
 at_grows graph None few all grows h = refl
 at_grows graph (Some x) few all grows h =
