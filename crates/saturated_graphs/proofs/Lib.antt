@@ -4,3 +4,4 @@ pub mod SaturatedFamilies
 pub mod SaturatedCalls
 pub mod SaturatedClosed
 pub mod SaturatedMaps
+pub mod FullGraphs
