@@ -5,3 +5,4 @@ pub mod SaturatedCalls
 pub mod SaturatedClosed
 pub mod SaturatedMaps
 pub mod FullGraphs
+pub mod CompletedFull
