@@ -1,9 +1,9 @@
 -- A graph with all flags has all of them where it is completed; the node of nothing isn't certain.
-use Rattle.std.proofs.Common.{◌≡◌, ℕ, zero, suc, true, List, [], ◌∷◌, ◌++◌, slice_get, Option, Some, None, refl, subst}
+use Rattle.std.proofs.Common.{◌≡◌, ℕ, zero, suc, true, false, List, [], ◌∷◌, ◌++◌, slice_get, Option, Some, None, refl, subst}
 use Rattle.std.specs.Prelude.{map, option_map}
 use Rattle.std.proofs.lemmas.Option.{none-some, same_Some}
 use Rattle.tac_ir.specs.States.{Owner}
-use Rattle.heap_graph.specs.Graphs.{Flags, Node, Graph, there, node_at}
+use Rattle.heap_graph.specs.Graphs.{Flags, Node, Graph, there}
 use Rattle.heap_graph.specs.Targets.{flags_kept}
 use Rattle.heap_graph.specs.Closed.{Family, graph_of}
 use Rattle.point_asks.specs.Completed.{completed_node, nothing_node, nothing_in, completed}

@@ -1,15 +1,14 @@
 -- Into a graph of whose objects all is told each map keeps flags.
-use Rattle.std.proofs.Common.{◌≡◌, ℕ, Bool, true, List, Option, Some, sym, ap, subst, ◌∙◌}
-use Rattle.std.specs.Prelude.{◌&&◌}
+use Rattle.std.proofs.Common.{◌≡◌, ℕ, Bool, true, List, Some, sym, ap, subst, ◌∙◌}
 use Rattle.std.proofs.lemmas.Bool.{and_parts, and_from}
 use Rattle.c_typed.specs.Layouts.{StructDef}
 use Rattle.tac_ir.specs.States.{Owner}
-use Rattle.heap_graph.specs.Graphs.{Target, Element, Edge, Flags, Node, Name, Graph, edge_in, node_at}
+use Rattle.heap_graph.specs.Graphs.{Element, Edge, Flags, Node, Graph, edge_in, node_at}
 use Rattle.heap_graph.specs.Targets.{at_target, implies, flags_kept, marks_kept, element_kept}
 use Rattle.heap_graph.specs.Closed.{Family, graph_of}
 use Rattle.heap_graph.specs.Merging.{GraphMap, Maps}
 use Rattle.heap_graph.proofs.MapsCompose.{at_there, at_from}
-use Rattle.saturated_graphs.specs.Saturated.{all_flags, saturated_node, saturated_graph, saturated}
+use Rattle.saturated_graphs.specs.Saturated.{all_flags, saturated_graph, saturated}
 use Rattle.saturated_graphs.specs.Places.{MapsPlaces, IsFull, SamePlaces}
 use Rattle.saturated_graphs.proofs.SaturatedNodes.{implies_true, node_was}
 use Rattle.saturated_graphs.proofs.SaturatedFamilies.{graph_saturated}

@@ -1,5 +1,5 @@
 -- What calls, names and nodes that escape ask of a family holds of it with all flags.
-use Rattle.std.proofs.Common.{◌≡◌, ℕ, zero, suc, Bool, true, cond, List, [], ◌∷◌, length, Option, Some, None, refl, sym, ap, subst, ◌∙◌}
+use Rattle.std.proofs.Common.{◌≡◌, ℕ, zero, suc, Bool, true, cond, List, [], ◌∷◌, length, Option, Some, refl, sym, ap, subst, ◌∙◌}
 use Rattle.std.specs.Prelude.{◌&&◌}
 use Rattle.std.proofs.lemmas.Bool.{and_parts, and_from}
 use Rattle.c_typed.specs.Types.{CType}
@@ -9,7 +9,7 @@ use Rattle.tac_ir.specs.Code.{Callee}
 use Rattle.tac_ir.specs.States.{Owner, InFunction}
 use Rattle.call_groups.specs.Targets.{is_target}
 use Rattle.heap_graph.specs.Graphs.{Target, Flags, Edge, Node, Name, OfRegister, OfResult, OfGlobal, OfLiteral, Embedding}
-use Rattle.heap_graph.specs.Targets.{same_target, has_target, at_target, shifted, edge_at, holds_part, is_array, elements_of, implies, types_differ, flags_kept, element_kept}
+use Rattle.heap_graph.specs.Targets.{same_target, has_target, shifted, edge_at, holds_part, is_array, elements_of, implies, types_differ}
 use Rattle.heap_graph.specs.Points.{is_data_pointer}
 use Rattle.heap_graph.specs.Closed.{Family, graph_of, same_group, parameters_of, result_of, function_type, formal, arguments_closed, result_closed, inner_call, crossing, image, statics_closed, all_statics_closed, outer_call, call_of, call_closed, node_kept, edges_kept, object_closed}
 use Rattle.saturated_graphs.specs.Saturated.{all_flags, saturated_node, saturated}

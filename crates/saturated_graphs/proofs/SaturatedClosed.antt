@@ -1,11 +1,10 @@
 -- A closed family is closed with all flags.
-use Rattle.std.proofs.Common.{◌≡◌, ℕ, suc, Bool, true, false, List, [], ◌∷◌, length, slice_get, Option, Some, None, refl, sym, ap, subst, ◌∙◌}
+use Rattle.std.proofs.Common.{◌≡◌, ℕ, suc, Bool, true, List, [], ◌∷◌, length, Option, Some, None, refl, sym, ap, subst, ◌∙◌}
 use Rattle.std.specs.Prelude.{◌==◌, ◌&&◌, ◌||◌, not}
 use Rattle.std.specs.List.{list_any}
 use Rattle.std.proofs.lemmas.Bool.{and_parts, and_from}
-use Rattle.c_typed.specs.Types.{CType}
+use Rattle.c_typed.specs.Types.{CType, literal_type}
 use Rattle.c_typed.specs.Typed.{GlobalDef, LiteralDef}
-use Rattle.c_typed.specs.Types.{literal_type}
 use Rattle.c_typed.specs.declared.part.Part.{Part}
 use Rattle.c_typed.specs.declared.part.Part.TheVariants as P
 use Rattle.c_typed.specs.Values as first
@@ -13,12 +12,11 @@ use Rattle.tac_ir.specs.First.{named_global, placed_literal}
 use Rattle.tac_ir.specs.Code as O
 use Rattle.tac_ir.specs.Code.{AtLocal, AtGlobal, AtLiteral, Base, Pointed, Indexed, Callee, Op, LocalObject}
 use Rattle.tac_ir.specs.States.{Owner, InStart, InFunction}
-use Rattle.heap_graph.specs.Graphs.{Target, Edge, Node, Name, OfRegister, OfResult, OfObject, OfGlobal, OfLiteral, Graph, Crossing, Embedding, edge_in, node_at}
+use Rattle.heap_graph.specs.Graphs.{Target, Edge, Node, Name, OfResult, OfObject, OfGlobal, OfLiteral, Graph, Crossing, Embedding, edge_in}
 use Rattle.heap_graph.specs.Targets.{same_target, has_target, at_target, is_collapsed, edge_at, implies}
 use Rattle.heap_graph.specs.Targets as T
 use Rattle.heap_graph.specs.Points.{is_data_pointer, point_closed}
-use Rattle.heap_graph.specs.Escaping.{Escapes}
-use Rattle.heap_graph.specs.Closed.{Family, graph_of, parameters_of, formal, AreOne, crossing, op_closed, IsKept, IsEmbedding, formals_closed, locals_closed, global_closed, globals_closed, literal_closed, literals_closed, base_mentioned, mentions_closed, ops_closed, in_start, first_part, global_part, literal_part, static_part, is_moved, place_closed, constant_closed, held_closed, all_held_closed, first_closed, FunctionClosed, is_slot, edges_sound, IsCrossing, IsNeeded, named, embedded, GraphClosed, is_start, of_group, Closed, is_in, node_kept}
+use Rattle.heap_graph.specs.Closed.{Family, graph_of, parameters_of, formal, AreOne, crossing, op_closed, IsKept, IsEmbedding, formals_closed, locals_closed, globals_closed, literals_closed, base_mentioned, mentions_closed, ops_closed, first_part, global_part, literal_part, static_part, is_moved, place_closed, constant_closed, held_closed, all_held_closed, first_closed, FunctionClosed, is_slot, edges_sound, IsCrossing, IsNeeded, named, embedded, GraphClosed, is_start, of_group, Closed, node_kept}
 use Rattle.saturated_graphs.specs.Saturated.{saturated_node, saturated_graph, saturated}
 use Rattle.saturated_graphs.proofs.SaturatedNodes.{implies_more, array_monotone, at_grows, shifted_saturated, edge_saturated}
 use Rattle.saturated_graphs.proofs.SaturatedPoints.{point_more}

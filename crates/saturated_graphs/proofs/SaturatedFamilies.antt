@@ -7,7 +7,7 @@ use Rattle.heap_graph.specs.Targets.{at_target, shifted, edge_at}
 use Rattle.heap_graph.specs.Escaping.{Escapes}
 use Rattle.heap_graph.specs.Closed.{Family, or_no_graph, group_of, graph_of, image}
 use Rattle.saturated_graphs.specs.Saturated.{saturated_node, saturated_graph, saturated}
-use Rattle.saturated_graphs.proofs.SaturatedNodes.{Grows, node_saturated, node_there, node_was, IsFlagless, at_flagless, at_grows, shifted_saturated, edge_saturated, escapes_more, escapes_was}
+use Rattle.saturated_graphs.proofs.SaturatedNodes.{Grows, node_saturated, node_was, IsFlagless, at_flagless, at_grows, shifted_saturated, edge_saturated, escapes_more, escapes_was}
 
 graph_in : (graphs : List Graph) (number : ℕ) → or_no_graph (slice_get (map saturated_graph graphs) number) ≡ saturated_graph (or_no_graph (slice_get graphs number))
 graph_in [] number = refl

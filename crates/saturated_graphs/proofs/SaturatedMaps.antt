@@ -1,7 +1,7 @@
 -- Maps into a family and into the one with all flags are the same.
-use Rattle.std.proofs.Common.{◌≡◌, ℕ, true, Option, Some, None, refl, sym, ap, ◌∙◌}
+use Rattle.std.proofs.Common.{◌≡◌, ℕ, Option, Some, None, refl, sym, ap, ◌∙◌}
 use Rattle.tac_ir.specs.States.{Owner, InFunction}
-use Rattle.heap_graph.specs.Graphs.{Target, Node, Name, Crossing, edge_in, node_at}
+use Rattle.heap_graph.specs.Graphs.{Target, Node, Crossing}
 use Rattle.heap_graph.specs.Targets.{at_target, shifted, edge_at, element_kept}
 use Rattle.heap_graph.specs.Closed.{Family, graph_of}
 use Rattle.heap_graph.specs.Least.{NodeMap, mapped, embedded, IsMap}

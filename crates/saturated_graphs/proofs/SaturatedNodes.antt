@@ -1,14 +1,13 @@
 -- The nodes of a graph with all flags, and where targets and edges lead there.
-use Rattle.std.proofs.Common.{◌≡◌, ℕ, zero, suc, ◌+◌, Bool, true, false, cond, List, [], ◌∷◌, slice_get, Option, Some, None, refl, sym, ap, ◌∙◌}
+use Rattle.std.proofs.Common.{◌≡◌, ℕ, zero, suc, Bool, true, false, List, [], ◌∷◌, slice_get, Option, Some, None, refl, sym, ap, ◌∙◌}
 use Rattle.std.specs.Prelude.{map, option_map}
-use Rattle.std.proofs.lemmas.Bool.{or_right}
 use Rattle.std.proofs.lemmas.Option.{none-some, same_Some}
 use Rattle.c_typed.specs.Layouts.{StructDef}
 use Rattle.tac_ir.specs.States.{Owner}
-use Rattle.heap_graph.specs.Graphs.{Target, Element, Missing, OfType, Collapsed, Edge, Node, Name, Graph, there, edge_in, node_at}
-use Rattle.heap_graph.specs.Targets.{at_target, is_collapsed, shifted, edge_at, implies, element_kept}
+use Rattle.heap_graph.specs.Graphs.{Target, Element, Missing, OfType, Collapsed, Node, Graph, there, edge_in, node_at}
+use Rattle.heap_graph.specs.Targets.{at_target, shifted, edge_at, implies, element_kept}
 use Rattle.heap_graph.specs.Escaping.{Reaches, here, along, Escapes}
-use Rattle.heap_graph.proofs.MapsCompose.{shift_in, at_some, at_there, at_from, shifted_there, edge_there}
+use Rattle.heap_graph.proofs.MapsCompose.{at_some, at_there, at_from, shifted_there, edge_there}
 use Rattle.saturated_graphs.specs.Saturated.{saturated_node, saturated_graph}
 
 -- ---- tests

@@ -1,5 +1,5 @@
 -- What points ask of a graph holds of it with all flags.
-use Rattle.std.proofs.Common.{◌≡◌, ℕ, Bool, true, false, cond, List, [], ◌∷◌, Option, Some, None, refl, ap, ◌∙◌}
+use Rattle.std.proofs.Common.{◌≡◌, ℕ, Bool, true, cond, List, [], ◌∷◌, Option, Some, None, refl, ap, ◌∙◌}
 use Rattle.std.specs.Prelude.{◌&&◌, ◌||◌, not}
 use Rattle.std.specs.List.{list_any}
 use Rattle.std.proofs.lemmas.Bool.{and_parts, and_from, or_right}
@@ -10,11 +10,11 @@ use Rattle.tac_ir.specs.declared.register.Register.TheVariants as R
 use Rattle.tac_ir.specs.Code as O
 use Rattle.tac_ir.specs.Code.{Tree, Base, AtLocal, AtGlobal, AtLiteral, Pointed, Indexed, Step, Member, Element, Path, Operand, IntegerOperand, PointerOperand, Op, Tac}
 use Rattle.tac_ir.specs.States.{Owner}
-use Rattle.heap_graph.specs.Graphs.{Target, Node, OfResult, Graph}
+use Rattle.heap_graph.specs.Graphs.{Target, Node, Graph}
 use Rattle.heap_graph.specs.Targets.{Part, same_target, has_target, at_target, edge_at, holds_part, points_to, implies, slots_before, member_part, element_part}
 use Rattle.heap_graph.specs.Points.{is_null, is_data_pointer, is_indexed, is_element, is_member, of_register, takes, base_part, steps_part, path_part, base_typed, base_used, address_closed, load_closed, stored_closed, store_closed, is_size_of, allocate_closed, move_closed, repoint_closed, return_closed, point_closed}
 use Rattle.saturated_graphs.specs.Saturated.{saturated_graph}
-use Rattle.saturated_graphs.proofs.SaturatedNodes.{implies_true, implies_more, Grows, IsMonotone, array_monotone, at_saturated, at_grows, shifted_saturated, edge_saturated}
+use Rattle.saturated_graphs.proofs.SaturatedNodes.{implies_more, Grows, array_monotone, at_saturated, at_grows, shifted_saturated, edge_saturated}
 
 module _ (tac : Tac) (graph : Graph) (owner : Owner) where
   abbrev whole : Graph

@@ -1,5 +1,5 @@
 -- Graphs and maps apart from flags of objects.
-use Rattle.std.specs.Prelude.{◌≡◌, ℕ, true, List, Option, Some}
+use Rattle.std.specs.Prelude.{◌≡◌, ℕ, true, List, Some}
 use Rattle.c_typed.specs.Layouts.{StructDef}
 use Rattle.heap_graph.specs.Graphs.{Target, Flags, Node, Name, Graph, edge_in, node_at}
 use Rattle.heap_graph.specs.Targets.{at_target, shifted, edge_at, implies, flags_kept, element_kept}
