@@ -4,7 +4,8 @@ use Rattle.c_typed.specs.Table.{structs_in}
 use Rattle.tac_ir.specs.declared.register.FunctionId.{FunctionId}
 use Rattle.tac_ir.specs.Views.{tac_of}
 use Rattle.heap_graph.specs.Graphs.{Graph}
-use Rattle.heap_graph.specs.Merging.{IsSound}
+use Rattle.heap_graph.specs.Merging.{IsSound, GraphMap, Maps}
+use Rattle.saturated_graphs.specs.Places.{IsFull}
 use Rattle.frozen_graphs.specs.Frozen.{graph_with}
 use Rattle.frozen_graphs.specs.declared.frozen.FrozenGraph.{FrozenGraph}
 use Rattle.program_graphs.specs.declared.program.FunctionGraph.{FunctionGraph}
@@ -18,14 +19,22 @@ use Rattle.group_freezing.specs.Kept.{IsFrozen}
 use Rattle.group_freezing.specs.Owners.{is_owner, names_in}
 use Rattle.group_crossings.specs.declared.before.Crossings.{Crossings}
 use Rattle.group_crossings.specs.Before.{GraphsBefore, is_inside}
-use Rattle.group_crossings.specs.Crossings.{owners_in, AreCrossed, AllCopiesTold, TellsCrossings}
+use Rattle.group_crossings.specs.Crossings.{owners_in, NumbersApart, AreCrossed, AllCopiesTold, TellsCrossings}
+use Rattle.group_crossings.specs.CallSteps.{AllFit, OwnersCross}
 
 -- the graph that is only read, in which the owners have their names
 abbrev pub kept_graph : GraphsBefore → List (Option FunctionId) → FrozenGraph → List FunctionGraph → Graph
 kept_graph before owners graph functions = graph_with before.tac.types graph (names_in owners (map (λ (function : FunctionGraph). function.names) functions))
 
+-- Another graph, in which the owners' calls out of the group use these copies, and what their points ask holds. All is told of its objects.
+pub record IsWanted (before : GraphsBefore) (group : Option ℕ) (owners : List (Option FunctionId)) (crossings : List Crossings) (other : Graph) : Type 0 where
+  pub full : IsFull other
+  pub fits : AllFit before group owners other
+  pub crosses : OwnersCross before group owners crossings other
+  pub settled : Settled (tac_of before.tac) (owners_in owners) other
+
 -- The graph goes on from the one that was begun. All is told of it that the owners' names, points and calls ask; its certain nodes are kept,
--- with what the owners' names and the copies lead to.
+-- with what the owners' names and the copies lead to. It is on the way to each such other graph.
 pub record IsAssembled (before : GraphsBefore) (group : Option ℕ) (owners : List (Option FunctionId)) (begun : Graph) (graph : FrozenGraph) (functions : List FunctionGraph) : Type 0 where
   pub made : Graph
   pub crossings : List Crossings
@@ -38,6 +47,9 @@ pub record IsAssembled (before : GraphsBefore) (group : Option ℕ) (owners : Li
   pub settled : Settled (tac_of before.tac) (owners_in owners) made
   pub sizes : SizesTold (tac_of before.tac) (owners_in owners) made
   pub crossed : AreCrossed before group owners crossings made
+  pub apart : NumbersApart crossings
+  pub leads : (other : Graph) (into : GraphMap) → Maps (structs_in before.tac.types) begun other into → IsWanted before group owners crossings other
+      → (rest : GraphMap) × Maps (structs_in before.tac.types) made other rest
   pub copies : AllCopiesTold before crossings made
   pub size : length functions ≡ length owners
   pub frozen : IsFrozen (tac_of before.tac) (is_owner owners) made (kept_graph before owners graph functions)

@@ -1,5 +1,5 @@
 -- What is known of the code of a program before its graphs are made, and what its graphs come to.
-use Rattle.std.proofs.Common.{ℕ, ◌<◌, ◌≤◌, List, [], length, refl, subst}
+use Rattle.std.proofs.Common.{◌≡◌, ℕ, ◌<◌, ◌≤◌, List, [], length, refl, subst}
 use Rattle.std.proofs.lemmas.List.{length-map}
 use Rattle.c_typed.specs.Typed.{Values, Program}
 use Rattle.tac_ir.specs.declared.program.Tac as memory_tac
@@ -9,6 +9,7 @@ use Rattle.tac_ir.specs.Views.{tac_of, function_in}
 use Rattle.call_groups.specs.Groups.{AreGroups, Makes}
 use Rattle.heap_graph.specs.Graphs.{ProgramGraphs}
 use Rattle.heap_graph.specs.Closed.{Closed}
+use Rattle.least_graphs.specs.Smallest.{IsSmallest}
 use Rattle.function_groups.specs.declared.group_lists.Groups.{Groups}
 use Rattle.function_groups.specs.GroupViews.{groups_of, IsOf}
 use Rattle.assembled_groups.specs.Making.{IsGrouped}
@@ -36,14 +37,15 @@ module _ (program : Program) (first : Values) (tac : memory_tac.Tac) (counts : C
         (names_known program (tac_of tac) source.code InStart (tac_of tac).start refl at site function arguments there);
   }
 
-  -- graphs that are closed are those of the program
+  -- graphs that are closed and the smallest are those of the program
   pub graphed : (groups : List (List ℕ)) (graphs : ProgramGraphs) → AreGroups (tac_of tac) groups → Closed (family_of (tac_of tac) groups graphs)
-      → AreFew (family_of (tac_of tac) groups graphs) counts.functions.items (length groups)
+      → ((tac_of tac).start.parameters ≡ 0 → IsSmallest (family_of (tac_of tac) groups graphs)) → AreFew (family_of (tac_of tac) groups graphs) counts.functions.items (length groups)
       → ((count : ℕ) × StartCounts (family_of (tac_of tac) groups graphs) counts.start count × (count ≤ limit)) → HasGraphs program first (tac_of tac) groups graphs
-  graphed groups graphs are closed few few_first = record {
+  graphed groups graphs are closed smallest few few_first = record {
     code = source.code;
     are = are;
     closed = closed;
+    smallest = smallest source.code.parameters;
     few = subst (λ own. AreFew (family_of (tac_of tac) groups graphs) own (length groups)) source.counted.functions few;
     few_first = subst (λ own. (count : ℕ) × StartCounts (family_of (tac_of tac) groups graphs) own count × (count ≤ limit)) source.counted.start few_first;
   }

@@ -11,6 +11,7 @@ use Rattle.tac_build.specs.ProgramCode.{Code}
 use Rattle.call_groups.specs.Groups.{AreGroups}
 use Rattle.heap_graph.specs.Graphs.{ProgramGraphs}
 use Rattle.heap_graph.specs.Closed.{Family, Closed}
+use Rattle.least_graphs.specs.Smallest.{IsSmallest}
 use Rattle.lowered_points.specs.Counted.{HaveFewSlots}
 use Rattle.expression_counts.specs.Counting.{within, counted_values, counted_functions}
 use Rattle.dsa_bottom_up.specs.declared.program.Counts.{Counts}
@@ -33,11 +34,13 @@ pub record IsSource (program : Program) (first : Values) (tac : memory_tac.Tac) 
 abbrev pub family_of : Tac → List (List ℕ) → ProgramGraphs → Family
 family_of tac groups graphs = record { tac = tac; groups = groups; graphs = graphs }
 
--- A program's code has groups and closed graphs, of which none begins with too many nodes.
+-- A program's code has groups and closed graphs, which can be mapped into all others that are closed, and of which none begins with too many
+-- nodes.
 pub record HasGraphs (program : Program) (first : Values) (tac : Tac) (groups : List (List ℕ)) (graphs : ProgramGraphs) : Type 0 where
   pub code : Code program tac
   pub are : AreGroups tac groups
   pub closed : Closed (family_of tac groups graphs)
+  pub smallest : IsSmallest (family_of tac groups graphs)
   pub few : AreFew (family_of tac groups graphs) (counted_functions program) (length groups)
   pub few_first : (count : ℕ) × StartCounts (family_of tac groups graphs) (counted_values (within program []) first) count × (count ≤ limit)
 

@@ -7,6 +7,8 @@ use Rattle.function_groups.specs.declared.group_lists.Groups.{Groups}
 use Rattle.function_groups.specs.GroupViews.{groups_of}
 use Rattle.program_graphs.specs.declared.program.ProgramGraphs.{ProgramGraphs}
 use Rattle.assembled_groups.specs.Making.{family_at, BeginsWith, IsMaking}
+use Rattle.least_graphs.specs.Making.{AreLeast}
+use Rattle.least_graphs.proofs.Adding.{least_begins}
 use Rattle.dsa_bottom_up.specs.declared.making.Making.{Making}
 use Rattle.dsa_bottom_up.specs.Making.{made_in}
 use Rattle.dsa_bottom_up.specs.Refused.{limit, AreFew, GroupCounts, StartCounts, IsRefused, in_group, in_start}
@@ -15,25 +17,27 @@ use Rattle.dsa_bottom_up.specs.Refused.{limit, AreFew, GroupCounts, StartCounts,
 abbrev pub all_so_far : Making → ProgramGraphs
 all_so_far making = record { graphs = making.graphs; functions = making.functions; start = making.start; start_function = making.start_function }
 
--- so many groups have their graphs, and none of them begins with too many nodes
+-- so many groups have their graphs, and none of them begins with too many nodes; the graphs are mapped to those of each other closed family
 pub record SoFar (tac : memory_tac.Tac) (groups : Groups) (counts : List ℕ) (making : Making) (number : ℕ) : Type 0 where
   pub made : IsMaking (made_in tac groups making) number
   pub few : (all : ProgramGraphs) → BeginsWith (made_in tac groups making) number all → AreFew (family_at (made_in tac groups making) all) counts number
+  pub least : (tac_of tac).start.parameters ≡ 0 → AreLeast (made_in tac groups making) number
 
 module _ (tac : memory_tac.Tac) (groups : Groups) (counts : List ℕ) where
   pub begins_itself : (making : Making) (number : ℕ) → IsMaking (made_in tac groups making) number → BeginsWith (made_in tac groups making) number (all_so_far making)
   begins_itself making number made = record { functions = made.functions; graphs = λ at less. refl; own = λ called group is less. refl }
 
   pub none_so_far : (making : Making) → IsMaking (made_in tac groups making) 0 → SoFar tac groups counts making 0
-  none_so_far making made = record { made = made; few = λ all begins at less. absurd (omega (arith, less)) }
+  none_so_far making made = record { made = made; few = λ all begins at less. absurd (omega (arith, less)); least = λ start. least_begins (made_in tac groups making) }
 
   -- one group more
   pub one_more : (old new : Making) (number : ℕ) → SoFar tac groups counts old number → IsMaking (made_in tac groups new) (suc number)
       → ((all : ProgramGraphs) → BeginsWith (made_in tac groups new) (suc number) all → BeginsWith (made_in tac groups old) number all)
       → ((all : ProgramGraphs) → BeginsWith (made_in tac groups old) number all → (count : ℕ) × GroupCounts (family_at (made_in tac groups old) all) counts number count × (count ≤ limit))
-      → SoFar tac groups counts new (suc number)
-  one_more old new number so_far made begins counted = record {
+      → ((tac_of tac).start.parameters ≡ 0 → AreLeast (made_in tac groups old) number → AreLeast (made_in tac groups new) (suc number)) → SoFar tac groups counts new (suc number)
+  one_more old new number so_far made begins counted least = record {
     made = made;
+    least = λ start. least start (so_far.least start);
     few = λ all begun at less. by all (begins all begun) at (less_or at less);
   }
     where

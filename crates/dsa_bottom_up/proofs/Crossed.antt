@@ -25,11 +25,12 @@ use Rattle.group_freezing.specs.Kept.{IsFrozen}
 use Rattle.group_freezing.specs.Owners.{is_owner, names_in}
 use Rattle.group_crossings.specs.declared.before.Crossings.{Crossings}
 use Rattle.group_crossings.specs.Before.{GraphsBefore, is_inside}
-use Rattle.group_crossings.specs.Crossings.{owners_in, AreCrossed, AllCopiesTold}
+use Rattle.group_crossings.specs.Crossings.{owners_in, NumbersApart, AreCrossed, AllCopiesTold}
 use Rattle.group_crossings.proofs.Arrays.{settled_still, sizes_still}
 use Rattle.group_crossings.proofs.Keeping.{crossings_kept}
 use Rattle.assembled_groups.specs.Assembled.{IsAssembled}
 use Rattle.dsa_bottom_up.specs.Assembling.{TellEach}
+use Rattle.dsa_bottom_up.proofs.Leading.{LeadsWanted, told_leads}
 
 -- what is told of a graph of a group from its calls out of it on
 pub record IsCrossing (before : GraphsBefore) (group : Option ℕ) (owners : List (Option FunctionId)) (all : List Crossings) (graph : Graph) : Type 0 where
@@ -72,10 +73,11 @@ module _ (before : GraphsBefore) (made : AreMade (structs_in before.tac.types)) 
 
   -- the graph that was made, with what is kept of it
   pub assembled : (all : List Crossings) (begun sized told : Graph) (frozen : Frozen) (functions : List FunctionGraph) → GoesOn (structs_in before.tac.types) begun told → IsCrossing before group owners all sized
+      → NumbersApart all → LeadsWanted before group owners all begun sized
       → IsSound (structs_in before.tac.types) told → GoesOn (structs_in before.tac.types) sized told → ArraysTold sized told → Settled (tac_of before.tac) (owners_in owners) sized
       → SizesTold (tac_of before.tac) (owners_in owners) sized → AllCopiesTold before all told → IsFrozenGroup before.tac.types before.tac owners told frozen
       → TellEach told frozen.names.items all functions → IsAssembled before group owners begun frozen.graph functions
-  assembled all begun sized told frozen functions goes its sound last arrays settled sizes copies kept each =
+  assembled all begun sized told frozen functions goes its apart leads sound last arrays settled sizes copies kept each =
       let now = crossing_next all sized told sound last (λ name. ap has_target (arrays.names name)) its in
       let named = now.joined.named in
       record {
@@ -90,6 +92,8 @@ module _ (before : GraphsBefore) (made : AreMade (structs_in before.tac.types)) 
         settled = settled_still (tac_of before.tac) sized told its.sound named arrays (owners_in owners) settled;
         sizes = sizes_still (tac_of before.tac) sized told its.sound named arrays (owners_in owners) sizes;
         crossed = now.crossed;
+        apart = apart;
+        leads = told_leads before group owners all begun sized told its.sound named arrays leads;
         copies = copies;
         size = sym (length-map functions (λ (function : FunctionGraph). function.names)) ∙ ap length each.names' ∙ kept.size;
         frozen = subst (λ names. IsFrozen (tac_of before.tac) (is_owner owners) told (graph_with before.tac.types frozen.graph (names_in owners names))) (sym each.names') kept.kept;

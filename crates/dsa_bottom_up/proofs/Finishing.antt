@@ -39,6 +39,10 @@ use Rattle.assembled_groups.proofs.Crossing.{kept_restricts}
 use Rattle.assembled_groups.proofs.Starting.{HasStart, start_shown}
 use Rattle.assembled_groups.proofs.Growing.{start_reached}
 use Rattle.assembled_groups.proofs.Whole.{program_closes}
+use Rattle.least_graphs.specs.Making.{AreLeast}
+use Rattle.least_graphs.specs.Smallest.{IsSmallest}
+use Rattle.least_graphs.proofs.StartGraph.{IsStartBegun}
+use Rattle.least_graphs.proofs.Smallest.{program_smallest}
 use Rattle.dsa_bottom_up.specs.declared.making.Making.{Making}
 use Rattle.dsa_bottom_up.specs.Making.{made_in}
 
@@ -129,3 +133,9 @@ module _ (tac : memory_tac.Tac) (groups : Groups) (making : Making) (grouped : I
       program_closes before begun all.start own all grouped made begins has assembled
       (first_shown (family_at before all) assembled.made (kept_graph before (None ∷ []) all.start (own ∷ [])) (kept_restricts before None (None ∷ []) begun all.start (own ∷ []) assembled)
       (start_shown before all.start own all grouped has) (InStart ∷ []) assembled.told (first_kept (tac_of tac) grouped.stands.code.made begun assembled.made sound assembled.goes told))
+
+  -- and it is mapped to each other closed family, where the groups are
+  pub ends_smallest : (begun : Graph) (own : FunctionGraph) → (tac_of tac).start.parameters ≡ 0 → IsAssembled before None (None ∷ []) begun all.start (own ∷ []) → IsStartBegun before begun → all.start_function ≡ own
+      → AreLeast before (length (groups_of groups)) → IsSmallest (family_at before all)
+  ends_smallest begun own start assembled begins_so is least =
+      program_smallest before start begun all.start own all grouped made least begins (ap (λ gs. length gs.items) graphs ∙ made.graphs) (record { is = refl; function = is }) assembled begins_so

@@ -9,7 +9,7 @@ use Rattle.graph_rows.proofs.Places.{set_same, set_other}
 use Rattle.tac_ir.specs.declared.program.Tac as memory_tac
 use Rattle.tac_ir.specs.declared.register.FunctionId.{FunctionId}
 use Rattle.tac_ir.specs.States.{InFunction}
-use Rattle.tac_ir.specs.Views.{function_in}
+use Rattle.tac_ir.specs.Views.{tac_of, function_in}
 use Rattle.call_groups.specs.Groups.{IsAscending}
 use Rattle.call_targets.specs.ClassLists.{numbers_of}
 use Rattle.heap_graph.specs.Graphs.{Graph}
@@ -35,6 +35,8 @@ use Rattle.reached_nodes.specs.declared.marks.NodeMarks.{NodeMarks}
 use Rattle.reached_nodes.specs.Marks.{is_marked}
 use Rattle.group_crossings.specs.Before.{Rises, rows_of}
 use Rattle.assembled_groups.specs.Making.{IsGrouped, BeginsWith, IsMaking, ListsEscaping, AddsGroup}
+use Rattle.least_graphs.specs.Making.{AreLeast}
+use Rattle.least_graphs.proofs.Adding.{IsBegun, least_grows}
 use Rattle.dsa_bottom_up.specs.declared.making.Making.{Making}
 use Rattle.dsa_bottom_up.specs.Making.{made_in, AreApart, KeepsOne, KeepsMembers}
 
@@ -307,6 +309,13 @@ module _ (tac : memory_tac.Tac) (groups : Groups) (number : ℕ) (members : List
       → IsMaking (made_in tac groups (with_graphs mid graphs)) (suc number)
   group_added old mid graphs begun graph functions making assembled keeps pushed =
       whole.group_added (made_in tac groups old) number members begun graph functions grouped making row assembled (made_in tac groups (with_graphs mid graphs)) (adds_group old mid graphs graph functions keeps pushed)
+
+  -- so the groups so far are mapped to each other closed family
+  pub least_added : (old mid : Making) (graphs : Vec FrozenGraph Global) (begun : Graph) (graph : FrozenGraph) (functions : List FunctionGraph) → (tac_of tac).start.parameters ≡ 0 → IsMaking (made_in tac groups old) number
+      → IsAssembled (made_in tac groups old) (Some number) (map Some members) begun graph functions → IsBegun (made_in tac groups old) (Some number) (map Some members) begun
+      → KeepsMembers old mid members graph functions → graphs.items ≡ mid.graphs.items ++ graph ∷ [] → AreLeast (made_in tac groups old) number → AreLeast (made_in tac groups (with_graphs mid graphs)) (suc number)
+  least_added old mid graphs begun graph functions start making assembled begins_so keeps pushed =
+      least_grows (made_in tac groups old) start grouped number making begun graph functions members row assembled begins_so (made_in tac groups (with_graphs mid graphs)) (adds_group old mid graphs graph functions keeps pushed)
 
   -- graphs that begin with those begin with the ones before
   pub begins_still : (old mid : Making) (graphs : Vec FrozenGraph Global) (graph : FrozenGraph) (functions : List FunctionGraph) → IsMaking (made_in tac groups old) number → KeepsMembers old mid members graph functions

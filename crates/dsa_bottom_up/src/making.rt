@@ -11,6 +11,8 @@ ghost use Rattle.tac_ir.specs.declared.program.Tac as memory;
 ghost use Rattle.reached_nodes.specs.Edges.{EdgesAreFound};
 ghost use Rattle.group_crossings.specs.Before.{graphs_before};
 ghost use Rattle.assembled_groups.specs.Making.{IsGrouped, BeginsWith, IsMaking, ListsEscaping};
+ghost use Rattle.least_graphs.specs.Making.{AreLeast};
+ghost use Rattle.least_graphs.specs.Smallest.{IsSmallest};
 ghost use Rattle.dsa_bottom_up.specs.Making.{made_in, IsEmpty, AreApart, KeepsOne, KeepsMembers};
 
 use crate::assembling::{Assembled, assemble};
@@ -92,6 +94,7 @@ impl Making {
         requires within { number < length groups.now.members.items }
         ensures making { OnOk result (IsMaking (made_in tac.now groups.now self.new) (suc number)) }
         ensures begins { OnOk result ((all : memory_program.ProgramGraphs) → BeginsWith (made_in tac.now groups.now self.new) (suc number) all → BeginsWith (made_in tac.now groups.now self.old) number all) }
+        ensures least { OnOk result ((tac_of tac.now).start.parameters ≡ 0 → AreLeast (made_in tac.now groups.now self.old) number → AreLeast (made_in tac.now groups.now self.new) (suc number)) }
     {
         let members = groups.members[number].as_slice();
         let owners = owners_of(alloc, members)?;
@@ -160,6 +163,7 @@ impl Making {
         requires grouped { IsGrouped tac.now groups.now }
         requires making { IsMaking (made_in tac.now groups.now self) (length (groups_of groups.now)) }
         ensures closed { IfOk result (λ graphs. Closed (family_in tac.now (groups_of groups.now) graphs)) }
+        ensures smallest { IfOk result (λ graphs. (tac_of tac.now).start.parameters ≡ 0 → AreLeast (made_in tac.now groups.now self) (length (groups_of groups.now)) → IsSmallest (family_in tac.now (groups_of groups.now) graphs)) }
         ensures begins { IfOk result (BeginsWith (made_in tac.now groups.now self) (length (groups_of groups.now))) }
         ensures graphs { IfOk result (λ graphs. length graphs.graphs.items ≡ length groups.now.members.items) }
     {

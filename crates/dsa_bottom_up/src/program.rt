@@ -6,6 +6,7 @@ ghost use Rattle.function_groups.specs.GroupViews.{groups_of};
 ghost use Rattle.heap_graph.specs.Closed.{Closed};
 ghost use Rattle.program_graphs.specs.Programs.{family_in};
 ghost use Rattle.assembled_groups.specs.Making.{IsGrouped, IsMaking};
+ghost use Rattle.least_graphs.specs.Smallest.{IsSmallest};
 ghost use Rattle.dsa_bottom_up.specs.Refused.{limit, AreFew, StartCounts, IsRefused};
 
 use crate::making::Making;
@@ -54,6 +55,7 @@ pub fn bottom_up(
     ensures graphs { IfOk result (λ graphs. length graphs.graphs.items ≡ length groups.now.members.items) }
     ensures functions { IfOk result (λ graphs. length graphs.functions.items ≡ length tac.now.functions.items) }
     ensures closed { IfOk result (λ graphs. Closed (family_in tac.now (groups_of groups.now) graphs)) }
+    ensures smallest { IfOk result (λ graphs. (tac_of tac.now).start.parameters ≡ 0 → IsSmallest (family_in tac.now (groups_of groups.now) graphs)) }
     ensures few { IfOk result (λ graphs. AreFew (family_in tac.now (groups_of groups.now) graphs) counts.now.functions.items (length (groups_of groups.now))) }
     ensures few_first { IfOk result (λ graphs. (count : ℕ) × StartCounts (family_in tac.now (groups_of groups.now) graphs) counts.now.start count × (count ≤ limit)) }
     ensures refused { (count : ℕ) → result ≡ Err (GraphErr.TooMany count) → IsRefused (tac_of tac.now) (groups_of groups.now) counts.now.functions.items counts.now.start count }

@@ -4,3 +4,4 @@ pub mod Keeping
 pub mod Owning
 pub mod Assembling
 pub mod Fitted
+pub mod Leading

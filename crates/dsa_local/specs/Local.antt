@@ -10,13 +10,14 @@ use Rattle.tac_ir.specs.Objects.{own_type}
 use Rattle.tac_ir.specs.States.{Owner, InFunction, function_of, objects_of}
 use Rattle.tac_ir.specs.Views.{tac_of}
 use Rattle.heap_graph.specs.Graphs.{Graph}
+use Rattle.heap_graph.specs.Merging.{GraphMap, Maps}
 use Rattle.heap_graph.specs.Points.{is_null, type_of_inner}
 use Rattle.function_groups.specs.declared.group_lists.Groups.{Groups}
 use Rattle.function_scopes.specs.declared.scope.Scope.{Scope}
 use Rattle.function_scopes.specs.Known.{is_marked, local_type, owner_at}
 use Rattle.graph_rows.specs.Lists.{Has}
 use Rattle.made_graphs.specs.Going.{AllNamed}
-use Rattle.group_begins.specs.Told.{NamesTold, NoCopies}
+use Rattle.group_begins.specs.Told.{NamesTold, NoCopies, GroupFits}
 use Rattle.inner_calls.specs.Joined.{CallsJoined, ClassesJoined}
 use Rattle.inner_calls.specs.Members.{is_numbered}
 use Rattle.group_rounds.specs.Rounds.{Settled}
@@ -55,6 +56,11 @@ pub record IsJoinedGroup (tac : Tac) (owners : List Owner) (inside : ℕ → Boo
   pub named : AllNamed graph
   pub classes : ClassesJoined tac inside graph
   pub calls : (caller : ℕ) → inside caller ≡ true → CallsJoined tac inside caller graph
+
+-- The graph is on the way to each that has the names with which the group begins, and in which classes and calls are joined.
+abbrev pub LeadsJoined : Tac → List Owner → (ℕ → Bool) → Graph → Type 0
+LeadsJoined tac owners inside graph =
+    (other : Graph) → GroupFits tac owners other → ClassesJoined tac inside other → ((caller : ℕ) → inside caller ≡ true → CallsJoined tac inside caller other) → (into : GraphMap) × Maps tac.structs graph other into
 
 -- So does what the points ask, and there are no copies of other graphs' nodes.
 pub record IsLocal (tac : Tac) (owners : List Owner) (inside : ℕ → Bool) (graph : Graph) : Type 0 where

@@ -15,7 +15,7 @@ ghost use Rattle.inner_calls.specs.Called.{AreCalled};
 ghost use Rattle.inner_calls.specs.Joined.{Joins, AllHaveOwn, ClassesJoined};
 ghost use Rattle.inner_calls.specs.Members.{code_of, shown, is_inside};
 ghost use Rattle.group_rounds.specs.Rounds.{owners_of};
-ghost use Rattle.dsa_local.specs.Local.{owners_in, owners_at, is_of, AreScopes, AllCallsJoined, IsJoinedGroup, IsLocal};
+ghost use Rattle.dsa_local.specs.Local.{owners_in, owners_at, is_of, AreScopes, AllCallsJoined, IsJoinedGroup, LeadsJoined, IsLocal};
 
 use function_groups::Groups;
 use function_scopes::Scope;
@@ -74,6 +74,7 @@ pub fn joined_group(
     requires within { number < length groups.now.members.items }
     ensures graph { IfOk result (λ made. IsGraph tac.now.types made.graph) }
     ensures joined { IfOk result (λ made. IsJoinedGroup (tac_of tac.now) (owners_at (groups_of groups.now) number) (is_of groups.now number) (graph_in tac.now.types made.graph)) }
+    ensures leads { IfOk result (λ made. LeadsJoined (tac_of tac.now) (owners_at (groups_of groups.now) number) (is_of groups.now number) (graph_in tac.now.types made.graph)) }
     ensures copies { IfOk result (λ made. NoCopies (graph_in tac.now.types made.graph)) }
     ensures owners { IfOk result (λ made. owners_of made.scopes.items ≡ owners_at (groups_of groups.now) number) }
     ensures scopes { IfOk result (λ made. AreScopes tac.now made.scopes.items) }
@@ -98,6 +99,7 @@ pub fn joined_start(alloc: Global, tac: &Tac) -> Result<LocalGraph, AllocError>
     requires literals { LiteralsStand tac.now.types tac.now.literals.items }
     ensures graph { IfOk result (λ made. IsGraph tac.now.types made.graph) }
     ensures joined { IfOk result (λ made. IsJoinedGroup (tac_of tac.now) (InStart ∷ []) (λ number. false) (graph_in tac.now.types made.graph)) }
+    ensures leads { IfOk result (λ made. LeadsJoined (tac_of tac.now) (InStart ∷ []) (λ number. false) (graph_in tac.now.types made.graph)) }
     ensures copies { IfOk result (λ made. NoCopies (graph_in tac.now.types made.graph)) }
     ensures owners { IfOk result (λ made. owners_of made.scopes.items ≡ InStart ∷ []) }
     ensures scopes { IfOk result (λ made. AreScopes tac.now made.scopes.items) }

@@ -2,7 +2,7 @@
 use Rattle.std.proofs.Common.{◌≡◌, ℕ, zero, suc, ◌+◌, ◌<◌, ◌≤◌, ◌⊎◌, ◌||◌, Bool, true, false, List, [], ◌∷◌, ◌++◌, length, length-append, option_map, Option, Some, inl, inr, refl, sym, ap, subst, ◌∙◌, arith}
 use Rattle.std.specs.Prelude.{slice_get}
 use Rattle.std.proofs.lemmas.Bool.{cases_lt}
-use Rattle.std.proofs.lemmas.Option.{none-some, same_Some, slice_get-map}
+use Rattle.std.proofs.lemmas.Option.{none-some, same_Some, slice_get-map, slice_get_cases, slice_get_within}
 use Rattle.c_typed.specs.Layouts.{StructDef}
 use Rattle.c_typed.specs.Table.{structs_in}
 use Rattle.tac_ir.specs.declared.register.FunctionId.{FunctionId}
@@ -22,8 +22,8 @@ use Rattle.group_begins.specs.Told.{NamesTold, NoCopies}
 use Rattle.call_copies.specs.Adding.{AreFree}
 use Rattle.group_crossings.specs.declared.before.Crossings.{Crossings}
 use Rattle.group_crossings.specs.Before.{GraphsBefore}
-use Rattle.group_crossings.specs.Crossings.{owners_in, EntriesStand, CallsCross, IsOfCall, AreCrossed}
-use Rattle.group_crossings.specs.CallSteps.{OwnerNamed, OwnerCrosses, OwnersCross, AllLead}
+use Rattle.group_crossings.specs.Crossings.{owners_in, copies_at, EntriesStand, CallsCross, IsOfCall, IsOneCall, NumbersApart, AreCrossed}
+use Rattle.group_crossings.specs.CallSteps.{OwnerNamed, IsOfEntry, OwnerCrosses, OwnersCross, AllLead}
 use Rattle.group_crossings.proofs.Stepping.{entries_kept, calls_kept}
 
 -- ---- lists
@@ -43,6 +43,10 @@ module _ {X : Type 0} where
   pushed [] x (suc place) y is = absurd (none-some y is)
   pushed (z ∷ xs) x zero y is = inl is
   pushed (z ∷ xs) x (suc place) y is = elim (pushed xs x place y is) [ inl there ↦ inl there | inr end ↦ inr (ap suc end.0, end.1) ]
+
+-- what is before an item is there too
+below_there : {X : Type 0} (xs : List X) (count : ℕ) (x : X) → slice_get xs count ≡ Some x → (place : ℕ) → place < count → (y : X) × (slice_get xs place ≡ Some y)
+below_there xs count x at place less = elim (slice_get_cases xs place).1 [ inl found ↦ (found.0, found.2) | inr past ↦ absurd (omega (arith, past.0, slice_get_within xs count x at, less)) ]
 
 -- ---- owners
 
@@ -80,6 +84,7 @@ pub record SoFar (before : GraphsBefore) (group : Option ℕ) (owners : List (Op
   pub calls : OwnersCross before group owners all new
   pub given : (number : ℕ) → number < next → IsOfCall all number
   pub free : AreFree new next
+  pub apart : NumbersApart all
   pub leads : AllLead before group owners all old new
 
 module _ (before : GraphsBefore) (made : AreMade (structs_in before.tac.types)) (group : Option ℕ) (owners : List (Option FunctionId)) where
@@ -95,6 +100,7 @@ module _ (before : GraphsBefore) (made : AreMade (structs_in before.tac.types)) 
     calls = λ place owner own at there. absurd (none-some own there);
     given = λ number less. absurd (omega (arith, less));
     free = λ copy from. copies copy;
+    apart = λ number a b. absurd (none-some a.own a.there);
     leads = λ other into maps fits cross. (into, maps);
   })
 
@@ -129,6 +135,40 @@ module _ (before : GraphsBefore) (made : AreMade (structs_in before.tac.types)) 
             let its = crosses.given number behind less in
             record { place = count; own = own; there = there; site = its.site; called = its.called; copies = its.copies; at = its.at; node = its.node; is = its.is }
 
+    -- a number is of an owner before, or of this one
+    of_before : (number : ℕ) (its : IsOfCall more number) → slice_get all its.place ≡ Some its.own → IsOfCall all number
+    of_before number its there = record { place = its.place; own = its.own; there = there; site = its.site; called = its.called; copies = its.copies; at = its.at; node = its.node; is = its.is }
+
+    of_last : (number : ℕ) (its : IsOfCall more number) → own ≡ its.own → IsOfEntry own number
+    of_last number its same = record { site = its.site; called = its.called; copies = its.copies; at = ap (λ k. copies_at k its.site its.called) same ∙ its.at; node = its.node; is = its.is }
+
+    -- that of one before has a target
+    before_there : (number : ℕ) → IsOfCall all number → (target : Target) × (middle.targets (OfCopy number) ≡ Some target)
+    before_there number its =
+        let owner = below_there owners count owner at its.place (omega (arith, slice_get_within all its.place its.own its.there, so_far.size)) in
+        let stand = (so_far.entries its.place owner.0 its.own owner.1 its.there its.site its.called its.copies its.at).0 in
+        let node = (stand.numbered.only its.node number its.is).1 in
+        let fits = stand.copied.nodes its.node number node.0 its.is node.1 in
+        (fits.target, fits.is)
+
+    apart_more : NumbersApart more
+    unfolding of_before of_last
+    apart_more number a b = by (pushed all own a.place a.own a.there) (pushed all own b.place b.own b.there)
+      where
+        by : (slice_get all a.place ≡ Some a.own) ⊎ ((a.place ≡ length all) × (own ≡ a.own)) → (slice_get all b.place ≡ Some b.own) ⊎ ((b.place ≡ length all) × (own ≡ b.own)) → IsOneCall more number a b
+        by (inl x) (inl y) =
+            let same = so_far.apart number (of_before number a x) (of_before number b y) in
+            record { place = same.place; site = same.site; called = same.called; node = same.node }
+        by (inr x) (inr y) =
+            let same = crosses.apart number (of_last number a x.1) (of_last number b y.1) in
+            record { place = x.0 ∙ sym y.0; site = same.site; called = same.called; node = same.node }
+        by (inl x) (inr y) =
+            let there = before_there number (of_before number a x) in
+            absurd (none-some there.0 (sym (crosses.added number (of_last number b y.1)) ∙ there.1))
+        by (inr x) (inl y) =
+            let there = before_there number (of_before number b y) in
+            absurd (none-some there.0 (sym (crosses.added number (of_last number a x.1)) ∙ there.1))
+
     pub more_so_far : (pushed_all : List Crossings) → pushed_all ≡ more → SoFar before group owners pushed_all (count + 1) own.next old new
     more_so_far pushed_all is = subst (λ (l : List Crossings). SoFar before group owners l (count + 1) own.next old new) (sym is) (record {
       size = omega (arith, length-append all (own ∷ []), so_far.size);
@@ -140,6 +180,7 @@ module _ (before : GraphsBefore) (made : AreMade (structs_in before.tac.types)) 
           (λ place o k here was. calls_kept before made group (owner_of o) k middle new fine crosses.goes (so_far.calls place o k here was)) crosses.crossed;
       given = given_more;
       free = crosses.stands.free;
+      apart = apart_more;
       leads = λ other into maps fits cross.
           let mid = so_far.leads other into maps fits (λ place o k here was. cross place o k here (front all own place k was)) in
           crosses.leads other mid.0 mid.1 (fits count owner at) (cross count owner own at there);

@@ -1,5 +1,5 @@
 -- A call gets copies of what escapes a function, and is joined with them.
-use Rattle.std.proofs.Common.{◌≡◌, ℕ, ◌==◌, Bool, true, false, cond, List, [], Option, Some, None, Bor, option_copied, refl, sym, ap, subst, ◌∙◌, arith, eqb-true, eq-eqb}
+use Rattle.std.proofs.Common.{◌≡◌, ℕ, ◌==◌, Bool, true, false, cond, List, [], Option, Some, None, Bor, option_copied, inl, inr, ◌⊎◌, refl, sym, ap, subst, ◌∙◌, arith, eqb-true, eq-eqb}
 use Rattle.std.specs.Prelude.{◌&&◌}
 use Rattle.std.specs.Map.{lookup}
 use Rattle.std.specs.Option.{is_some}
@@ -12,7 +12,7 @@ use Rattle.tac_ir.specs.declared.register.Register.{Register}
 use Rattle.tac_ir.specs.States.{Owner}
 use Rattle.tac_ir.specs.Views.{tac_of}
 use Rattle.heap_graph.specs.Structures.{AreMade}
-use Rattle.heap_graph.specs.Graphs.{is_copy, Graph}
+use Rattle.heap_graph.specs.Graphs.{Target, OfCopy, is_copy, Graph}
 use Rattle.heap_graph.specs.Merging.{IsSound}
 use Rattle.program_graphs.specs.declared.program.Crossing.{Crossing}
 use Rattle.program_graphs.specs.Programs.{is_crossing}
@@ -28,7 +28,7 @@ use Rattle.outer_calls.proofs.Joining.{free_kept}
 use Rattle.group_crossings.specs.declared.before.Crossings.{Crossings}
 use Rattle.group_crossings.specs.Before.{GraphsBefore, IsReached, graph_reached, nodes_reached}
 use Rattle.group_crossings.specs.Crossings.{CopiesStand, IsCalledFrom, copies_at, EntriesStand}
-use Rattle.group_crossings.specs.CallSteps.{OwnStands, HasEntry, TargetCrosses, EntriesStay, Crosses}
+use Rattle.group_crossings.specs.CallSteps.{OwnStands, HasEntry, TargetCrosses, IsOfEntry, IsOneEntry, EntriesApart, AreNew, EntriesStay, Crosses}
 use Rattle.group_crossings.proofs.Reached.{one_nodes, one_reached}
 use Rattle.group_crossings.proofs.Stepping.{entries_same, entries_kept, stand_kept}
 
@@ -67,6 +67,10 @@ some_there (Some x) h = (x.now, refl)
 pub none_there : {X : Type 0} (found : Option (Bor X)) → is_some found ≡ false → option_copied found ≡ None
 none_there None h = refl
 none_there (Some x) h = absurd (false≢true (sym h))
+
+-- where no calls have copies, no numbers are of them
+pub empty_entries : (own : Crossings) → own.copies.entries ≡ [] → (number : ℕ) → IsOfEntry own number → ⊥
+empty_entries own empty number its = none-some its.copies (sym (ap (λ entries. lookup (is_crossing its.site its.called) entries) empty) ∙ its.at)
 
 module _ (before : GraphsBefore) (made : AreMade (structs_in before.tac.types)) (group : Option ℕ) (owner : Owner) where
   abbrev structs : List StructDef
@@ -126,6 +130,60 @@ module _ (before : GraphsBefore) (made : AreMade (structs_in before.tac.types)) 
               subst (λ c. IsCalledFrom before group owner other_site c) same_called (subst (λ s. IsCalledFrom before group owner s called) same_site from),
             )
 
+    -- a number is of this call, or one of a call before
+    of_this : (number : ℕ) (its : IsOfEntry after number) → (is_key site called its.site its.called ≡ true) → (site ≡ its.site) × (called ≡ its.called) × (copies ≡ its.copies)
+    of_this number its e =
+        let parts = and_parts (site == its.site) (called == its.called) e in (
+          eqb-true site its.site parts.0,
+          eqb-true called its.called parts.1,
+          same_Some copies its.copies (sym (enters.at its.site its.called ∙ ap (λ b. cond b (Some copies) (copies_at own its.site its.called)) e) ∙ its.at),
+        )
+
+    of_other : (number : ℕ) (its : IsOfEntry after number) → (is_key site called its.site its.called ≡ false) → IsOfEntry own number
+    of_other number its e = record {
+      site = its.site;
+      called = its.called;
+      copies = its.copies;
+      at = sym (enters.at its.site its.called ∙ ap (λ b. cond b (Some copies) (copies_at own its.site its.called)) e) ∙ its.at;
+      node = its.node;
+      is = its.is;
+    }
+
+    -- what is of this call has no target yet, and what is of one before has one
+    this_free : (number : ℕ) (its : IsOfEntry after number) → (copies ≡ its.copies) → old.targets (OfCopy number) ≡ None
+    this_free number its same = stands.free number (numbered.within its.node number (ap (λ k. numbers_in k its.node) same ∙ its.is)).0
+
+    other_there : (number : ℕ) (its : IsOfEntry own number) → (target : Target) × (old.targets (OfCopy number) ≡ Some target)
+    other_there number its =
+        let stand = (stands.entries its.site its.called its.copies its.at).0 in
+        let node = (stand.numbered.only its.node number its.is).1 in
+        let fits = stand.copied.nodes its.node number node.0 its.is node.1 in
+        (fits.target, fits.is)
+
+    numbers_added : AreNew own after old
+    numbers_added number its = by (is_key site called its.site its.called) refl
+      where
+        by : (b : Bool) → is_key site called its.site its.called ≡ b → IsOfEntry own number ⊎ (old.targets (OfCopy number) ≡ None)
+        by true e = inr (this_free number its (of_this number its e).2)
+        by false e = inl (of_other number its e)
+
+    numbers_apart : EntriesApart own → EntriesApart after
+    unfolding of_other
+    numbers_apart apart number a b = by (is_key site called a.site a.called) refl (is_key site called b.site b.called) refl
+      where
+        by : (one : Bool) → is_key site called a.site a.called ≡ one → (other : Bool) → is_key site called b.site b.called ≡ other → IsOneEntry after number a b
+        by true e true f =
+            let x = of_this number a e in
+            let y = of_this number b f in
+            record {
+              site = sym x.0 ∙ y.0;
+              called = sym x.1 ∙ y.1;
+              node = numbered.apart a.node b.node number (ap (λ k. numbers_in k a.node) x.2 ∙ a.is) (ap (λ k. numbers_in k b.node) y.2 ∙ b.is);
+            }
+        by false e false f = let same = apart number (of_other number a e) (of_other number b f) in record { site = same.site; called = same.called; node = same.node }
+        by true e false f = let there = other_there number (of_other number b f) in absurd (none-some there.0 (sym (this_free number a (of_this number a e).2) ∙ there.1))
+        by false e true f = let there = other_there number (of_other number a e) in absurd (none-some there.0 (sym (this_free number b (of_this number b f).2) ∙ there.1))
+
     same_names : SameNames old new
     same_names name plain = names name (λ copy first is. false≢true (sym plain ∙ ap is_copy is))
 
@@ -138,6 +196,8 @@ module _ (before : GraphsBefore) (made : AreMade (structs_in before.tac.types)) 
       given = λ number first less.
           let its = numbered.each number first (omega (arith, less, enters.next)) in
           record { site = site; called = called; copies = copies; at = here; node = its.0; is = its.1 };
+      apart = numbers_apart;
+      added = numbers_added;
       stands = record { entries = entries; free = λ copy first. free copy (omega (arith, first, enters.next)) };
       crossed = record { copies = copies; is = here; stand = stand };
       leads = λ other into maps fits its.
@@ -163,6 +223,8 @@ module _ (before : GraphsBefore) (made : AreMade (structs_in before.tac.types)) 
       told = joins.told;
       stay = entries_same own;
       given = λ number first less. absurd (omega (arith, first, less));
+      apart = λ its. its;
+      added = λ number its. inl its;
       stands = record {
         entries = entries_kept before made group owner own old new sound joins.goes stands.entries;
         free = free_kept (tac_of before.tac) callee Wanted old new joins own.next stands.free;

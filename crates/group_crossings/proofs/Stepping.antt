@@ -1,8 +1,8 @@
 -- One step after the other by which calls are joined with copies.
-use Rattle.std.proofs.Common.{◌≡◌, ℕ, ◌+◌, ◌<◌, ◌≤◌, ◌⊎◌, true, List, length, Option, Some, inl, inr, refl, sym, ap, subst, ◌∙◌, arith, below_more}
+use Rattle.std.proofs.Common.{◌≡◌, ℕ, ◌+◌, ◌<◌, ◌≤◌, ◌⊎◌, true, List, length, Option, Some, None, inl, inr, refl, sym, ap, subst, ◌∙◌, arith, below_more}
 use Rattle.std.specs.Prelude.{slice_get}
 use Rattle.std.proofs.lemmas.Bool.{cases_lt}
-use Rattle.std.proofs.lemmas.Option.{same_Some, slice_get_within}
+use Rattle.std.proofs.lemmas.Option.{none-some, same_Some, slice_get_within}
 use Rattle.c_typed.specs.Layouts.{StructDef}
 use Rattle.c_typed.specs.Table.{structs_in}
 use Rattle.tac_ir.specs.declared.register.Register.{Register}
@@ -11,8 +11,10 @@ use Rattle.tac_ir.specs.Code.{Callee, Function, Op, Tac}
 use Rattle.tac_ir.specs.States.{Owner, function_of}
 use Rattle.tac_ir.specs.Views.{tac_of}
 use Rattle.heap_graph.specs.Structures.{AreMade}
-use Rattle.heap_graph.specs.Graphs.{Graph}
+use Rattle.heap_graph.specs.Graphs.{Target, Name, OfCopy, Graph}
+use Rattle.heap_graph.specs.Targets.{element_kept}
 use Rattle.heap_graph.specs.Merging.{IsSound}
+use Rattle.heap_graph.proofs.MapsCompose.{at_there, target_in, mapped_there}
 use Rattle.call_groups.specs.Targets.{is_target}
 use Rattle.call_targets.specs.TargetLists.{AreTargets}
 use Rattle.graph_rows.proofs.Lists.{has_at, at_has}
@@ -51,6 +53,17 @@ entries_same own = λ site called copies at. at
 
 entry_stays : (own after : Crossings) (number : ℕ) → EntriesStay own after → IsOfEntry own number → IsOfEntry after number
 entry_stays own after number stay its = record { site = its.site; called = its.called; copies = its.copies; at = stay its.site its.called its.copies its.at; node = its.node; is = its.is }
+
+-- a name that has no target had none before
+none_before : (structs : List StructDef) (old new : Graph) → IsSound structs old → GoesOn structs old new → (name : Name) → new.targets name ≡ None → old.targets name ≡ None
+none_before structs old new sound goes name none = by (old.targets name) refl
+  where
+    by : (found : Option Target) → old.targets name ≡ found → old.targets name ≡ None
+    by None is = is
+    by (Some target) is =
+        let slot = sound.names name target is in
+        let image = at_there new (goes.map target.node) (element_kept structs slot.node.element) (goes.maps.elements target.node slot.node slot.is) in
+        absurd (none-some (target_in goes.map target image.node) (sym none ∙ (goes.maps.names name target is ∙ mapped_there new goes.map target image.node image.is)))
 
 same_call : (a b : ℕ) (c d : Callee) (p q : List Register) → O.Call a c p ≡ O.Call b d q → (a ≡ b) × (c ≡ d) × (p ≡ q)
 same_call a b c d p q e = (cc, cc, cc)
@@ -124,6 +137,8 @@ module _ (before : GraphsBefore) (made : AreMade (structs_in before.tac.types)) 
       told = λ owners told. told;
       stay = entries_same own;
       given = λ number from less. absurd (omega (arith, from, less));
+      apart = λ its. its;
+      added = λ number its. inl its;
       stands = stands;
       crossed = holds;
       leads = λ other into maps fits its. (into, maps);
@@ -137,6 +152,11 @@ module _ (before : GraphsBefore) (made : AreMade (structs_in before.tac.types)) 
       told = λ owners told. y.told owners (x.told owners told);
       stay = λ site called copies at. y.stay site called copies (x.stay site called copies at);
       given = λ number from less. by number from less (cases_lt number b.next);
+      apart = λ its. y.apart (x.apart its);
+      added = λ number its. elim (y.added number its) [
+        | inl earlier ↦ x.added number earlier
+        | inr none ↦ inr (none_before structs one two sound x.goes (OfCopy number) none)
+      ];
       stands = y.stands;
       crossed = whole c three (keeps b c two three y.stay fine y.goes x.crossed) y.crossed;
       leads = λ other into maps fits its.
@@ -165,6 +185,8 @@ module _ (before : GraphsBefore) (made : AreMade (structs_in before.tac.types)) 
       told = its.told;
       stay = its.stay;
       given = its.given;
+      apart = its.apart;
+      added = its.added;
       stands = its.stands;
       crossed = holds its.crossed;
       leads = λ other into maps fits is. its.leads other into maps fits (gives after other is);
@@ -227,11 +249,17 @@ module _ (before : GraphsBefore) (made : AreMade (structs_in before.tac.types)) 
         its
 
     -- all calls of an owner, of which none had copies before
-    pub owner_done : (start own : Crossings) (old new : Graph) (first : ℕ) → start.next ≡ first → Crosses before group owner (CallsCross before group owner) start own old new → OwnerCrosses before group owner first own old new
-    owner_done start own old new first is its = record {
+    pub owner_done : (start own : Crossings) (old new : Graph) (first : ℕ) → start.next ≡ first → ((number : ℕ) → IsOfEntry start number → ⊥)
+        → Crosses before group owner (CallsCross before group owner) start own old new → OwnerCrosses before group owner first own old new
+    owner_done start own old new first is none its = record {
       goes = its.goes;
       told = its.told;
       given = λ number from less. its.given number (omega (arith, from, is)) less;
+      apart = its.apart (λ number a b. absurd (none number a));
+      added = λ number entry. elim (its.added number entry) [
+        | inl earlier ↦ absurd (none number earlier)
+        | inr free ↦ free
+      ];
       stands = its.stands;
       crossed = its.crossed;
       leads = its.leads;

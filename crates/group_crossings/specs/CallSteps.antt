@@ -1,12 +1,12 @@
 -- The steps by which the calls of one function are joined with copies.
-use Rattle.std.specs.Prelude.{◌≡◌, ℕ, ◌≤◌, ◌<◌, true, List, slice_get, Option, Some}
+use Rattle.std.specs.Prelude.{◌≡◌, ℕ, ◌≤◌, ◌<◌, ◌⊎◌, true, List, slice_get, Option, Some, None}
 use Rattle.c_typed.specs.Table.{structs_in}
 use Rattle.tac_ir.specs.declared.register.FunctionId.{FunctionId}
 use Rattle.tac_ir.specs.declared.register.Register.{Register}
 use Rattle.tac_ir.specs.Code.{Function, Op, Tac}
 use Rattle.tac_ir.specs.States.{Owner, function_of}
 use Rattle.tac_ir.specs.Views.{tac_of}
-use Rattle.heap_graph.specs.Graphs.{Graph}
+use Rattle.heap_graph.specs.Graphs.{Graph, OfCopy}
 use Rattle.heap_graph.specs.Merging.{GraphMap, Maps}
 use Rattle.graph_memory.specs.declared.graph.Graph as memory_graph
 use Rattle.graph_memory.specs.Memory.{owner_of, graph_in}
@@ -90,6 +90,19 @@ pub record IsOfEntry (own : Crossings) (number : ℕ) : Type 0 where
 abbrev pub AreGiven : ℕ → Crossings → Type 0
 AreGiven first own = (number : ℕ) → first ≤ number → number < own.next → IsOfEntry own number
 
+-- each is of one node at one call
+pub record IsOneEntry (own : Crossings) (number : ℕ) (a b : IsOfEntry own number) : Type 0 where
+  pub site : a.site ≡ b.site
+  pub called : a.called ≡ b.called
+  pub node : a.node ≡ b.node
+
+abbrev pub EntriesApart : Crossings → Type 0
+EntriesApart own = (number : ℕ) (a b : IsOfEntry own number) → IsOneEntry own number a b
+
+-- a number that wasn't of a call before was that of no copy in the graph
+abbrev pub AreNew : Crossings → Crossings → Graph → Type 0
+AreNew own after old = (number : ℕ) → IsOfEntry after number → IsOfEntry own number ⊎ (old.targets (OfCopy number) ≡ None)
+
 -- calls keep the copies that they have
 abbrev pub EntriesStay : Crossings → Crossings → Type 0
 EntriesStay own after = (site called : ℕ) (copies : Copies) → copies_at own site called ≡ Some copies → copies_at after site called ≡ Some copies
@@ -101,6 +114,8 @@ pub record Crosses (before : GraphsBefore) (group : Option ℕ) (owner : Owner) 
   pub told : (owners : List Owner) → NamesTold (tac_of before.tac) owners old → NamesTold (tac_of before.tac) owners new
   pub stay : EntriesStay own after
   pub given : AreGiven own.next after
+  pub apart : EntriesApart own → EntriesApart after
+  pub added : AreNew own after old
   pub stands : OwnStands before group owner after new
   pub crossed : wanted after new
   pub leads : (other : Graph) (into : GraphMap) → Maps (structs_in before.tac.types) old other into → CallsFit before group owner other → wanted after other
@@ -111,6 +126,8 @@ pub record OwnerCrosses (before : GraphsBefore) (group : Option ℕ) (owner : Ow
   pub goes : GoesOn (structs_in before.tac.types) old new
   pub told : (owners : List Owner) → NamesTold (tac_of before.tac) owners old → NamesTold (tac_of before.tac) owners new
   pub given : AreGiven first own
+  pub apart : EntriesApart own
+  pub added : (number : ℕ) → IsOfEntry own number → old.targets (OfCopy number) ≡ None
   pub stands : OwnStands before group owner own new
   pub crossed : CallsCross before group owner own new
   pub leads : (other : Graph) (into : GraphMap) → Maps (structs_in before.tac.types) old other into → CallsFit before group owner other → CallsCross before group owner own other

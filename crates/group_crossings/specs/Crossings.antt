@@ -110,6 +110,17 @@ pub record IsOfCall (all : List Crossings) (number : ℕ) : Type 0 where
   pub node : ℕ
   pub is : numbers_in copies node ≡ Some number
 
+-- two numbers of copies' names are of one node at one call
+pub record IsOneCall (all : List Crossings) (number : ℕ) (a b : IsOfCall all number) : Type 0 where
+  pub place : a.place ≡ b.place
+  pub site : a.site ≡ b.site
+  pub called : a.called ≡ b.called
+  pub node : a.node ≡ b.node
+
+-- no number is of two nodes, or of two calls
+abbrev pub NumbersApart : List Crossings → Type 0
+NumbersApart all = (number : ℕ) (a b : IsOfCall all number) → IsOneCall all number a b
+
 -- The owners' calls out of the group have copies, by the places of the owners, and use them. All copies are those of such calls.
 pub record AreCrossed (before : GraphsBefore) (group : Option ℕ) (owners : List (Option FunctionId)) (all : List Crossings) (graph : Graph) : Type 0 where
   pub size : length all ≡ length owners

@@ -12,7 +12,7 @@ ghost use Rattle.group_begins.specs.Told.{NamesTold, NoCopies};
 ghost use Rattle.group_freezing.specs.Owners.{function_at, IsFunctionOf};
 ghost use Rattle.outer_calls.specs.Crossed.{CallNamed};
 ghost use Rattle.group_crossings.specs.Before.{graphs_before, is_inside, IsReached};
-ghost use Rattle.group_crossings.specs.Crossings.{owners_in, AreReached, AllReached, IsKnown, IsCalledFrom, AreCrossed};
+ghost use Rattle.group_crossings.specs.Crossings.{owners_in, AreReached, AllReached, IsKnown, IsCalledFrom, AreCrossed, NumbersApart};
 ghost use Rattle.group_crossings.specs.CallSteps.{shown, IsPoint, OwnerNamed, CallOut, OwnStands, HasEntry, TargetCrosses, TargetsCross, PointCrosses, Crosses, OwnerCrosses, AllLead};
 
 use crate::before::{Before, Crossings};
@@ -51,6 +51,7 @@ impl<'a> Before<'a> {
         ensures goes { OnOk result (GoesOn (structs_in self.entry.tac.now.types) (graph_in self.entry.tac.now.types graph.old) (graph_in self.entry.tac.now.types graph.new)) }
         ensures told { OnOk result (NamesTold (tac_of self.entry.tac.now) (owners_in owners.now) (graph_in self.entry.tac.now.types graph.new)) }
         ensures crossed { IfOk result (λ all. AreCrossed (graphs_before self.entry) group owners.now all.items (graph_in self.entry.tac.now.types graph.new)) }
+        ensures apart { IfOk result (λ all. NumbersApart all.items) }
         ensures leads { IfOk result (λ all. AllLead (graphs_before self.entry) group owners.now all.items (graph_in self.entry.tac.now.types graph.old) (graph_in self.entry.tac.now.types graph.new)) }
     {
         let mut all = Vec::new(alloc);

@@ -75,7 +75,7 @@ listed (first ∷ others) = T.MoreValues first (listed others)
 abbrev pub initial_values : Trees.ProgramTree → Values
 initial_values program = listed (first_values program)
 
--- A program's code has groups and closed heap graphs, of which none begins with more than 65,536 nodes.
+-- A program's code has groups and the smallest closed heap graphs, of which none begins with more than 65,536 nodes.
 pub record IsGraphed (program : Program) (first : Values) : Type 0 where
   pub tac : Tac
   pub groups : List (List ℕ)

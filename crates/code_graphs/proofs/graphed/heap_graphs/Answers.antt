@@ -23,7 +23,7 @@ pub returns-clause-graphs : goal.returns-clause-graphs
 returns-clause-graphs c = λ program first source.
     let graphs = graphs_in c.args.tac.now (record { groups = c.in_ok-groups.groups; graphs = c.in_ok-graphs.graphs }) in
     let told = c.in_ok-graphs.ensures in
-    graphed program first c.args.tac.now c.args.counts.now source (groups_of c.in_ok-groups.groups) graphs c.in_ok-groups.ensures.groups told.closed told.few told.few_first
+    graphed program first c.args.tac.now c.args.counts.now source (groups_of c.in_ok-groups.groups) graphs c.in_ok-groups.ensures.groups told.closed told.smallest told.few told.few_first
 
 pub returns-clause-grouped : goal.returns-clause-grouped
 returns-clause-grouped c = grouped c.requires.0 c.requires.1 c.args.tac.now c.args.counts.now c.requires.2 c.in_ok-groups.groups c.in_ok-groups.ensures.groups c.in_ok-groups.ensures.of

@@ -31,7 +31,8 @@ loop-number-preserved c =
     let number = c.loop-number.number in
     let next : suc number ≡ number + 1 = omega arith in
     subst (SoFar tac groups counts c.add_group.new.self) next
-    (one_more tac groups counts c.loop-number.making c.add_group.new.self number c.loop-number.invariant c.in_ok-add_group.ensures.making c.in_ok-add_group.ensures.begins c.in_ok-count_group.ensures.few)
+    (one_more tac groups counts c.loop-number.making c.add_group.new.self number c.loop-number.invariant c.in_ok-add_group.ensures.making c.in_ok-add_group.ensures.begins c.in_ok-count_group.ensures.few
+    c.in_ok-add_group.ensures.least)
 
 pub returns-in_err-count_group-clause-refused : goal.returns-in_err-count_group-clause-refused
 returns-in_err-count_group-clause-refused c = λ count is.
@@ -84,6 +85,20 @@ returns-clause-functions c = c.in_ok-finish.ensures.begins.functions
 
 pub returns-clause-closed : goal.returns-clause-closed
 returns-clause-closed c = c.in_ok-finish.ensures.closed
+
+pub returns-clause-smallest : goal.returns-clause-smallest
+returns-clause-smallest c = λ start.
+    let tac = c.args.tac.now in
+    let groups = c.args.groups.now in
+    let counts = c.args.counts.now.functions.items in
+    let all = groups_many groups in
+    let read = c.len-number-end.ensures in
+    let size = groups.members.ok.0 in
+    let past = c.loop-number-test.false in
+    let within = c.loop-number.auto.number-end in
+    let same : c.loop-number.number ≡ length (groups_of groups) = omega (arith, all, read, size, past, within) in
+    let so_far : SoFar tac groups counts c.loop-number.making (length (groups_of groups)) = subst (SoFar tac groups counts c.loop-number.making) same c.loop-number.invariant in
+    c.in_ok-finish.ensures.smallest start (so_far.least start)
 
 pub returns-clause-few : goal.returns-clause-few
 returns-clause-few c =

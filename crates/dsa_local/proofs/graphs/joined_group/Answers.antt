@@ -6,6 +6,7 @@ use Rattle.tac_ir.specs.Views.{tac_of}
 use Rattle.graph_memory.specs.Memory.{owner_of, graph_in}
 use Rattle.call_targets.specs.ClassLists.{numbers_of}
 use Rattle.function_groups.specs.GroupViews.{lists_of, groups_of}
+use Rattle.group_begins.specs.Beginning.{Begins}
 use Rattle.group_begins.specs.Told.{NamesTold}
 use Rattle.inner_calls.specs.declared.members.Group.{Group}
 use Rattle.inner_calls.specs.Members.{is_inside}
@@ -14,6 +15,7 @@ use Rattle.dsa_local.specs.Local.{owners_in, owners_at}
 use Rattle.dsa_local.proofs.Keeping.{copies_kept, have_own}
 use Rattle.dsa_local.proofs.Owning.{inside_among, has_inside, listed_within}
 use Rattle.dsa_local.proofs.Assembling.{group_joined}
+use Rattle.dsa_local.proofs.Leading.{group_leads}
 use Rattle.dsa_local.proofs.graphs.joined_group.Goals as goal
 
 listed : (lists : List (Vec FunctionId Global)) (n : ℕ) (list : Vec FunctionId Global) (members : List FunctionId) → n < length lists → list ≡ get_or lists n list → members ≡ list.items
@@ -98,6 +100,23 @@ returns-clause-joined c =
     let told : NamesTold (tac_of tac) owners begun = subst (λ os. NamesTold (tac_of tac) os begun) same c.in_ok-graph.ensures.told in
     group_joined group c.requires.code.made c.requires.of (numbers_of members) at begun (graph_in tac.types c.join_classes.new.graph) (graph_in tac.types c.join_members.new.graph) c.in_ok-graph.ensures.graph.sound
     c.in_ok-join_classes.ensures.graph.sound told c.in_ok-graph.ensures.named c.in_ok-join_classes.ensures.joins c.in_ok-join_members.ensures.joins
+
+pub returns-clause-leads : goal.returns-clause-leads
+returns-clause-leads c =
+    let tac = c.args.tac.now in
+    let groups = c.args.groups.now in
+    let n = c.args.number in
+    let group : Group = record { tac = c.args.tac; groups = c.args.groups; number = n } in
+    let lists = groups.members.items in
+    let members = c.as_slice-members.result.now in
+    let at : slice_get (groups_of groups) n ≡ Some (numbers_of members) =
+    listed lists n c.index.result.now members c.requires.within c.index.ensures c.as_slice-members.ensures.value in
+    let owners = owners_at (groups_of groups) n in
+    let same : map owner_of c.deref.result.now ≡ owners =
+    ap (map owner_of) c.deref.ensures.value ∙ (c.in_ok-owners.ensures ∙ sym (ap owners_in (get_or_from_slice_get (groups_of groups) n (numbers_of members) [] at))) in
+    let begun = graph_in tac.types c.in_ok-graph.graph in
+    group_leads group c.requires.of c.requires.groups (numbers_of members) at owners begun (graph_in tac.types c.join_classes.new.graph) (graph_in tac.types c.join_members.new.graph)
+    (subst (λ os. Begins (tac_of tac) os begun) same c.in_ok-graph.ensures.begins) c.in_ok-join_classes.ensures.joins c.in_ok-join_members.ensures.joins
 
 pub returns-clause-copies : goal.returns-clause-copies
 returns-clause-copies c =

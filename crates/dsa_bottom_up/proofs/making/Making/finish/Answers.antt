@@ -3,7 +3,7 @@ use Rattle.tac_ir.specs.declared.register.FunctionId.{FunctionId}
 use Rattle.tac_ir.specs.Views.{tac_of}
 use Rattle.graph_memory.specs.Memory.{graph_in}
 use Rattle.program_graphs.specs.declared.program.ProgramGraphs.{ProgramGraphs}
-use Rattle.dsa_bottom_up.proofs.Finishing.{known_of, reached_of, first_joined, still_joined, first_copies, still_no_copies, start_assembled, ends_closed, groups_many}
+use Rattle.dsa_bottom_up.proofs.Finishing.{known_of, reached_of, first_joined, still_joined, first_copies, still_no_copies, start_assembled, ends_closed, ends_smallest, groups_many}
 use Rattle.dsa_bottom_up.proofs.making.Making.finish.Goals as goal
 
 pub assemble-requires-clause-known : goal.assemble-requires-clause-known
@@ -40,3 +40,22 @@ returns-clause-closed c =
 
 pub returns-clause-graphs : goal.returns-clause-graphs
 returns-clause-graphs c = c.requires.making.graphs ∙ groups_many c.args.groups.now
+
+pub returns-clause-smallest : goal.returns-clause-smallest
+returns-clause-smallest c = λ start least.
+    let tac = c.args.tac.now in
+    let groups = c.args.groups.now in
+    let owners : c.deref.result.now ≡ None ∷ [] = c.deref.ensures.value ∙ (c.in_ok-push.ensures.items ∙ ap (λ (l : List (Option FunctionId)). l ++ None ∷ []) c.new-owners.ensures.items) in
+    let all : ProgramGraphs = record { graphs = c.args.self.graphs; functions = c.args.self.functions; start = c.in_ok-made.made.graph; start_function = c.in-Some.own } in
+    let assembled = start_assembled c.before-2.result tac groups c.args.self c.before-2.ensures c.deref.result.now owners c.apply_first.new.graph c.in_ok-made.made.graph c.in_ok-made.made.functions.items c.pop.new.self.items c.in-Some.own
+    c.in-Some.ensures.items c.in_ok-made.ensures in
+    let joined = graph_in tac.types c.in_ok-graph.field-0.graph in
+    let begun = graph_in tac.types c.apply_first.new.graph in
+    ends_smallest tac groups c.args.self c.requires.grouped c.requires.making all refl refl begun c.in-Some.own start assembled
+    (record {
+      joined = joined;
+      leads = c.in_ok-graph.ensures.leads;
+      keeps = c.in_ok-apply_first.ensures.keeps;
+      copies = first_copies (tac_of tac) joined begun c.in_ok-apply_first.ensures.keeps c.in_ok-graph.ensures.copies;
+    })
+    refl least

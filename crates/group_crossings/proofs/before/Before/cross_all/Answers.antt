@@ -67,3 +67,6 @@ returns-clause-crossed c =
 
 pub returns-clause-leads : goal.returns-clause-leads
 returns-clause-leads c = c.loop-owner.invariant.so_far.leads
+
+pub returns-clause-apart : goal.returns-clause-apart
+returns-clause-apart c = c.loop-owner.invariant.so_far.apart

@@ -10,7 +10,7 @@ use Rattle.group_crossings.specs.Before.{graphs_before}
 use Rattle.group_crossings.specs.CallSteps.{shown, PointCrosses, Crosses}
 use Rattle.group_crossings.proofs.Naming.{owner_named_kept, function_there}
 use Rattle.group_crossings.proofs.Stepping.{Below, AtEach, crosses_none, crosses_next, point_kept, point_back, points_done, owner_done}
-use Rattle.group_crossings.proofs.Entering.{no_entries}
+use Rattle.group_crossings.proofs.Entering.{no_entries, empty_entries}
 use Rattle.group_crossings.proofs.before.Before.cross_owner.Goals as goal
 
 pub loop-op-init : goal.loop-op-init
@@ -94,7 +94,7 @@ returns-clause-crosses c =
     let graph = shown self c.loop-op.graph in
     let long = length-map function.points.items (op_in table) in
     let same = ap (λ l. length l) value in
-    owner_done before made group owner begin c.loop-op.own start graph c.args.first refl
+    owner_done before made group owner begin c.loop-op.own start graph c.args.first refl (empty_entries begin c.new.ensures.empty)
     (points_done before made group owner (function_in table function) (function_there self.tac.now c.args.caller.owner function c.function_of-function.ensures) begin c.loop-op.own start graph c.loop-op.op-index
     (omega (arith, long, same, c.loop-op-test.false))
     (subst (λ (l : List memory_op.Op). Crosses before group owner (Below (AtEach (PointCrosses before group owner) (map (op_in table) l)) c.loop-op.op-index) begin c.loop-op.own start graph) value c.loop-op.invariant.crosses))

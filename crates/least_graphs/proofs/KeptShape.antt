@@ -1,0 +1,57 @@
+-- What is kept of a graph that was made is mapped where its certain nodes are.
+use Rattle.std.proofs.Common.{◌≡◌, ℕ, Bool, true, false, cond, List, Option, Some, None, refl, sym, ap, subst, ◌∙◌}
+use Rattle.std.proofs.lemmas.Option.{none-some}
+use Rattle.c_typed.specs.Layouts.{StructDef}
+use Rattle.tac_ir.specs.Code.{Tac}
+use Rattle.tac_ir.specs.States.{Owner}
+use Rattle.heap_graph.specs.Graphs.{Target, Name, OfRegister, OfResult, OfObject, OfGlobal, OfLiteral, OfCopy, Graph, edge_in}
+use Rattle.heap_graph.specs.Targets.{at_target, element_kept}
+use Rattle.heap_graph.specs.Merging.{GraphMap, mapped}
+use Rattle.point_asks.specs.Asks.{is_certain}
+use Rattle.point_asks.specs.Restricted.{if_certain}
+use Rattle.point_asks.specs.CertainMaps.{MapsCertain}
+use Rattle.group_freezing.specs.Kept.{is_own, IsFrozen}
+use Rattle.group_freezing.proofs.KeptNodes.{before}
+use Rattle.least_graphs.specs.Mapping.{MapsShape}
+use Rattle.least_graphs.proofs.SamePoints.{with_copies}
+
+if_some : (graph : Graph) (target : Option Target) (to : Target) → if_certain graph target ≡ Some to → (target ≡ Some to) × (is_certain graph (Some to) ≡ true)
+if_some graph None to e = absurd (none-some to e)
+if_some graph (Some target) to e = by (is_certain graph (Some target)) refl e
+  where
+    by : (b : Bool) → is_certain graph (Some target) ≡ b → cond b (Some target) None ≡ Some to → (Some target ≡ Some to) × (is_certain graph (Some to) ≡ true)
+    by true certain h = (h, ap (is_certain graph) (sym h) ∙ certain)
+    by false certain h = absurd (none-some to h)
+
+module _ (tac : Tac) (owners : Owner → Bool) (made kept : Graph) (frozen : IsFrozen tac owners made kept) (structs : List StructDef) (other : Graph) (at : ℕ → Option Target) (map : GraphMap)
+    (maps : MapsCertain structs made (with_copies other at) map) where
+  kept_name : (name : Name) (target : Target) → kept.targets name ≡ Some target → (made.targets name ≡ Some target) × (is_certain made (Some target) ≡ true)
+  kept_name name target is = by (is_own tac owners name) (sym (frozen.names name) ∙ is)
+    where
+      by : (b : Bool) → cond b (if_certain made (made.targets name)) None ≡ Some target → (made.targets name ≡ Some target) × (is_certain made (Some target) ≡ true)
+      by true e = if_some made (made.targets name) target e
+      by false e = absurd (none-some target e)
+
+  named : (name : Name) (target : Target) → kept.targets name ≡ Some target → (with_copies other at).targets name ≡ mapped other map target
+  named name target is = let was = kept_name name target is in maps.names name target was.0 was.1
+
+  pub kept_shape : MapsShape structs kept other map
+  kept_shape = record {
+    names = by;
+    elements = λ number node is.
+        let was = before made kept frozen.nodes number node is in
+        subst (λ element. at_target other (Some (map number)) (element_kept structs element) ≡ true) (sym was.keeps.element) (maps.elements number was.old was.is was.keeps.certain);
+    edges = λ number slot node to is edge.
+        let was = before made kept frozen.nodes number node is in
+        let its = if_some made (edge_in was.old.edges slot) to (sym (was.keeps.edges slot) ∙ edge) in
+        maps.edges number slot was.old to was.is was.keeps.certain its.0 its.1;
+  }
+    where
+      -- copies have no names any more
+      by : (name : Name) (target : Target) → kept.targets name ≡ Some target → other.targets name ≡ mapped other map target
+      by (OfRegister owner register) target is = named (OfRegister owner register) target is
+      by (OfResult owner) target is = named (OfResult owner) target is
+      by (OfObject owner local) target is = named (OfObject owner local) target is
+      by (OfGlobal number) target is = named (OfGlobal number) target is
+      by (OfLiteral number) target is = named (OfLiteral number) target is
+      by (OfCopy number) target is = absurd (none-some target (sym (frozen.names (OfCopy number)) ∙ is))

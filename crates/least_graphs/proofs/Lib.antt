@@ -1,0 +1,13 @@
+pub mod Reaching
+pub mod SamePoints
+pub mod SoundGraphs
+pub mod CopyPlaces
+pub mod CopyTargets
+pub mod Settling
+pub mod StaticNames
+pub mod KnownCallees
+pub mod KeptShape
+pub mod OneGroup
+pub mod Adding
+pub mod StartGraph
+pub mod Smallest

@@ -1,0 +1,3 @@
+pub mod Mapping
+pub mod Making
+pub mod Smallest
