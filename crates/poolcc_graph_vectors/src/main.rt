@@ -78,15 +78,15 @@ fn answer<W: Write>(
 
 // Does so with the text of a line.
 fn answer_line<W: Write>(alloc: Global, line: &str, out: &mut W) -> io::Result<()> {
-    let mut name = "";
-    let mut command = "";
+    let Some((name, rest)) = line.split_once('\t') else {
+        return Ok(());
+    };
+    let Some((command, pieces)) = rest.split_once('\t') else {
+        return Ok(());
+    };
     let mut text = Vec::new(alloc);
-    for (place, part) in line.split('\t').enumerate() {
-        match place {
-            0 => name = part,
-            1 => command = part,
-            _ => put_piece(alloc, &mut text, part)?,
-        }
+    for piece in pieces.split('\t') {
+        put_piece(alloc, &mut text, piece)?;
     }
     answer(alloc, name, command, text, out)
 }
