@@ -1,5 +1,5 @@
 -- The typed tree of a program that violates no rule.
-use Rattle.std.specs.Prelude.{ℕ, suc, Bool, true, false, nat_le, bytes_eq, if◌then◌else◌, List, [], ◌∷◌, ◌++◌, length, Option, Some, None, ℤ, pos}
+use Rattle.std.specs.Prelude.{ℕ, suc, Bool, true, false, nat_le, nat_lt, bytes_eq, if◌then◌else◌, List, [], ◌∷◌, ◌++◌, length, Option, Some, None, ℤ, pos}
 use Rattle.text_place.specs.declared.place.Pos.{Pos}
 use Rattle.c_num.specs.declared.IntType.{IntType}
 use Rattle.c_num.specs.declared.IntType.TheVariants as I
@@ -164,9 +164,13 @@ character_type _ = I.Char
 abbrev pub within : List Part → Part → List Part
 within steps step = steps ++ step ∷ []
 
--- The bytes of a literal, where they have room in the array; what follows is zero.
+-- The bytes that a literal stores in an array of n characters: the zero at its end is one where it has room (C17 6.7.9 paragraph 14).
+abbrev pub bytes_held : ℕ → List ℕ → List ℕ
+bytes_held n bytes = if nat_lt (length bytes) n then bytes ++ (0 ∷ []) else bytes
+
+-- A literal, where its bytes have room in the array; what follows is zero.
 abbrev pub text_held : List Part → ℕ → CType → ℕ → List ℕ → List Held
-text_held steps index element n bytes = if nat_le (length bytes) n then characters_held (within steps (Parts.Elements index)) (character_type element) 0 bytes else []
+text_held steps index element n bytes = if nat_le (length bytes) n then characters_held (within steps (Parts.Elements index)) (character_type element) 0 (bytes_held n bytes) else []
 
 abbrev pub value_held : Scope → List Part → ℕ → CType → ExprTree → List Held
 value_held scope steps index (Array element n) (Trees.Literal bytes place) = if is_character element then text_held steps index element n bytes else []

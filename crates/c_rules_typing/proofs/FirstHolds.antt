@@ -1,6 +1,6 @@
 -- First values stand in the variable that they initialize.
-use Rattle.std.proofs.Common.{◌≡◌, ℕ, zero, suc, ◌+◌, ◌<◌, ◌≤◌, Bool, true, false, cond, List, [], ◌∷◌, length, slice_get, Option, Some, None, refl, ap, ◌∙◌, arith, nat_le}
-use Rattle.std.proofs.lemmas.Bool.{true≢false, leb-true}
+use Rattle.std.proofs.Common.{◌≡◌, ℕ, zero, suc, ◌+◌, ◌<◌, ◌≤◌, Bool, true, false, cond, List, [], ◌∷◌, length, slice_get, Option, Some, None, refl, ap, ◌∙◌, ◌++◌, arith, nat_le, nat_lt, length-append}
+use Rattle.std.proofs.lemmas.Bool.{true≢false, leb-true, ltb-true}
 use Rattle.c_syntax.specs.Trees
 use Rattle.c_syntax.specs.Trees.{ExprTree, InitTree, InitsTree}
 use Rattle.c_typed.specs.declared.part.Part.{Part}
@@ -14,7 +14,7 @@ use Rattle.c_rules.specs.Known.{Checked, Known, as_value}
 use Rattle.c_rules.specs.Operators as rules
 use Rattle.c_rules.specs.Expressions.{expr, place_of}
 use Rattle.c_rules.specs.Initializers.{is_text, members_of, first_of, value_first, text_first, elements_first, members_first}
-use Rattle.c_rules.specs.Elaborated.{literals_in, literals_in_init, literals_in_inits, scalar_of, scalar_held, held_at, within, text_held, value_held, held_of, text_list, elements_held, members_held}
+use Rattle.c_rules.specs.Elaborated.{literals_in, literals_in_init, literals_in_inits, scalar_of, scalar_held, held_at, within, bytes_held, text_held, value_held, held_of, text_list, elements_held, members_held}
 use Rattle.c_well_typed.specs.Context.{Context}
 use Rattle.c_well_typed.specs.Expressions.{is_scalar}
 use Rattle.c_well_typed.specs.Programs.{all_held}
@@ -83,6 +83,13 @@ module _ (program : Program) (scope : Scope) (fit : Fits scope (record { program
   none_held steps index (Struct tag) other (Some known) = refl
   none_held steps index (Function result types) other (Some known) = refl
 
+  held_fits : (n : ℕ) (bytes : List ℕ) → length bytes ≤ n → length (bytes_held n bytes) ≤ n
+  held_fits n bytes le = by (nat_lt (length bytes) n) refl
+    where
+      by : (b : Bool) → nat_lt (length bytes) n ≡ b → length (cond b (bytes ++ 0 ∷ []) bytes) ≤ n
+      by false e = le
+      by true e = omega (arith, length-append bytes (0 ∷ []), ltb-true (length bytes) n e)
+
   text_fits : (steps : List Part) (index : ℕ) (element : CType) (n : ℕ) → AtRow program whole steps index (Array element n) → (bytes : List ℕ)
       → all_held program whole (cond (is_character element) (text_held steps index element n bytes) []) ≡ true
   text_fits steps index Void n row bytes = refl
@@ -93,12 +100,14 @@ module _ (program : Program) (scope : Scope) (fit : Fits scope (record { program
   text_fits steps index (Integer int_type) n row bytes = by (is_character (Integer int_type)) (nat_le (length bytes) n) refl
     where
       characters : List Held
-      characters = Rattle.c_typed.specs.DefinitionViews.characters_held (within steps (Parts.Elements index)) int_type 0 bytes
+      characters = Rattle.c_typed.specs.DefinitionViews.characters_held (within steps (Parts.Elements index)) int_type 0 (bytes_held n bytes)
 
       by : (b c : Bool) → nat_le (length bytes) n ≡ c → all_held program whole (cond b (cond c characters []) []) ≡ true
       by false c e = refl
       by true false e = refl
-      by true true e = let under : length bytes ≤ n = leb-true (length bytes) n e in characters_fit program whole (within steps (Parts.Elements index)) int_type n (λ i lt. at_element program whole steps index (Integer int_type) n row i lt) 0 bytes (omega arith)
+      by true true e =
+          let under : length (bytes_held n bytes) ≤ n = held_fits n bytes (leb-true (length bytes) n e) in
+          characters_fit program whole (within steps (Parts.Elements index)) int_type n (λ i lt. at_element program whole steps index (Integer int_type) n row i lt) 0 (bytes_held n bytes) (omega arith)
 
   array_fits : (steps : List Part) (index : ℕ) (element : CType) (n : ℕ) → AtRow program whole steps index (Array element n) → (value : ExprTree) → all_held program whole (value_held scope steps index (Array element n) value) ≡ true
   array_fits steps index element n row (Trees.Literal bytes place) = text_fits steps index element n row bytes

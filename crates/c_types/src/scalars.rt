@@ -1,6 +1,6 @@
 // First values of scalars outside functions, which are constant (C17 6.7.9 paragraph 4).
 
-ghost use Rattle.std.specs.Prelude.{◌≡◌, nat_le, [], OnOk, length as count};
+ghost use Rattle.std.specs.Prelude.{◌≡◌, nat_le, [], IfOk, OnOk, length as count};
 ghost use Rattle.c_syntax.specs.Views.{expr_tree};
 ghost use Rattle.c_typed.specs.Types as T;
 ghost use Rattle.c_typed.specs.Table.{Stands, type_in};
@@ -25,7 +25,7 @@ use c_typed::{CType, First, Held, Part, Scalar, Shape, Value};
 use c_types_expressions::{Pass, is_character, place_of};
 use c_types_operands::{Operand, fits, retyped};
 use c_types_state::{Address, Checker};
-use std::alloc::AllocError;
+use std::alloc::{AllocError, Global};
 use text_place::Pos;
 
 /// An expression as the first value of a global, an element or a member of a type.
@@ -107,7 +107,7 @@ fn refused_first(
     Ok(())
 }
 
-/// A literal as the first bytes of an array of characters; the final zero may be cut off.
+/// A literal as the first bytes of an array of characters; the final zero is cut off where it has no room.
 pub(crate) fn text_first(
     pass: &mut Pass,
     target: &mut Target,
@@ -131,9 +131,20 @@ pub(crate) fn text_first(
     target.first.push(First::Text {
         parts,
         int_type: character_type(&pass.checker, element),
-        bytes: ByteString::from_slice(pass.alloc(), bytes)?,
+        bytes: bytes_held(pass.alloc(), length, bytes)?,
     })?;
     Ok(())
+}
+
+/// The bytes that a literal stores in an array of so many characters.
+fn bytes_held(alloc: Global, length: u64, bytes: &[u8]) -> Result<ByteString, AllocError>
+    ensures { IfOk result (λ made. made ≡ elaborated.bytes_held length bytes.now) }
+{
+    let mut held = Vec::from_slice(alloc, bytes)?;
+    if (bytes.len() as u64) < length {
+        held.push(0)?;
+    }
+    Ok(ByteString::new(held))
 }
 
 fn character_type(checker: &Checker, element: CType) -> IntType

@@ -18,7 +18,7 @@ returns-clause-held c =
     let here = unless-met s.checker c.require.new.self R.T18 c.args.place _ met c.require.ensures.noted in
     let int_type = c.character_type.ensures ∙ ap (λ (u : State). elaborated.character_type (type_in u.table c.args.element)) here in
     let steps = c.in_ok-push.ensures.items ∙ (λ i. elaborated.within (c.in_ok-parts.ensures i) (Parts.Elements c.args.index)) in
-    let copied = c.in_ok-from_slice.ensures ∙ c.as_slice-bytes.ensures in
-    let held = characters_held (elaborated.within c.args.target.now.parts.items (Parts.Elements c.args.index)) (elaborated.character_type (type_in s.checker.table c.args.element)) 0 bytes in
+    let stored = c.in_ok-bytes_held.ensures ∙ ap (λ bs. elaborated.bytes_held n bs) c.as_slice-bytes.ensures in
+    let held = characters_held (elaborated.within c.args.target.now.parts.items (Parts.Elements c.args.index)) (elaborated.character_type (type_in s.checker.table c.args.element)) 0 (elaborated.bytes_held n bytes) in
     subst (λ b. HoldsFirst (if b then held else []) c.args.target.now (record c.args.target.now { first = c.push-2.new.self })) (sym met ∙ ap (λ bs. nat_le (length bs) n) c.as_slice-bytes.ensures)
-    (holds-one _ refl c.in_ok-push-2.ensures.items (λ i. characters_held (steps i) (int_type i) 0 (copied i)))
+    (holds-one _ refl c.in_ok-push-2.ensures.items (λ i. characters_held (steps i) (int_type i) 0 (stored i)))
