@@ -1,6 +1,7 @@
 -- The calls out of a group that was assembled, in the graphs of a program that show it: they are closed, and copies are images.
-use Rattle.std.proofs.Common.{◌≡◌, ℕ, true, false, List, Option, Some, refl, sym, ap, subst, ◌∙◌}
+use Rattle.std.proofs.Common.{◌≡◌, ℕ, Bool, true, false, List, Option, Some, None, refl, sym, ap, subst, ◌∙◌}
 use Rattle.std.specs.Prelude.{slice_get}
+use Rattle.std.proofs.lemmas.Bool.{true≢false}
 use Rattle.tac_ir.specs.declared.register.FunctionId.{FunctionId}
 use Rattle.tac_ir.specs.Code as O
 use Rattle.tac_ir.specs.States.{Owner}
@@ -15,24 +16,28 @@ use Rattle.program_graphs.specs.declared.program.ProgramGraphs.{ProgramGraphs}
 use Rattle.program_graphs.specs.Programs.{function_embedding}
 use Rattle.point_asks.specs.Restricted.{Restricts}
 use Rattle.call_copies.specs.declared.copies.Copies.{Copies}
-use Rattle.call_copies.specs.Copied.{numbers_in, named_copy, copy_at}
+use Rattle.call_copies.specs.Adding.{AreNumbered}
+use Rattle.call_copies.specs.Copied.{numbers_in, named_copy, copy_at, AreCopied}
+use Rattle.call_copies.specs.Telling.{CopiesTold}
 use Rattle.call_copies.proofs.Closing.{KeepsCertain, restricts_keeps}
 use Rattle.call_copies.proofs.Listed.{embeds}
+use Rattle.outer_calls.specs.Crossed.{IsCrossed}
 use Rattle.outer_calls.proofs.Closing.{outer_closed}
 use Rattle.group_begins.specs.Mentioned.{is_among}
 use Rattle.group_freezing.specs.Embedded.{CopiesAreImages}
 use Rattle.group_freezing.specs.Owners.{is_owner}
 use Rattle.group_freezing.proofs.RestrictsMade.{restricts}
-use Rattle.made_groups.specs.Made.{AreOuterClosed}
+use Rattle.made_groups.specs.Made.{IsOuterClosed, AreOuterClosed}
 use Rattle.group_crossings.specs.declared.before.Crossings.{Crossings}
-use Rattle.group_crossings.specs.Before.{GraphsBefore, is_out}
+use Rattle.group_crossings.specs.Before.{GraphsBefore, IsReached, graph_reached, nodes_reached, is_live, is_out}
 use Rattle.group_crossings.specs.Crossings.{owners_in, copies_at}
-use Rattle.group_crossings.proofs.Images.{call_images}
+use Rattle.group_crossings.proofs.Images.{call_images, call_images_none}
 use Rattle.assembled_groups.specs.Assembled.{kept_graph, IsAssembled}
 use Rattle.assembled_groups.specs.Making.{family_at}
 use Rattle.assembled_groups.specs.Shown.{ShowsReached, ShowsOwners}
 use Rattle.assembled_groups.proofs.Placed.{also_there, owner_there, among_there, all_told}
 use Rattle.assembled_groups.proofs.Copying.{bare_sound, embedding_told}
+use Rattle.assembled_groups.proofs.QuietCalls.{nothing_crosses, nothing_numbered, nothing_copied, nothing_told}
 
 module _ (before : GraphsBefore) (group : Option ℕ) (owners : List (Option FunctionId)) (begun : Graph) (graph : FrozenGraph) (functions : List FunctionGraph)
     (assembled : IsAssembled before group owners begun graph functions) where
@@ -53,25 +58,58 @@ module _ (before : GraphsBefore) (group : Option ℕ) (owners : List (Option Fun
         ∙ (ap (λ f. function_embedding f site called node) (shows place owner at ∙ told.1)
         ∙ call_images assembled.made own told.0.embeddings (assembled.embeddings place own told.0 there told.1) site called before copies is stand node)
 
+    -- where nothing escapes what is called, there is none
+    embedding_none : (place : ℕ) (owner : Option FunctionId) (own : Crossings) → slice_get owners place ≡ Some owner → slice_get assembled.crossings place ≡ Some own → (site called : ℕ)
+        → is_live before called ≡ false → (node : ℕ) → (family_at before all).graphs.embedding (crossing (family_at before all) (owner_of owner) site called) node ≡ None
+    embedding_none place owner own at there site called dead node =
+        let told = also_there functions owners place owner assembled.size at in
+        embedding_told all (owner_of owner) site called node
+        ∙ (ap (λ f. function_embedding f site called node) (shows place owner at ∙ told.1)
+        ∙ call_images_none assembled.made own told.0.embeddings (assembled.embeddings place own told.0 there told.1) site called (by (copies_at own site called) refl) node)
+      where
+        by : (found : Option Copies) → copies_at own site called ≡ found → copies_at own site called ≡ None
+        by None e = e
+        by (Some copies) e = absurd (true≢false (sym (assembled.crossed.entries place owner own at there site called copies e).1.live ∙ dead))
+
     module _ (reached : ShowsReached before all) (stands : (owner : Owner) → is_among owner (owners_in owners) ≡ true → graph_of (family_at before all) owner ≡ kept_graph before owners graph functions) where
       -- calls of an owner to functions of other groups are closed, and have embeddings
       pub outer_are_closed : (place : ℕ) (owner : Option FunctionId) → slice_get owners place ≡ Some owner
           → ((called : ℕ) → same_group (family_at before all) (owner_of owner) called ≡ false → is_out before.groups group called ≡ true) → AreOuterClosed (family_at before all) (owner_of owner)
-      outer_are_closed place owner at apart function point site callee arguments called is call target outer =
-          let own = also_there assembled.crossings owners place owner assembled.crossed.size at in
-          let uses = assembled.crossed.calls place owner own.0 at own.1 function point (O.Call site callee arguments) is call site callee arguments called refl target (apart called outer) in
-          let its = uses.stand.reached in
-          let shown = reached called its in
-          let images = embedding_is place owner own.0 at own.1 site called uses.copies uses.is in
-          let same = stands (owner_of owner) (among_there owners place owner at) in
-          let keeps = subst (λ g. KeepsCertain assembled.made g) (sym same) (restricts_keeps assembled.made (kept_graph before owners graph functions) kept_restricts) in
-          record {
-            condition = outer_closed (family_at before all) (owner_of owner) site called assembled.made (kept_graph before owners graph functions) kept_restricts
-                (λ name plain. ap (λ (g : Graph). g.targets name) same) keeps before.tac.types its.graph its.own.names shown.0 shown.1 (numbers_in uses.copies) images arguments uses.crossed;
-            embedding = embeds before.tac.types (family_at before all) called its.graph shown.0 (bare_sound (structs_in before.tac.types) before.tac.types its.graph its.own.names its.ready.sound)
-                its.ready.found its.ready.marks (its.ready.escapes (family_at before all) shown.0 shown.1) its.numbers its.ready.listed (owner_of owner) site assembled.made (numbers_in uses.copies)
-                uses.stand.first uses.stand.next keeps uses.stand.numbered uses.stand.copied (assembled.copies place own.0 site called uses.copies own.1 uses.is its) images;
-          }
+      outer_are_closed place owner at apart function point site callee arguments called is call target outer = by (is_live before called) refl
+        where
+          own : (crossings : Crossings) × (slice_get assembled.crossings place ≡ Some crossings)
+          own = also_there assembled.crossings owners place owner assembled.crossed.size at
+
+          same : graph_of (family_at before all) (owner_of owner) ≡ kept_graph before owners graph functions
+          same = stands (owner_of owner) (among_there owners place owner at)
+
+          keeps : KeepsCertain assembled.made (graph_of (family_at before all) (owner_of owner))
+          keeps = subst (λ g. KeepsCertain assembled.made g) (sym same) (restricts_keeps assembled.made (kept_graph before owners graph functions) kept_restricts)
+
+          closes : (its : IsReached before called) (copies : ℕ → Option ℕ) (first next : ℕ) → ((node : ℕ) → (family_at before all).graphs.embedding (crossing (family_at before all) (owner_of owner) site called) node ≡ copy_at assembled.made copies node)
+              → AreNumbered (nodes_reached before called its) its.numbers copies first next → AreCopied (structs_in before.tac.types) assembled.made (nodes_reached before called its) copies
+              → CopiesTold assembled.made (nodes_reached before called its) copies → IsCrossed (tac_of before.tac) (owner_of owner) site arguments called (graph_reached before called its) copies assembled.made
+              → IsOuterClosed (family_at before all) (owner_of owner) site arguments called
+          closes its copies first next images numbered copied told crossed =
+              let shown = reached called its in
+              record {
+                condition = outer_closed (family_at before all) (owner_of owner) site called assembled.made (kept_graph before owners graph functions) kept_restricts
+                    (λ name plain. ap (λ (g : Graph). g.targets name) same) keeps before.tac.types its.graph its.own.names shown.0 shown.1 copies images arguments crossed;
+                embedding = embeds before.tac.types (family_at before all) called its.graph shown.0 (bare_sound (structs_in before.tac.types) before.tac.types its.graph its.own.names its.ready.sound)
+                    its.ready.found its.ready.marks (its.ready.escapes (family_at before all) shown.0 shown.1) its.numbers its.ready.listed (owner_of owner) site assembled.made copies
+                    first next keeps numbered copied told images;
+              }
+
+          by : (b : Bool) → is_live before called ≡ b → IsOuterClosed (family_at before all) (owner_of owner) site arguments called
+          by true live =
+              let uses = assembled.crossed.calls place owner own.0 at own.1 function point (O.Call site callee arguments) is call site callee arguments called refl target (apart called outer) live in
+              let its = uses.stand.reached in
+              closes its (numbers_in uses.copies) uses.stand.first uses.stand.next (embedding_is place owner own.0 at own.1 site called uses.copies uses.is) uses.stand.numbered uses.stand.copied
+              (assembled.copies place own.0 site called uses.copies own.1 uses.is its) uses.crossed
+          by false dead =
+              let its = assembled.reached place owner at function point site callee arguments called is call target (apart called outer) in
+              closes its (λ node. None) 0 0 (embedding_none place owner own.0 at own.1 site called dead) (nothing_numbered before called its dead) (nothing_copied before called its dead assembled.made)
+              (nothing_told before called its dead assembled.made) (nothing_crosses before called its dead (owner_of owner) site arguments assembled.made)
 
     -- where no function outside the group is of the owners' group, copies are the images of nodes at the owners' calls
     pub copies_are_images : ((place : ℕ) (owner : Option FunctionId) → slice_get owners place ≡ Some owner → (called : ℕ) → is_out before.groups group called ≡ true

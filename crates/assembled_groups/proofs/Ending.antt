@@ -28,6 +28,7 @@ making_begins before none functions lists = record {
   reached = λ called group of less. absurd (omega (arith, less));
   closed = λ all begins at less. absurd (omega (arith, less));
   classes = λ all begins pointer c_type a b called first second among. none_below (AreOne (family_at before all) a b) (slice_get before.groups.group_of.items a) among;
+  ascend = λ at graph less. absurd (omega (arith, less));
 }
   where
     none_below : (P : Type 0) (found : Option ℕ) → is_below 0 found ≡ true → P

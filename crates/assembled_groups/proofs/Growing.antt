@@ -18,6 +18,7 @@ use Rattle.heap_graph.specs.Graphs.{Graph}
 use Rattle.heap_graph.specs.Closed.{is_in, group_from, AreOne}
 use Rattle.graph_memory.specs.Memory.{owner_of}
 use Rattle.frozen_graphs.specs.declared.frozen.FrozenGraph.{FrozenGraph}
+use Rattle.node_order.specs.Orders.{EdgesAscend}
 use Rattle.program_graphs.specs.declared.program.FunctionGraph.{FunctionGraph}
 use Rattle.program_graphs.specs.declared.program.ProgramGraphs.{ProgramGraphs}
 use Rattle.program_graphs.specs.Shows.{ShowsGraph, ShowsNames}
@@ -28,8 +29,10 @@ use Rattle.graph_premises.proofs.Fitting.{found_below}
 use Rattle.function_groups.specs.GroupViews.{groups_of}
 use Rattle.inner_calls.specs.Members.{is_numbered}
 use Rattle.made_groups.specs.Made.{AreClassesOne}
+use Rattle.group_crossings.specs.declared.live.LiveTargets.{LiveTargets}
 use Rattle.group_crossings.specs.Before.{GraphsBefore, IsReached, is_inside, is_out}
 use Rattle.group_crossings.specs.Crossings.{AllReached}
+use Rattle.assembled_groups.proofs.Ascending.{assembled_ascends}
 use Rattle.assembled_groups.specs.Assembled.{IsAssembled}
 use Rattle.assembled_groups.specs.Making.{IsGrouped, family_at, BeginsWith, is_below, IsMaking, AddsGroup}
 use Rattle.assembled_groups.proofs.Ready.{member_in, in_members, function_ready}
@@ -220,14 +223,14 @@ module _ (before after : GraphsBefore) (number : ℕ) (members : List FunctionId
       ∙ adds.own place member at
 
 -- what was made, with other graphs and lists
-abbrev with_lists : GraphsBefore → List FrozenGraph → List FunctionGraph → List (List ℕ) → GraphsBefore
-with_lists before graphs functions escaping = record { tac = before.tac; groups = before.groups; graphs = graphs; functions = functions; escaping = escaping }
+abbrev with_lists : GraphsBefore → List FrozenGraph → List FunctionGraph → List (List ℕ) → LiveTargets → GraphsBefore
+with_lists before graphs functions escaping live = record { tac = before.tac; groups = before.groups; graphs = graphs; functions = functions; escaping = escaping; live = live }
 
-module _ (before : GraphsBefore) (graphs : List FrozenGraph) (own : List FunctionGraph) (escaping : List (List ℕ)) (number : ℕ) (members : List FunctionId) (begun : Graph) (graph : FrozenGraph) (functions : List FunctionGraph)
+module _ (before : GraphsBefore) (graphs : List FrozenGraph) (own : List FunctionGraph) (escaping : List (List ℕ)) (live : LiveTargets) (number : ℕ) (members : List FunctionId) (begun : Graph) (graph : FrozenGraph) (functions : List FunctionGraph)
     (grouped : IsGrouped before.tac before.groups) (making : IsMaking before number) (row : slice_get (groups_of before.groups) number ≡ Some (numbers_of members))
-    (assembled : IsAssembled before (Some number) (map Some members) begun graph functions) (adds : AddsGroup before (with_lists before graphs own escaping) members graph functions) where
+    (assembled : IsAssembled before (Some number) (map Some members) begun graph functions) (adds : AddsGroup before (with_lists before graphs own escaping live) members graph functions) where
   abbrev made : GraphsBefore
-  made = with_lists before graphs own escaping
+  made = with_lists before graphs own escaping live
 
   begins_still : (all : ProgramGraphs) → BeginsWith made (suc number) all → BeginsWith before number all
   begins_still = begins_before before made number members graph functions grouped row making.graphs adds
@@ -290,6 +293,13 @@ module _ (before : GraphsBefore) (graphs : List FrozenGraph) (own : List Functio
         (λ group of lt.
         making.classes all (begins_still all begins) pointer c_type a b called first second (ap (is_below number) of ∙ lt-ltb group number lt))
         (λ of. (closes all begins).1 pointer c_type a b called first second (ap (is_numbered number) of ∙ eq-eqb number number refl));
+    ascend = λ at kept less is. elim (cases_lt at number) [
+      | inl lt ↦ making.ascend at kept lt (sym (front before.graphs (graph ∷ []) at (let many = making.graphs in omega (arith, lt, many))) ∙ (ap (λ l. slice_get l at) (sym adds.graphs) ∙ is))
+      | inr le ↦
+          let same : number ≡ at = omega (arith, less, le) in
+          let one : Some graph ≡ Some kept = sym (last before.graphs graph at (making.graphs ∙ same)) ∙ (ap (λ l. slice_get l at) (sym adds.graphs) ∙ is) in
+          subst (λ (g : FrozenGraph). EdgesAscend g.nodes.items) (same_Some graph kept one) (assembled_ascends before (Some number) (map Some members) begun graph functions assembled)
+    ];
   }
     where
       class : (all : ProgramGraphs) → BeginsWith made (suc number) all → (pointer : Register) (c_type : CType) (a b : ℕ) (found : Option ℕ) → slice_get before.groups.group_of.items a ≡ found
@@ -307,10 +317,10 @@ pub making_grows : (before after : GraphsBefore) (number : ℕ) (members : List 
     → IsMaking after (suc number)
 making_grows before after number members begun graph functions grouped making row assembled adds closes =
     subst (λ made. IsMaking made (suc number)) (sym same)
-    (grows before after.graphs after.functions after.escaping number members begun graph functions grouped making row assembled (subst (λ made. AddsGroup before made members graph functions) same adds)
+    (grows before after.graphs after.functions after.escaping after.live number members begun graph functions grouped making row assembled (subst (λ made. AddsGroup before made members graph functions) same adds)
     (subst
     (λ (made : GraphsBefore). (all : ProgramGraphs) → BeginsWith made (suc number) all → GroupClosed (family_at made all) number × AreClassesOne (family_at made all) (is_inside made.groups (Some number)))
     same closes))
   where
-    same : after ≡ with_lists before after.graphs after.functions after.escaping
-    same = λ i. record { tac = adds.tac i; groups = adds.groups i; graphs = after.graphs; functions = after.functions; escaping = after.escaping }
+    same : after ≡ with_lists before after.graphs after.functions after.escaping after.live
+    same = λ i. record { tac = adds.tac i; groups = adds.groups i; graphs = after.graphs; functions = after.functions; escaping = after.escaping; live = after.live }

@@ -7,5 +7,7 @@ pub mod Closing
 pub mod Starting
 pub mod Whole
 pub mod Ready
+pub mod Ascending
 pub mod Growing
 pub mod Ending
+pub mod QuietCalls

@@ -19,6 +19,7 @@ use Rattle.program_graphs.specs.declared.program.FunctionGraph.{FunctionGraph}
 use Rattle.program_graphs.specs.declared.program.ProgramGraphs.{ProgramGraphs}
 use Rattle.program_graphs.specs.Programs.{family_in}
 use Rattle.program_graphs.specs.Shows.{ShowsGraph, ShowsNames}
+use Rattle.node_order.specs.Orders.{EdgesAscend}
 use Rattle.reached_nodes.specs.declared.marks.NodeMarks.{NodeMarks}
 use Rattle.reached_nodes.specs.Marks.{is_marked, AreMarked}
 use Rattle.closed_graphs.specs.Faults.{GroupClosed}
@@ -57,7 +58,7 @@ abbrev pub is_before : Groups → ℕ → ℕ → Bool
 is_before groups number called = is_below number (slice_get groups.group_of.items called)
 
 -- So many groups have their graphs. Each of their functions is known, and in all graphs of the program that begin with these the groups are
--- closed, and functions to which one call may come through a pointer are one.
+-- closed, and functions to which one call may come through a pointer are one. Edges stand in the order of their slots.
 pub record IsMaking (before : GraphsBefore) (number : ℕ) : Type 0 where
   pub graphs : length before.graphs ≡ number
   pub functions : length before.functions ≡ length before.tac.functions.items
@@ -65,6 +66,7 @@ pub record IsMaking (before : GraphsBefore) (number : ℕ) : Type 0 where
   pub reached : (called group : ℕ) → slice_get before.groups.group_of.items called ≡ Some group → group < number → IsReached before called
   pub closed : (all : ProgramGraphs) → BeginsWith before number all → (at : ℕ) → at < number → GroupClosed (family_at before all) at
   pub classes : (all : ProgramGraphs) → BeginsWith before number all → AreClassesOne (family_at before all) (is_before before.groups number)
+  pub ascend : (at : ℕ) (graph : FrozenGraph) → at < number → slice_get before.graphs at ≡ Some graph → EdgesAscend graph.nodes.items
 
 -- ---- one group more
 

@@ -7,3 +7,4 @@ pub mod Told
 pub mod Closing
 pub mod Listed
 pub mod Images
+pub mod AskedCopies

@@ -1,6 +1,6 @@
 -- What is told of copies once all types are known.
-use Rattle.std.specs.Prelude.{◌≡◌, ℕ, Bool, true, ◌&&◌, Option, Some}
-use Rattle.heap_graph.specs.Graphs.{Name, Node, Graph, node_at, OfCopy}
+use Rattle.std.specs.Prelude.{◌≡◌, ◌⊎◌, ℕ, Bool, true, ◌&&◌, Option, Some}
+use Rattle.heap_graph.specs.Graphs.{Target, Element, Name, Node, Graph, node_at, OfCopy}
 use Rattle.heap_graph.specs.Targets.{at_target, implies, types_differ}
 
 -- what holds allocations is of an array where they are of another type
@@ -26,3 +26,21 @@ pub record ArrayTold (graph : Graph) (number : ℕ) (node : Node) : Type 0 where
 pub record ArraysTold (old new : Graph) : Type 0 where
   pub names : (name : Name) → new.targets name ≡ old.targets name
   pub nodes : (number : ℕ) (node : Node) → node_at old number ≡ Some node → ArrayTold new number node
+
+-- ---- where a copy asks for an array
+
+-- the copy of a node with allocations is at the node of this number, and this element is of another type
+pub record AsksCopy (graph callee : Graph) (copies : ℕ → Option ℕ) (number : ℕ) (element : Element) : Type 0 where
+  pub from : ℕ
+  pub copy : ℕ
+  pub of : copies from ≡ Some copy
+  pub node : Node
+  pub there : node_at callee from ≡ Some node
+  pub target : Target
+  pub is : graph.targets (OfCopy copy) ≡ Some target
+  pub at : target.node ≡ number
+  pub asks : (node.flags.heap && types_differ node.element element) ≡ true
+
+-- nodes are of arrays only where they were or that is asked of them
+abbrev pub OnlyAsked : (ℕ → Element → Type 0) → Graph → Graph → Type 0
+OnlyAsked asked old new = (number : ℕ) (a b : Node) → node_at old number ≡ Some a → node_at new number ≡ Some b → b.flags.array ≡ true → (a.flags.array ≡ true) ⊎ asked number a.element

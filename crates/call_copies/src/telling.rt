@@ -7,7 +7,7 @@ ghost use Rattle.graph_memory.specs.Memory.{graph_in, IsGraph};
 ghost use Rattle.frozen_graphs.specs.Frozen.{bare};
 ghost use Rattle.made_graphs.specs.Going.{GoesOn};
 ghost use Rattle.call_copies.specs.Copied.{numbers_in, AreCopied};
-ghost use Rattle.call_copies.specs.Telling.{CopyTold, CopiesTold, ArraysTold};
+ghost use Rattle.call_copies.specs.Telling.{CopyTold, CopiesTold, ArraysTold, AsksCopy, OnlyAsked};
 
 use crate::copies::Copies;
 use c_typed::TypeTable;
@@ -26,6 +26,7 @@ pub fn tell_copies(graph: &mut Graph, types: &TypeTable, callee: &FrozenGraph, c
     ensures copied { AreCopied (structs_in types.now) (graph_in types.now graph.old) (bare types.now callee.now) (numbers_in copies.now)
         → AreCopied (structs_in types.now) (graph_in types.now graph.new) (bare types.now callee.now) (numbers_in copies.now) }
     ensures told { CopiesTold (graph_in types.now graph.new) (bare types.now callee.now) (numbers_in copies.now) }
+    ensures only { OnlyAsked (AsksCopy (graph_in types.now graph.old) (bare types.now callee.now) (numbers_in copies.now)) (graph_in types.now graph.old) (graph_in types.now graph.new) }
 {
     for number in copies.names.keys().as_slice() {
         tell_copy(graph, types, callee, copies, *number);
@@ -46,6 +47,7 @@ fn tell_copy(
     ensures goes { GoesOn (structs_in types.now) (graph_in types.now graph.old) (graph_in types.now graph.new) }
     ensures arrays { ArraysTold (graph_in types.now graph.old) (graph_in types.now graph.new) }
     ensures told { CopyTold (graph_in types.now graph.new) (bare types.now callee.now) (numbers_in copies.now) number }
+    ensures only { OnlyAsked (AsksCopy (graph_in types.now graph.old) (bare types.now callee.now) (numbers_in copies.now)) (graph_in types.now graph.old) (graph_in types.now graph.new) }
 {
     let Some(node) = callee.node(number) else {
         return;

@@ -9,6 +9,8 @@ use Rattle.tac_ir.specs.Views.{tac_of, function_in}
 use Rattle.call_groups.specs.Groups.{AreGroups, Makes}
 use Rattle.heap_graph.specs.Graphs.{ProgramGraphs}
 use Rattle.heap_graph.specs.Closed.{Closed}
+use Rattle.least_graphs.specs.Below.{LeastBelow}
+use Rattle.heap_graph.specs.Least.{Least}
 use Rattle.least_graphs.specs.Smallest.{IsSmallest}
 use Rattle.function_groups.specs.declared.group_lists.Groups.{Groups}
 use Rattle.function_groups.specs.GroupViews.{groups_of, IsOf}
@@ -39,24 +41,28 @@ module _ (program : Program) (first : Values) (tac : memory_tac.Tac) (counts : C
 
   -- graphs that are closed and the smallest are those of the program
   pub graphed : (groups : List (List ℕ)) (graphs : ProgramGraphs) → AreGroups (tac_of tac) groups → Closed (family_of (tac_of tac) groups graphs)
-      → ((tac_of tac).start.parameters ≡ 0 → IsSmallest (family_of (tac_of tac) groups graphs)) → AreFew (family_of (tac_of tac) groups graphs) counts.functions.items (length groups)
+      → ((tac_of tac).start.parameters ≡ 0 → IsSmallest (family_of (tac_of tac) groups graphs)) → ((tac_of tac).start.parameters ≡ 0 → LeastBelow (family_of (tac_of tac) groups graphs) (length groups))
+      → ((tac_of tac).start.parameters ≡ 0 → Least (family_of (tac_of tac) groups graphs))
+      → AreFew (family_of (tac_of tac) groups graphs) counts.functions.items (length groups)
       → ((count : ℕ) × StartCounts (family_of (tac_of tac) groups graphs) counts.start count × (count ≤ limit)) → HasGraphs program first (tac_of tac) groups graphs
-  graphed groups graphs are closed smallest few few_first = record {
+  graphed groups graphs are closed smallest least_below least few few_first = record {
     code = source.code;
     are = are;
     closed = closed;
     smallest = smallest source.code.parameters;
+    least_below = least_below source.code.parameters;
     few = subst (λ own. AreFew (family_of (tac_of tac) groups graphs) own (length groups)) source.counted.functions few;
     few_first = subst (λ own. (count : ℕ) × StartCounts (family_of (tac_of tac) groups graphs) own count × (count ≤ limit)) source.counted.start few_first;
+    least = least source.code.parameters;
   }
 
   -- a group that begins with too many nodes is one of the program's
-  pub overgrown : (groups : List (List ℕ)) (count : ℕ) → AreGroups (tac_of tac) groups → IsRefused (tac_of tac) groups counts.functions.items counts.start count → IsOvergrown program first count
+  pub overgrown : (groups : List (List ℕ)) (count : ℕ) → AreGroups (tac_of tac) groups → ((tac_of tac).start.parameters ≡ 0 → IsRefused (tac_of tac) groups counts.functions.items counts.start count) → IsOvergrown program first count
   overgrown groups count are refused = record {
     tac = tac_of tac;
     code = source.code;
     groups = groups;
     are = are;
     refused = subst (λ own. IsRefused (tac_of tac) groups own (counted_values (within program []) first) count) source.counted.functions
-        (subst (λ own. IsRefused (tac_of tac) groups counts.functions.items own count) source.counted.start refused);
+        (subst (λ own. IsRefused (tac_of tac) groups counts.functions.items own count) source.counted.start (refused source.code.parameters));
   }

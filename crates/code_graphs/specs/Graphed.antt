@@ -11,6 +11,8 @@ use Rattle.tac_build.specs.ProgramCode.{Code}
 use Rattle.call_groups.specs.Groups.{AreGroups}
 use Rattle.heap_graph.specs.Graphs.{ProgramGraphs}
 use Rattle.heap_graph.specs.Closed.{Family, Closed}
+use Rattle.least_graphs.specs.Below.{LeastBelow}
+use Rattle.heap_graph.specs.Least.{Least}
 use Rattle.least_graphs.specs.Smallest.{IsSmallest}
 use Rattle.lowered_points.specs.Counted.{HaveFewSlots}
 use Rattle.expression_counts.specs.Counting.{within, counted_values, counted_functions}
@@ -34,15 +36,17 @@ pub record IsSource (program : Program) (first : Values) (tac : memory_tac.Tac) 
 abbrev pub family_of : Tac → List (List ℕ) → ProgramGraphs → Family
 family_of tac groups graphs = record { tac = tac; groups = groups; graphs = graphs }
 
--- A program's code has groups and closed graphs, which can be mapped into all others that are closed, and of which none begins with too many
--- nodes.
+-- A program's code has groups and closed graphs, which are the least: they can be mapped into all others that are closed, also where only those
+-- of the first groups are, and no flag can be taken away. None begins with too many nodes.
 pub record HasGraphs (program : Program) (first : Values) (tac : Tac) (groups : List (List ℕ)) (graphs : ProgramGraphs) : Type 0 where
   pub code : Code program tac
   pub are : AreGroups tac groups
   pub closed : Closed (family_of tac groups graphs)
   pub smallest : IsSmallest (family_of tac groups graphs)
+  pub least_below : LeastBelow (family_of tac groups graphs) (length groups)
   pub few : AreFew (family_of tac groups graphs) (counted_functions program) (length groups)
   pub few_first : (count : ℕ) × StartCounts (family_of tac groups graphs) (counted_values (within program []) first) count × (count ≤ limit)
+  pub least : Least (family_of tac groups graphs)
 
 -- A program is refused for its graphs: the first group that begins with too many nodes begins with so many.
 pub record IsOvergrown (program : Program) (first : Values) (count : ℕ) : Type 0 where

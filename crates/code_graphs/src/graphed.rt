@@ -7,6 +7,7 @@ ghost use Rattle.c_typed.specs.DefinitionViews.{program_of, ProgramStands};
 ghost use Rattle.tac_ir.specs.Views.{tac_of};
 ghost use Rattle.function_groups.specs.GroupViews.{groups_of};
 ghost use Rattle.assembled_groups.specs.Making.{IsGrouped};
+ghost use Rattle.dsa_bottom_up.specs.Ascending.{GraphsAscend};
 ghost use Rattle.code_graphs.specs.Graphed.{AreCounts, IsSource, HasGraphs, IsOvergrown};
 ghost use Rattle.code_graphs.specs.Made.{graphs_in};
 
@@ -46,6 +47,7 @@ pub fn heap_graphs(alloc: Global, tac: &Tac, counts: &Counts) -> Result<CodeGrap
     requires { (program : plain.Program) × (first : plain.Values) × IsSource program first tac.now counts.now }
     ensures graphs { (program : plain.Program) (first : plain.Values) → IsSource program first tac.now counts.now → IfOk result (λ made. HasGraphs program first (tac_of tac.now) (groups_of made.groups) (graphs_in tac.now made)) }
     ensures grouped { IfOk result (λ made. IsGrouped tac.now made.groups) }
+    ensures ascend { IfOk result (λ made. GraphsAscend made.graphs) }
     ensures refused { (program : plain.Program) (first : plain.Values) → IsSource program first tac.now counts.now → (count : ℕ) → result ≡ Err (GraphErr.TooMany count) → IsOvergrown program first count }
 {
     let groups = groups(alloc, tac)?;

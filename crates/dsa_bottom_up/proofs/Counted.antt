@@ -6,38 +6,51 @@ use Rattle.tac_ir.specs.Views.{tac_of}
 use Rattle.function_groups.specs.declared.group_lists.Groups.{Groups}
 use Rattle.function_groups.specs.GroupViews.{groups_of}
 use Rattle.program_graphs.specs.declared.program.ProgramGraphs.{ProgramGraphs}
-use Rattle.assembled_groups.specs.Making.{family_at, BeginsWith, IsMaking}
+use Rattle.assembled_groups.specs.Making.{IsGrouped, family_at, BeginsWith, IsMaking}
+use Rattle.least_graphs.specs.Below.{LeastBelow}
 use Rattle.least_graphs.specs.Making.{AreLeast}
 use Rattle.least_graphs.proofs.Adding.{least_begins}
+use Rattle.least_graphs.proofs.Mapped.{none_below, below_more}
+use Rattle.bare_graphs.specs.Bare.{AreBare}
+use Rattle.bare_graphs.proofs.AllBare.{bare_begins}
 use Rattle.dsa_bottom_up.specs.declared.making.Making.{Making}
-use Rattle.dsa_bottom_up.specs.Making.{made_in}
+use Rattle.dsa_bottom_up.specs.Making.{made_in, AreLiveBelow}
 use Rattle.dsa_bottom_up.specs.Refused.{limit, AreFew, GroupCounts, StartCounts, IsRefused, in_group, in_start}
+use Rattle.dsa_bottom_up.proofs.ClosedSoFar.{closed_so_far}
 
 -- the graphs so far
 abbrev pub all_so_far : Making → ProgramGraphs
 all_so_far making = record { graphs = making.graphs; functions = making.functions; start = making.start; start_function = making.start_function }
 
--- so many groups have their graphs, and none of them begins with too many nodes; the graphs are mapped to those of each other closed family
+-- So many groups have their graphs, and none of them begins with too many nodes. The graphs are mapped to those of each other family that is
+-- closed below this number, or a smaller one, and no flag can be taken away.
 pub record SoFar (tac : memory_tac.Tac) (groups : Groups) (counts : List ℕ) (making : Making) (number : ℕ) : Type 0 where
   pub made : IsMaking (made_in tac groups making) number
+  pub live : AreLiveBelow (made_in tac groups making) number
   pub few : (all : ProgramGraphs) → BeginsWith (made_in tac groups making) number all → AreFew (family_at (made_in tac groups making) all) counts number
   pub least : (tac_of tac).start.parameters ≡ 0 → AreLeast (made_in tac groups making) number
+  pub below : (tac_of tac).start.parameters ≡ 0 → (all : ProgramGraphs) → BeginsWith (made_in tac groups making) number all → LeastBelow (family_at (made_in tac groups making) all) number
+  pub bare : (tac_of tac).start.parameters ≡ 0 → AreBare (made_in tac groups making) number
 
 module _ (tac : memory_tac.Tac) (groups : Groups) (counts : List ℕ) where
   pub begins_itself : (making : Making) (number : ℕ) → IsMaking (made_in tac groups making) number → BeginsWith (made_in tac groups making) number (all_so_far making)
   begins_itself making number made = record { functions = made.functions; graphs = λ at less. refl; own = λ called group is less. refl }
 
-  pub none_so_far : (making : Making) → IsMaking (made_in tac groups making) 0 → SoFar tac groups counts making 0
-  none_so_far making made = record { made = made; few = λ all begins at less. absurd (omega (arith, less)); least = λ start. least_begins (made_in tac groups making) }
+  pub none_so_far : (making : Making) → IsMaking (made_in tac groups making) 0 → AreLiveBelow (made_in tac groups making) 0 → SoFar tac groups counts making 0
+  none_so_far making made live = record { made = made; live = live; few = λ all begins at less. absurd (omega (arith, less)); least = λ start. least_begins (made_in tac groups making); below = λ start all begins. none_below (family_at (made_in tac groups making) all); bare = λ start. bare_begins (made_in tac groups making) }
 
   -- one group more
-  pub one_more : (old new : Making) (number : ℕ) → SoFar tac groups counts old number → IsMaking (made_in tac groups new) (suc number)
+  pub one_more : (old new : Making) (number : ℕ) → SoFar tac groups counts old number → IsMaking (made_in tac groups new) (suc number) → AreLiveBelow (made_in tac groups new) (suc number)
       → ((all : ProgramGraphs) → BeginsWith (made_in tac groups new) (suc number) all → BeginsWith (made_in tac groups old) number all)
       → ((all : ProgramGraphs) → BeginsWith (made_in tac groups old) number all → (count : ℕ) × GroupCounts (family_at (made_in tac groups old) all) counts number count × (count ≤ limit))
-      → ((tac_of tac).start.parameters ≡ 0 → AreLeast (made_in tac groups old) number → AreLeast (made_in tac groups new) (suc number)) → SoFar tac groups counts new (suc number)
-  one_more old new number so_far made begins counted least = record {
+      → ((tac_of tac).start.parameters ≡ 0 → AreLeast (made_in tac groups old) number → AreLeast (made_in tac groups new) (suc number))
+      → ((tac_of tac).start.parameters ≡ 0 → AreLeast (made_in tac groups old) number → AreBare (made_in tac groups old) number → AreBare (made_in tac groups new) (suc number)) → SoFar tac groups counts new (suc number)
+  one_more old new number so_far made live begins counted least bare = record {
     made = made;
+    live = live;
     least = λ start. least start (so_far.least start);
+    below = λ start all begun. below_more (made_in tac groups new) number (least start (so_far.least start)) all begun (so_far.below start all (begins all begun));
+    bare = λ start. bare start (so_far.least start) (so_far.bare start);
     few = λ all begun at less. by all (begins all begun) at (less_or at less);
   }
     where
@@ -53,16 +66,18 @@ module _ (tac : memory_tac.Tac) (groups : Groups) (counts : List ℕ) where
       by all begun at (inr same) = subst (λ n. (count : ℕ) × GroupCounts (family_at (made_in tac groups old) all) counts n count × (count ≤ limit)) (sym same) (counted all begun)
 
   -- the next group begins with too many
-  pub group_refused : (making : Making) (own number count : ℕ) → SoFar tac groups counts making number → limit < count
+  pub group_refused : (making : Making) (own number count : ℕ) → SoFar tac groups counts making number → IsGrouped tac groups → (tac_of tac).start.parameters ≡ 0 → limit < count
       → ((all : ProgramGraphs) → BeginsWith (made_in tac groups making) number all → GroupCounts (family_at (made_in tac groups making) all) counts number count)
       → IsRefused (tac_of tac) (groups_of groups) counts own count
-  group_refused making own number count so_far many counted =
+  group_refused making own number count so_far grouped start many counted =
       let begins = begins_itself making number so_far.made in
-      in_group (family_at (made_in tac groups making) (all_so_far making)) number refl refl (so_far.made.closed (all_so_far making) begins) (so_far.few (all_so_far making) begins) (counted (all_so_far making) begins) many
+      in_group (family_at (made_in tac groups making) (all_so_far making)) number refl refl (closed_so_far (made_in tac groups making) grouped number so_far.made (all_so_far making) begins)
+      (so_far.below start (all_so_far making) begins) (so_far.few (all_so_far making) begins) (counted (all_so_far making) begins) many
 
-  pub start_refused : (making : Making) (own count : ℕ) → SoFar tac groups counts making (length (groups_of groups)) → limit < count
+  pub start_refused : (making : Making) (own count : ℕ) → SoFar tac groups counts making (length (groups_of groups)) → IsGrouped tac groups → (tac_of tac).start.parameters ≡ 0 → limit < count
       → ((all : ProgramGraphs) → BeginsWith (made_in tac groups making) (length (groups_of groups)) all → StartCounts (family_at (made_in tac groups making) all) own count)
       → IsRefused (tac_of tac) (groups_of groups) counts own count
-  start_refused making own count so_far many counted =
+  start_refused making own count so_far grouped start many counted =
       let begins = begins_itself making (length (groups_of groups)) so_far.made in
-      in_start (family_at (made_in tac groups making) (all_so_far making)) refl refl (so_far.made.closed (all_so_far making) begins) (so_far.few (all_so_far making) begins) (counted (all_so_far making) begins) many
+      in_start (family_at (made_in tac groups making) (all_so_far making)) refl refl (closed_so_far (made_in tac groups making) grouped (length (groups_of groups)) so_far.made (all_so_far making) begins)
+      (so_far.below start (all_so_far making) begins) (so_far.few (all_so_far making) begins) (counted (all_so_far making) begins) many

@@ -10,7 +10,7 @@ use Rattle.heap_graph.specs.Structures.{AreMade}
 use Rattle.heap_graph.specs.Merging.{IsSound}
 use Rattle.frozen_graphs.specs.Frozen.{graph_with}
 use Rattle.program_graphs.specs.declared.program.FunctionGraph.{FunctionGraph}
-use Rattle.call_copies.specs.Telling.{ArraysTold}
+use Rattle.call_copies.specs.Telling.{ArraysTold, OnlyAsked}
 use Rattle.made_graphs.specs.Going.{GoesOn}
 use Rattle.made_graphs.proofs.Goes.{goes_then}
 use Rattle.group_begins.specs.Told.{NamesTold}
@@ -18,19 +18,22 @@ use Rattle.inner_calls.proofs.Kept.{calls_joined_kept, classes_joined_kept}
 use Rattle.dsa_local.specs.Local.{IsJoinedGroup}
 use Rattle.dsa_local.proofs.Keeping.{EachSame, joined_kept}
 use Rattle.group_rounds.specs.Rounds.{Settled}
-use Rattle.group_rounds.specs.Sizes.{SizesTold}
+use Rattle.group_rounds.specs.Growing.{OnlyFlagsGrow, OnlyArrays}
+use Rattle.group_rounds.specs.Sizes.{SizesTold, AsksOwner}
+use Rattle.group_rounds.proofs.Grown.{grown_then}
 use Rattle.group_freezing.specs.declared.group.Frozen.{Frozen}
 use Rattle.group_freezing.specs.Groups.{IsFrozenGroup}
 use Rattle.group_freezing.specs.Kept.{IsFrozen}
 use Rattle.group_freezing.specs.Owners.{is_owner, names_in}
 use Rattle.group_crossings.specs.declared.before.Crossings.{Crossings}
 use Rattle.group_crossings.specs.Before.{GraphsBefore, is_inside}
-use Rattle.group_crossings.specs.Crossings.{owners_in, NumbersApart, AreCrossed, AllCopiesTold}
-use Rattle.group_crossings.proofs.Arrays.{settled_still, sizes_still}
+use Rattle.group_crossings.specs.Crossings.{owners_in, AllReached, NumbersApart, AreCrossed, AllCopiesTold}
+use Rattle.group_crossings.specs.Asking.{AsksCall}
+use Rattle.group_crossings.proofs.Arrays.{only_flags, settled_still, sizes_still}
 use Rattle.group_crossings.proofs.Keeping.{crossings_kept}
 use Rattle.assembled_groups.specs.Assembled.{IsAssembled}
 use Rattle.dsa_bottom_up.specs.Assembling.{TellEach}
-use Rattle.dsa_bottom_up.proofs.Leading.{LeadsWanted, told_leads}
+use Rattle.dsa_bottom_up.proofs.Leading.{LeadsWanted, only_asked}
 
 -- what is told of a graph of a group from its calls out of it on
 pub record IsCrossing (before : GraphsBefore) (group : Option ℕ) (owners : List (Option FunctionId)) (all : List Crossings) (graph : Graph) : Type 0 where
@@ -72,17 +75,18 @@ module _ (before : GraphsBefore) (made : AreMade (structs_in before.tac.types)) 
       crossing_next all settled sized third c (λ name. ap has_target (names name)) (crossing_next all crossed settled second b same (crossing_first all begun crossed from first a joined told are))
 
   -- the graph that was made, with what is kept of it
-  pub assembled : (all : List Crossings) (begun sized told : Graph) (frozen : Frozen) (functions : List FunctionGraph) → GoesOn (structs_in before.tac.types) begun told → IsCrossing before group owners all sized
-      → NumbersApart all → LeadsWanted before group owners all begun sized
+  pub assembled : (all : List Crossings) (begun typed sized told : Graph) (frozen : Frozen) (functions : List FunctionGraph) → AllReached before group owners → GoesOn (structs_in before.tac.types) begun told → IsCrossing before group owners all sized
+      → NumbersApart all → LeadsWanted before group owners all begun typed → OnlyFlagsGrow typed sized → OnlyArrays (AsksOwner (tac_of before.tac) (owners_in owners) typed) typed sized → OnlyAsked (AsksCall before all sized) sized told
       → IsSound (structs_in before.tac.types) told → GoesOn (structs_in before.tac.types) sized told → ArraysTold sized told → Settled (tac_of before.tac) (owners_in owners) sized
       → SizesTold (tac_of before.tac) (owners_in owners) sized → AllCopiesTold before all told → IsFrozenGroup before.tac.types before.tac owners told frozen
       → TellEach told frozen.names.items all functions → IsAssembled before group owners begun frozen.graph functions
-  assembled all begun sized told frozen functions goes its apart leads sound last arrays settled sizes copies kept each =
+  assembled all begun typed sized told frozen functions reached goes its apart leads grows sizes_asked copies_asked sound last arrays settled sizes copies kept each =
       let now = crossing_next all sized told sound last (λ name. ap has_target (arrays.names name)) its in
       let named = now.joined.named in
       record {
         made = told;
         crossings = all;
+        reached = reached;
         goes = goes;
         sound = sound;
         told = now.joined.told;
@@ -93,12 +97,15 @@ module _ (before : GraphsBefore) (made : AreMade (structs_in before.tac.types)) 
         sizes = sizes_still (tac_of before.tac) sized told its.sound named arrays (owners_in owners) sizes;
         crossed = now.crossed;
         apart = apart;
-        leads = told_leads before group owners all begun sized told its.sound named arrays leads;
         copies = copies;
         size = sym (length-map functions (λ (function : FunctionGraph). function.names)) ∙ ap length each.names' ∙ kept.size;
         frozen = subst (λ names. IsFrozen (tac_of before.tac) (is_owner owners) told (graph_with before.tac.types frozen.graph (names_in owners names))) (sym each.names') kept.kept;
         found = kept.found;
         embeddings = each.embeddings;
+        typed = typed;
+        leads = leads;
+        grows = grown_then typed sized told grows (only_flags (structs_in before.tac.types) sized told its.sound named arrays);
+        only = only_asked before owners all typed sized told grows sizes_asked arrays copies_asked;
       }
 
   -- one step after the other

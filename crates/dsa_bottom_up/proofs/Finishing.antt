@@ -1,5 +1,5 @@
 -- The graph of `start` once all groups have theirs, and the graphs of the program in the end.
-use Rattle.std.proofs.Common.{◌≡◌, true, false, List, [], ◌∷◌, ◌++◌, length, Option, Some, None, refl, sym, ap, subst, ◌∙◌, arith}
+use Rattle.std.proofs.Common.{◌≡◌, ℕ, true, false, List, [], ◌∷◌, ◌++◌, length, Option, Some, None, refl, sym, ap, subst, ◌∙◌, arith}
 use Rattle.std.proofs.lemmas.Bool.{false≢true}
 use Rattle.std.proofs.lemmas.List.{length-append, length-map}
 use Rattle.tac_ir.specs.declared.program.Tac as memory_tac
@@ -14,6 +14,7 @@ use Rattle.heap_graph.specs.Targets.{has_target}
 use Rattle.heap_graph.specs.Structures.{AreMade}
 use Rattle.heap_graph.specs.Merging.{IsSound}
 use Rattle.heap_graph.specs.Closed.{Closed}
+use Rattle.heap_graph.specs.Least.{Least}
 use Rattle.frozen_graphs.specs.declared.frozen.FrozenGraph.{FrozenGraph}
 use Rattle.call_targets.specs.ClassLists.{numbers_of}
 use Rattle.function_groups.specs.declared.group_lists.Groups.{Groups}
@@ -43,16 +44,20 @@ use Rattle.least_graphs.specs.Making.{AreLeast}
 use Rattle.least_graphs.specs.Smallest.{IsSmallest}
 use Rattle.least_graphs.proofs.StartGraph.{IsStartBegun}
 use Rattle.least_graphs.proofs.Smallest.{program_smallest}
+use Rattle.bare_graphs.specs.Bare.{AreBare}
+use Rattle.bare_graphs.proofs.AllBare.{program_least}
 use Rattle.dsa_bottom_up.specs.declared.making.Making.{Making}
-use Rattle.dsa_bottom_up.specs.Making.{made_in}
+use Rattle.group_crossings.specs.Live.{AreLive}
+use Rattle.dsa_bottom_up.specs.Making.{made_in, AreLiveBelow}
 
 -- ---- what is known before
 
-pub known_of : (before : Before) (tac : memory_tac.Tac) (groups : Groups) (making : Making) → graphs_before before ≡ made_in tac groups making → IsGrouped tac groups → IsKnown before
-known_of before tac groups making same grouped = record {
+pub known_of : (before : Before) (tac : memory_tac.Tac) (groups : Groups) (making : Making) → graphs_before before ≡ made_in tac groups making → IsGrouped tac groups → (number : ℕ) → AreLiveBelow (made_in tac groups making) number → IsKnown before
+known_of before tac groups making same grouped number below = record {
   code = subst (λ (g : GraphsBefore). CodeStands (tac_of g.tac)) (sym same) grouped.stands.code;
   literals = subst (λ (g : GraphsBefore). LiteralsStand g.tac.types g.tac.literals.items) (sym same) grouped.literals;
   groups = subst (λ (g : GraphsBefore). IsOf g.tac g.groups) (sym same) grouped.of;
+  live = subst (λ (g : GraphsBefore). AreLive g.tac g.escaping g.live) (sym same) below.live;
 }
 
 pub reached_of : (before : Before) (tac : memory_tac.Tac) (groups : Groups) (making : Making) → graphs_before before ≡ made_in tac groups making → IsGrouped tac groups
@@ -139,3 +144,9 @@ module _ (tac : memory_tac.Tac) (groups : Groups) (making : Making) (grouped : I
       → AreLeast before (length (groups_of groups)) → IsSmallest (family_at before all)
   ends_smallest begun own start assembled begins_so is least =
       program_smallest before start begun all.start own all grouped made least begins (ap (λ gs. length gs.items) graphs ∙ made.graphs) (record { is = refl; function = is }) assembled begins_so
+
+  -- and no flag can be taken away
+  pub ends_least : (begun : Graph) (own : FunctionGraph) → (tac_of tac).start.parameters ≡ 0 → IsAssembled before None (None ∷ []) begun all.start (own ∷ []) → IsStartBegun before begun → all.start_function ≡ own
+      → AreLeast before (length (groups_of groups)) → AreBare before (length (groups_of groups)) → Closed (family_at before all) → Least (family_at before all)
+  ends_least begun own start assembled begins_so is least bare closed =
+      program_least before start begun all.start own all grouped made least bare begins (ap (λ gs. length gs.items) graphs ∙ made.graphs) (record { is = refl; function = is }) assembled begins_so closed

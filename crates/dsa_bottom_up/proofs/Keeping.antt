@@ -1,10 +1,12 @@
 -- What is kept of the functions of a group, one after another.
-use Rattle.std.proofs.Common.{◌≡◌, ◌↔◌, ◌⊎◌, inl, inr, ℕ, zero, suc, ◌+◌, ◌<◌, ◌≤◌, Bool, true, false, List, [], ◌∷◌, ◌++◌, length, map, All, drop, Contains, Some, Vec, Global, refl, sym, ap, subst, ◌∙◌, arith}
+use Rattle.std.proofs.Common.{◌≡◌, ◌↔◌, ◌⊎◌, inl, inr, ℕ, zero, suc, ◌+◌, ◌<◌, ◌≤◌, Bool, true, false, List, [], ◌∷◌, ◌++◌, length, map, All, drop, Contains, Option, Some, None, option_map, Vec, Global, refl, sym, ap, subst, ◌∙◌, arith}
 use Rattle.std.specs.Prelude.{get_or, slice_get, vec_items}
 use Rattle.std.specs.Vec.{with_item}
 use Rattle.std.proofs.lemmas.Bool.{false≢true, cases_lt}
 use Rattle.std.proofs.lemmas.List.{length-map, length-set, map-set, at_drop_all}
-use Rattle.std.proofs.lemmas.Option.{none-some, same_Some, slice_get-get_or, slice_get_within, get_or_from_slice_get}
+use Rattle.std.proofs.lemmas.Option.{none-some, same_Some, slice_get-get_or, slice_get-map, slice_get_within, get_or_from_slice_get}
+use Rattle.graph_rows.specs.Lists.{Has}
+use Rattle.graph_rows.proofs.Lists.{has_at, at_has}
 use Rattle.graph_rows.proofs.Places.{set_same, set_other}
 use Rattle.tac_ir.specs.declared.program.Tac as memory_tac
 use Rattle.tac_ir.specs.declared.register.FunctionId.{FunctionId}
@@ -20,7 +22,7 @@ use Rattle.group_freezing.specs.Owners.{IsFunctionOf}
 use Rattle.dsa_local.specs.Local as local
 use Rattle.group_crossings.specs.Crossings.{owners_in}
 use Rattle.assembled_groups.specs.Assembled.{IsAssembled}
-use Rattle.assembled_groups.proofs.Members.{listed_within}
+use Rattle.assembled_groups.proofs.Members.{inside_noted, listed_within, listed_inside}
 use Rattle.assembled_groups.proofs.Whole.{member_owner, member_listed}
 use Rattle.assembled_groups.proofs.Whole as whole
 use Rattle.assembled_groups.proofs.Growing.{begins_before}
@@ -33,12 +35,17 @@ use Rattle.program_graphs.specs.declared.program.ProgramGraphs.{ProgramGraphs}
 use Rattle.program_graphs.specs.Shows.{ShowsGraph, ShowsNames}
 use Rattle.reached_nodes.specs.declared.marks.NodeMarks.{NodeMarks}
 use Rattle.reached_nodes.specs.Marks.{is_marked}
-use Rattle.group_crossings.specs.Before.{Rises, rows_of}
+use Rattle.group_crossings.specs.declared.live.LiveTargets.{LiveTargets}
+use Rattle.group_crossings.specs.Before.{Rises, rows_of, has_numbers, is_some_list, is_listed}
+use Rattle.group_crossings.specs.Live.{IsOnce, AddsMembers}
+use Rattle.group_crossings.proofs.LiveRows.{lives_none, lives_more}
 use Rattle.assembled_groups.specs.Making.{IsGrouped, BeginsWith, IsMaking, ListsEscaping, AddsGroup}
 use Rattle.least_graphs.specs.Making.{AreLeast}
 use Rattle.least_graphs.proofs.Adding.{IsBegun, least_grows}
+use Rattle.bare_graphs.specs.Bare.{AreBare}
+use Rattle.bare_graphs.proofs.AllBare.{bare_grows}
 use Rattle.dsa_bottom_up.specs.declared.making.Making.{Making}
-use Rattle.dsa_bottom_up.specs.Making.{made_in, AreApart, KeepsOne, KeepsMembers}
+use Rattle.dsa_bottom_up.specs.Making.{made_in, IsEmpty, AreLiveBelow, AreApart, KeepsOne, KeepsMembers}
 
 -- ---- marks that are set
 
@@ -132,9 +139,10 @@ marked_all numbers number marks past is = sym (no_more numbers) ∙ (sym (at_dro
 -- a function's row and list, where the others stay
 pub keeps_one : (old : Making) (member : ℕ) (graph : FrozenGraph) (own : FunctionGraph) (numbers : Vec ℕ Global) → member < length old.functions.items → length old.escaping.items ≡ length old.functions.items
     → ((tac : memory_tac.Tac) (called : ℕ) → ListsEscaping tac called graph own.names numbers.items)
-    → KeepsOne old (record { graphs = old.graphs; functions = with_item old.functions member own; escaping = with_item old.escaping member numbers; start = old.start; start_function = old.start_function }) member graph own
+    → KeepsOne old (record { graphs = old.graphs; functions = with_item old.functions member own; escaping = with_item old.escaping member numbers; live = old.live; start = old.start; start_function = old.start_function }) member graph own
 keeps_one old member graph own numbers within lists listed = record {
   graphs = refl;
+  live = refl;
   size = length-set old.functions.items member own;
   own' = set_same old.functions.items member own within;
   others = λ number other. set_other old.functions.items member number own other;
@@ -154,6 +162,7 @@ keeps_one old member graph own numbers within lists listed = record {
 -- so it is for the first of a group
 pub record KeepsSome (old new : Making) (members : List FunctionId) (graph : FrozenGraph) (functions : List FunctionGraph) (count : ℕ) : Type 0 where
   pub graphs : new.graphs ≡ old.graphs
+  pub live : new.live ≡ old.live
   pub size : length new.functions.items ≡ length old.functions.items
   pub own' : (place : ℕ) (member : FunctionId) → place < count → slice_get members place ≡ Some member → slice_get new.functions.items member.0 ≡ slice_get functions place
   pub others : (number : ℕ) → ((place : ℕ) (member : FunctionId) → place < count → slice_get members place ≡ Some member → member.0 ≡ number → ⊥) → slice_get new.functions.items number ≡ slice_get old.functions.items number
@@ -165,6 +174,7 @@ pub record KeepsSome (old new : Making) (members : List FunctionId) (graph : Fro
 pub keeps_none : (old : Making) (members : List FunctionId) (graph : FrozenGraph) (functions : List FunctionGraph) → KeepsSome old old members graph functions 0
 keeps_none old members graph functions = record {
   graphs = refl;
+  live = refl;
   size = refl;
   own' = λ place member less. absurd (omega (arith, less));
   others = λ number other. refl;
@@ -205,6 +215,7 @@ module _ (old mid new : Making) (members : List FunctionId) (graph : FrozenGraph
   pub keeps_more : KeepsSome old new members graph functions (suc count)
   keeps_more = record {
     graphs = one.graphs ∙ some.graphs;
+    live = one.live ∙ some.live;
     size = one.size ∙ some.size;
     own' = own_more;
     others = λ number other. one.others number (λ same. other count member (omega arith) at (sym same)) ∙ some.others number (λ place f less. other place f (omega (arith, less)));
@@ -213,11 +224,16 @@ module _ (old mid new : Making) (members : List FunctionId) (graph : FrozenGraph
     listed = listed_more;
   }
 
--- that is all where there is no other
-pub keeps_all : (old new : Making) (members : List FunctionId) (graph : FrozenGraph) (functions : List FunctionGraph) (count : ℕ) → length functions ≡ length members → length functions ≡ count
-    → KeepsSome old new members graph functions count → KeepsMembers old new members graph functions
-keeps_all old new members graph functions count size all some = record {
+-- with other functions from which something escapes
+abbrev pub with_live : Making → LiveTargets → Making
+with_live making live = record { graphs = making.graphs; functions = making.functions; escaping = making.escaping; live = live; start = making.start; start_function = making.start_function }
+
+-- that is all where there is no other, and those from which something escapes are added
+pub keeps_all : (old new : Making) (live : LiveTargets) (members : List FunctionId) (graph : FrozenGraph) (functions : List FunctionGraph) (count : ℕ) → length functions ≡ length members → length functions ≡ count
+    → AddsMembers (rows_of new.escaping.items) (numbers_of members) new.live live → KeepsSome old new members graph functions count → KeepsMembers old (with_live new live) members graph functions
+keeps_all old new live members graph functions count size all adds some = record {
   graphs = some.graphs;
+  live = subst (λ l. AddsMembers (rows_of new.escaping.items) (numbers_of members) l live) some.live adds;
   size = some.size;
   own = λ place member at. some.own' place member (less place member at) at;
   others = λ number other. some.others number (λ place member lt. other place member);
@@ -259,6 +275,19 @@ ascends_apart members ascends a b one other at there same = elim (cases_lt a b) 
   ]
 ]
 
+above : (first : ℕ) (numbers : List ℕ) → IsAscending (first ∷ numbers) → (number : ℕ) → Has numbers number → first < number
+above first [] ascends number has = absurd has
+above first (next ∷ numbers) ascends number (inl same) = let less : first < next = ascends.0 in omega (arith, less, same)
+above first (next ∷ numbers) ascends number (inr has) =
+    let less : first < next = ascends.0 in
+    let more : next < number = above next numbers ascends.1 number has in
+    omega (arith, less, more)
+
+ascends_once : (numbers : List ℕ) → IsAscending numbers → IsOnce numbers
+ascends_once [] ascends = absurd ascends
+ascends_once (last ∷ []) ascends = ((λ has. has), tt)
+ascends_once (first ∷ next ∷ others) ascends = ((λ has. let less = above first (next ∷ others) ascends first has in omega (arith, less)), ascends_once (next ∷ others) ascends.1)
+
 owners_same : (members : List FunctionId) → local.owners_in (numbers_of members) ≡ owners_in (map Some members)
 owners_same [] = refl
 owners_same (member ∷ members) = ap (λ l. InFunction member.0 ∷ l) (owners_same members)
@@ -285,11 +314,48 @@ module _ (tac : memory_tac.Tac) (groups : Groups) (number : ℕ) (members : List
       all_some (λ (member : FunctionId). member.0 < length old.functions.items) members
       (λ place member at. let less = member_within place member at in let long = making.functions in omega (arith, less, long))
 
-  -- with what is kept of the group it has its graph
+  member_has : (called place : ℕ) (member : FunctionId) → slice_get members place ≡ Some member → member.0 ≡ called → Has (numbers_of members) called
+  member_has called place member at same = has_at (numbers_of members) place called (slice_get-map (λ (f : FunctionId). f.0) members place ∙ (ap (option_map (λ (f : FunctionId). f.0)) at ∙ ap Some same))
+
+  member_group : (called place : ℕ) (member : FunctionId) → slice_get members place ≡ Some member → member.0 ≡ called → slice_get groups.group_of.items called ≡ Some number
+  member_group called place member at same =
+      ap (slice_get groups.group_of.items) (sym same)
+      ∙ inside_noted groups number member.0 (listed_inside tac groups grouped number member.0 (numbers_of members) row (member_listed members place member at))
+
+  has_group : (called : ℕ) → Has (numbers_of members) called → slice_get groups.group_of.items called ≡ Some number
+  has_group called has =
+      let there = at_has (numbers_of members) called has in
+      by there.0 (slice_get members there.0) refl (sym (slice_get-map (λ (f : FunctionId). f.0) members there.0) ∙ there.1)
+    where
+      by : (place : ℕ) (found : Option FunctionId) → slice_get members place ≡ found → option_map (λ (f : FunctionId). f.0) found ≡ Some called → slice_get groups.group_of.items called ≡ Some number
+      by place None at same = absurd (none-some called same)
+      by place (Some member) at same = member_group called place member at (same_Some member.0 called same)
+
   -- the graphs of the groups with one more
   abbrev pub with_graphs : Making → Vec FrozenGraph Global → Making
-  with_graphs mid graphs = record { graphs = graphs; functions = mid.functions; escaping = mid.escaping; start = mid.start; start_function = mid.start_function }
+  with_graphs mid graphs = record { graphs = graphs; functions = mid.functions; escaping = mid.escaping; live = mid.live; start = mid.start; start_function = mid.start_function }
 
+  -- no node escapes the functions of the group before, and none those of later groups still
+  pub live_added : (old mid : Making) (graphs : Vec FrozenGraph Global) (graph : FrozenGraph) (functions : List FunctionGraph) → AreLiveBelow (made_in tac groups old) number → KeepsMembers old mid members graph functions
+      → AreLiveBelow (made_in tac groups (with_graphs mid graphs)) (suc number)
+  live_added old mid graphs graph functions below keeps = record {
+    live =
+        lives_more tac (rows_of old.escaping.items) (rows_of mid.escaping.items) (numbers_of members) old.live mid.live below.live keeps.live
+        (λ called apart. keeps.same_lists called (λ place member at same. apart (member_has called place member at same)))
+        (λ called has. below.below called number (has_group called has) (omega arith)) once;
+    below = λ called group of later.
+        ap is_some_list
+        (keeps.same_lists called
+        (λ place member at same.
+        let its : number ≡ group = same_Some number group (sym (member_group called place member at same) ∙ of) in
+        omega (arith, later, its)))
+        ∙ below.below called group of (omega (arith, later));
+  }
+    where
+      once : IsOnce (numbers_of members)
+      once = let place = stands (groups_of groups) number (numbers_of members) row in ascends_once (numbers_of members) (grouped.groups.ascending place.before place.after (numbers_of members) place.is)
+
+  -- with what is kept of the group it has its graph
   adds_group : (old mid : Making) (graphs : Vec FrozenGraph Global) (graph : FrozenGraph) (functions : List FunctionGraph) → KeepsMembers old mid members graph functions → graphs.items ≡ mid.graphs.items ++ graph ∷ []
       → AddsGroup (made_in tac groups old) (made_in tac groups (with_graphs mid graphs)) members graph functions
   adds_group old mid graphs graph functions keeps pushed = record {
@@ -317,11 +383,34 @@ module _ (tac : memory_tac.Tac) (groups : Groups) (number : ℕ) (members : List
   least_added old mid graphs begun graph functions start making assembled begins_so keeps pushed =
       least_grows (made_in tac groups old) start grouped number making begun graph functions members row assembled begins_so (made_in tac groups (with_graphs mid graphs)) (adds_group old mid graphs graph functions keeps pushed)
 
+  -- and no flag of theirs can be taken away
+  pub bare_added : (old mid : Making) (graphs : Vec FrozenGraph Global) (begun : Graph) (graph : FrozenGraph) (functions : List FunctionGraph) → (tac_of tac).start.parameters ≡ 0 → IsMaking (made_in tac groups old) number
+      → IsAssembled (made_in tac groups old) (Some number) (map Some members) begun graph functions → IsBegun (made_in tac groups old) (Some number) (map Some members) begun
+      → KeepsMembers old mid members graph functions → graphs.items ≡ mid.graphs.items ++ graph ∷ [] → AreLeast (made_in tac groups old) number → AreBare (made_in tac groups old) number
+      → AreBare (made_in tac groups (with_graphs mid graphs)) (suc number)
+  bare_added old mid graphs begun graph functions start making assembled begins_so keeps pushed =
+      bare_grows (made_in tac groups old) start grouped number making begun graph functions members row assembled begins_so (made_in tac groups (with_graphs mid graphs)) (adds_group old mid graphs graph functions keeps pushed)
+      (group_added old mid graphs begun graph functions making assembled keeps pushed)
+
   -- graphs that begin with those begin with the ones before
   pub begins_still : (old mid : Making) (graphs : Vec FrozenGraph Global) (graph : FrozenGraph) (functions : List FunctionGraph) → IsMaking (made_in tac groups old) number → KeepsMembers old mid members graph functions
       → graphs.items ≡ mid.graphs.items ++ graph ∷ [] → (all : ProgramGraphs) → BeginsWith (made_in tac groups (with_graphs mid graphs)) (suc number) all → BeginsWith (made_in tac groups old) number all
   begins_still old mid graphs graph functions making keeps pushed =
       begins_before (made_in tac groups old) (made_in tac groups (with_graphs mid graphs)) number members graph functions grouped row making.graphs (adds_group old mid graphs graph functions keeps pushed)
+
+-- one function more from which nothing escapes
+pub blank_more : (lists : List (Vec ℕ Global)) (list : Vec ℕ Global) → list.items ≡ [] → ((called : ℕ) → is_listed (rows_of lists) called ≡ false) → (called : ℕ) → is_listed (rows_of (lists ++ list ∷ [])) called ≡ false
+blank_more [] list empty none zero = ap has_numbers empty
+blank_more [] list empty none (suc called) = refl
+blank_more (first ∷ lists) list empty none zero = none zero
+blank_more (first ∷ lists) list empty none (suc called) = blank_more lists list empty (λ number. none (suc number)) called
+
+-- before all groups nothing escapes any function
+pub live_begins : (tac : memory_tac.Tac) (groups : Groups) (making : Making) → IsEmpty tac making → AreLiveBelow (made_in tac groups making) 0
+live_begins tac groups making empty = record {
+  live = lives_none tac (rows_of making.escaping.items) making.live empty.live empty.none;
+  below = λ called group of from. empty.none called;
+}
 
 -- ---- what is left of a list
 

@@ -1,22 +1,25 @@
--- The graph of a group is on the way to each other graph of whose objects all is told, in which its calls use copies and its points are settled.
-use Rattle.std.proofs.Common.{ℕ, List, Option}
+-- The graph of a group is on the way to each other graph in which its calls use copies and its points are settled. After that it is told of
+-- arrays only what is asked.
+use Rattle.std.proofs.Common.{◌≡◌, ◌⊎◌, inl, inr, ℕ, true, List, Option, sym, ap, subst, ◌∙◌}
+use Rattle.std.proofs.lemmas.Option.{same_Some}
 use Rattle.c_typed.specs.Table.{structs_in}
 use Rattle.tac_ir.specs.declared.register.FunctionId.{FunctionId}
 use Rattle.tac_ir.specs.Views.{tac_of}
-use Rattle.heap_graph.specs.Graphs.{Graph}
-use Rattle.heap_graph.specs.Merging.{IsSound, GraphMap, Maps}
-use Rattle.grown_maps.proofs.GrownMaps.{grown_maps}
+use Rattle.heap_graph.specs.Graphs.{Node, Graph}
+use Rattle.heap_graph.specs.Merging.{GraphMap, Maps}
 use Rattle.graph_steps.specs.Leading.{Leads}
-use Rattle.call_copies.specs.Telling.{ArraysTold}
-use Rattle.made_graphs.specs.Going.{AllNamed}
-use Rattle.group_rounds.specs.Growing.{OnlyFlagsGrow}
+use Rattle.call_copies.specs.Telling.{ArrayTold, ArraysTold, OnlyAsked}
+use Rattle.group_rounds.specs.Growing.{OnlyFlagsGrow, GetsArray, OnlyArrays}
+use Rattle.group_rounds.specs.Sizes.{AsksOwner}
 use Rattle.group_rounds.specs.Rounds.{Settled}
+use Rattle.group_rounds.proofs.ArraySteps.{asked_still}
 use Rattle.group_crossings.specs.declared.before.Crossings.{Crossings}
 use Rattle.group_crossings.specs.Before.{GraphsBefore}
+use Rattle.group_crossings.specs.Asking.{AsksCall}
 use Rattle.group_crossings.specs.Crossings.{owners_in}
 use Rattle.group_crossings.specs.CallSteps.{AllLead}
-use Rattle.group_crossings.proofs.Arrays.{only_flags}
-use Rattle.assembled_groups.specs.Assembled.{IsWanted}
+use Rattle.group_crossings.proofs.AskedCalls.{calls_asked}
+use Rattle.assembled_groups.specs.Assembled.{IsWanted, AsksArray}
 
 -- the graph goes on from the one that was begun, on the way to each such other graph
 abbrev pub LeadsWanted : GraphsBefore → Option ℕ → List (Option FunctionId) → List Crossings → Graph → Graph → Type 0
@@ -24,14 +27,35 @@ LeadsWanted before group owners all begun graph =
     (other : Graph) (into : GraphMap) → Maps (structs_in before.tac.types) begun other into → IsWanted before group owners all other → (rest : GraphMap) × Maps (structs_in before.tac.types) graph other rest
 
 module _ (before : GraphsBefore) (group : Option ℕ) (owners : List (Option FunctionId)) (all : List Crossings) (begun : Graph) where
-  pub sized_leads : (crossed settled sized : Graph) → AllLead before group owners all begun crossed → Leads (structs_in before.tac.types) crossed settled (Settled (tac_of before.tac) (owners_in owners)) → OnlyFlagsGrow settled sized
-      → LeadsWanted before group owners all begun sized
-  sized_leads crossed settled sized first next grows other into maps wanted =
+  pub settled_leads : (crossed settled : Graph) → AllLead before group owners all begun crossed → Leads (structs_in before.tac.types) crossed settled (Settled (tac_of before.tac) (owners_in owners))
+      → LeadsWanted before group owners all begun settled
+  settled_leads crossed settled first next other into maps wanted =
       let one = first other into maps wanted.fits wanted.crosses in
       let two = next.least other one.0 one.1 wanted.settled in
-      (two.0, grown_maps (structs_in before.tac.types) other wanted.full settled sized two.0 grows two.1)
+      (two.0, two.1)
 
-  pub told_leads : (sized told : Graph) → IsSound (structs_in before.tac.types) sized → AllNamed told → ArraysTold sized told → LeadsWanted before group owners all begun sized → LeadsWanted before group owners all begun told
-  told_leads sized told sound named arrays leads other into maps wanted =
-      let rest = leads other into maps wanted in
-      (rest.0, grown_maps (structs_in before.tac.types) other wanted.full sized told rest.0 (only_flags (structs_in before.tac.types) sized told sound named arrays) rest.1)
+-- ---- arrays
+
+module _ (before : GraphsBefore) (owners : List (Option FunctionId)) (all : List Crossings) (typed sized made : Graph) (grows : OnlyFlagsGrow typed sized)
+    (sizes : OnlyArrays (AsksOwner (tac_of before.tac) (owners_in owners) typed) typed sized) (arrays : ArraysTold sized made) (copies : OnlyAsked (AsksCall before all sized) sized made) where
+  one_asked : (number : ℕ) (a m c : Node) → GetsArray (AsksOwner (tac_of before.tac) (owners_in owners) typed number a.element) a m → (told : ArrayTold made number m) → told.now ≡ c → m.element ≡ a.element
+      → (c.flags.array ≡ true → (m.flags.array ≡ true) ⊎ AsksCall before all sized number m.element) → GetsArray (AsksArray before owners all made number a.element) a c
+  one_asked number a m c first told last element only = record {
+    same = subst (λ (n : Node). n ≡ record m { flags = record m.flags { array = n.flags.array } }) last told.same ∙ ap (λ (n : Node). record n { flags = record n.flags { array = c.flags.array } }) first.same;
+    only = λ is. by_copy (only is);
+  }
+    where
+      by_size : (a.flags.array ≡ true) ⊎ AsksOwner (tac_of before.tac) (owners_in owners) typed number a.element → (a.flags.array ≡ true) ⊎ AsksArray before owners all made number a.element
+      by_size (inl was) = inl was
+      by_size (inr asks) = inr (inl (asked_still made typed (λ name. sym (grows.names name) ∙ sym (arrays.names name)) (tac_of before.tac) (owners_in owners) number a.element asks))
+
+      by_copy : (m.flags.array ≡ true) ⊎ AsksCall before all sized number m.element → (a.flags.array ≡ true) ⊎ AsksArray before owners all made number a.element
+      by_copy (inl was) = by_size (first.only was)
+      by_copy (inr asks) = inr (inr (subst (AsksCall before all made number) element (calls_asked before made sized (λ name. sym (arrays.names name)) all number m.element asks)))
+
+  -- sizes were told, and then copies
+  pub only_asked : OnlyArrays (AsksArray before owners all made) typed made
+  only_asked number a c here there =
+      let middle = grows.nodes number a here in
+      let told = arrays.nodes number middle.now middle.is in
+      one_asked number a middle.now c (sizes number a middle.now here middle.is) told (same_Some told.now c (sym told.is ∙ there)) middle.grows.element (copies number middle.now c middle.is there)

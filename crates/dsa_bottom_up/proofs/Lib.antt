@@ -1,3 +1,4 @@
+pub mod ClosedSoFar
 pub mod Counted
 pub mod Crossed
 pub mod EachTold

@@ -1,3 +1,4 @@
+pub mod Ascending
 pub mod Assembling
 pub mod Making
 pub mod Refused

@@ -1,11 +1,13 @@
 -- The graphs of groups so far, in memory.
-use Rattle.std.specs.Prelude.{◌≡◌, ℕ, List, [], length, slice_get, Some}
+use Rattle.std.specs.Prelude.{◌≡◌, ℕ, ◌≤◌, false, List, [], length, slice_get, Some}
 use Rattle.tac_ir.specs.declared.program.Tac as memory_tac
 use Rattle.tac_ir.specs.declared.register.FunctionId.{FunctionId}
 use Rattle.frozen_graphs.specs.declared.frozen.FrozenGraph.{FrozenGraph}
 use Rattle.program_graphs.specs.declared.program.FunctionGraph.{FunctionGraph}
 use Rattle.function_groups.specs.declared.group_lists.Groups.{Groups}
-use Rattle.group_crossings.specs.Before.{GraphsBefore, rows_of}
+use Rattle.call_targets.specs.ClassLists.{numbers_of}
+use Rattle.group_crossings.specs.Before.{GraphsBefore, rows_of, is_listed, is_live}
+use Rattle.group_crossings.specs.Live.{AreNoneLive, AddsMembers, AreLive}
 use Rattle.assembled_groups.specs.Making.{AreAt, ListsEscaping, SameOthers}
 use Rattle.dsa_bottom_up.specs.declared.making.Making.{Making}
 
@@ -16,6 +18,7 @@ made_in tac groups making = record {
   graphs = making.graphs.items;
   functions = making.functions.items;
   escaping = rows_of making.escaping.items;
+  live = making.live;
 }
 
 -- no group has a graph yet
@@ -23,6 +26,13 @@ pub record IsEmpty (tac : memory_tac.Tac) (making : Making) : Type 0 where
   pub graphs : making.graphs.items ≡ []
   pub functions : length making.functions.items ≡ length tac.functions.items
   pub escaping : length making.escaping.items ≡ length tac.functions.items
+  pub none : (called : ℕ) → is_listed (rows_of making.escaping.items) called ≡ false
+  pub live : AreNoneLive tac making.live
+
+-- Those functions from which something escapes are known by their classes; they are of groups below a number.
+pub record AreLiveBelow (before : GraphsBefore) (number : ℕ) : Type 0 where
+  pub live : AreLive before.tac before.escaping before.live
+  pub below : (called group : ℕ) → slice_get before.groups.group_of.items called ≡ Some group → number ≤ group → is_live before called ≡ false
 
 -- each function stands once
 abbrev pub AreApart : List FunctionId → Type 0
@@ -31,6 +41,7 @@ AreApart members = (a b : ℕ) (one other : FunctionId) → slice_get members a 
 -- what is told of a function is kept at its number, and which nodes escape it
 pub record KeepsOne (old new : Making) (member : ℕ) (graph : FrozenGraph) (own : FunctionGraph) : Type 0 where
   pub graphs : new.graphs ≡ old.graphs
+  pub live : new.live ≡ old.live
   pub size : length new.functions.items ≡ length old.functions.items
   pub own' : slice_get new.functions.items member ≡ Some own
   pub others : (number : ℕ) → (number ≡ member → ⊥) → slice_get new.functions.items number ≡ slice_get old.functions.items number
@@ -38,9 +49,10 @@ pub record KeepsOne (old new : Making) (member : ℕ) (graph : FrozenGraph) (own
   pub same_lists : (number : ℕ) → (number ≡ member → ⊥) → slice_get (rows_of new.escaping.items) number ≡ slice_get (rows_of old.escaping.items) number
   pub listed : (tac : memory_tac.Tac) → (numbers : List ℕ) × (slice_get (rows_of new.escaping.items) member ≡ Some numbers) × ListsEscaping tac member graph own.names numbers
 
--- so it is for each function of a group
+-- so it is for each function of a group, and those from which something escapes are added to their classes
 pub record KeepsMembers (old new : Making) (members : List FunctionId) (graph : FrozenGraph) (functions : List FunctionGraph) : Type 0 where
   pub graphs : new.graphs ≡ old.graphs
+  pub live : AddsMembers (rows_of new.escaping.items) (numbers_of members) old.live new.live
   pub size : length new.functions.items ≡ length old.functions.items
   pub own : AreAt new.functions.items members functions
   pub others : SameOthers old.functions.items new.functions.items members

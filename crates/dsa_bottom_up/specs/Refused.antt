@@ -6,8 +6,8 @@ use Rattle.heap_graph.specs.Graphs.{Node, OfGlobal, OfLiteral, node_at}
 use Rattle.heap_graph.specs.Targets.{has_target}
 use Rattle.heap_graph.specs.Escaping.{Escapes}
 use Rattle.heap_graph.specs.Closed.{Family, graph_of, group_of, is_in}
-use Rattle.closed_graphs.specs.Faults.{GroupClosed}
 use Rattle.group_crossings.specs.Before.{Rises}
+use Rattle.least_graphs.specs.Below.{ClosedBelow, LeastBelow}
 use Rattle.group_counts.specs.Counting.{total, Outside, group_count, start_count}
 
 -- how many nodes a group may begin with
@@ -46,9 +46,9 @@ module _ (family : Family) where
   abbrev pub AreFew : List ℕ → ℕ → Type 0
   AreFew counts number = (at : ℕ) → at < number → (count : ℕ) × GroupCounts counts at count × (count ≤ limit)
 
--- The first group that begins with too many nodes, or `start`, where the graphs of the groups before are closed.
+-- The first group that begins with too many nodes, or `start`, where the graphs of the groups before are closed and the least.
 pub data IsRefused (tac : Tac) (groups : List (List ℕ)) (counts : List ℕ) (own count : ℕ) : Type 0 where
-  in_group : (family : Family) (number : ℕ) → family.tac ≡ tac → family.groups ≡ groups → ((at : ℕ) → at < number → GroupClosed family at) → AreFew family counts number → GroupCounts family counts number count
+  in_group : (family : Family) (number : ℕ) → family.tac ≡ tac → family.groups ≡ groups → ClosedBelow family number → LeastBelow family number → AreFew family counts number → GroupCounts family counts number count
       → limit < count → IsRefused tac groups counts own count
-  in_start : (family : Family) → family.tac ≡ tac → family.groups ≡ groups → ((at : ℕ) → at < length groups → GroupClosed family at) → AreFew family counts (length groups) → StartCounts family own count
+  in_start : (family : Family) → family.tac ≡ tac → family.groups ≡ groups → ClosedBelow family (length groups) → LeastBelow family (length groups) → AreFew family counts (length groups) → StartCounts family own count
       → limit < count → IsRefused tac groups counts own count

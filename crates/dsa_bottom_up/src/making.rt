@@ -2,9 +2,10 @@
 
 ghost use Rattle.std.specs.Prelude.{◌≡◌, ◌<◌, ℕ, suc, length, map, Some, All, IfOk, OnOk};
 ghost use Rattle.tac_ir.specs.Views.{tac_of};
-ghost use Rattle.function_groups.specs.GroupViews.{groups_of};
+ghost use Rattle.function_groups.specs.GroupViews.{groups_of, IsOf};
 ghost use Rattle.inner_calls.specs.Called.{AreCalled};
 ghost use Rattle.heap_graph.specs.Closed.{Closed};
+ghost use Rattle.heap_graph.specs.Least.{Least};
 ghost use Rattle.program_graphs.specs.declared.program.ProgramGraphs as memory_program;
 ghost use Rattle.program_graphs.specs.Programs.{family_in};
 ghost use Rattle.tac_ir.specs.declared.program.Tac as memory;
@@ -13,14 +14,16 @@ ghost use Rattle.group_crossings.specs.Before.{graphs_before};
 ghost use Rattle.assembled_groups.specs.Making.{IsGrouped, BeginsWith, IsMaking, ListsEscaping};
 ghost use Rattle.least_graphs.specs.Making.{AreLeast};
 ghost use Rattle.least_graphs.specs.Smallest.{IsSmallest};
-ghost use Rattle.dsa_bottom_up.specs.Making.{made_in, IsEmpty, AreApart, KeepsOne, KeepsMembers};
+ghost use Rattle.bare_graphs.specs.Bare.{AreBare};
+ghost use Rattle.dsa_bottom_up.specs.Ascending.{GraphsAscend};
+ghost use Rattle.dsa_bottom_up.specs.Making.{made_in, IsEmpty, AreLiveBelow, AreApart, KeepsOne, KeepsMembers};
 
 use crate::assembling::{Assembled, assemble};
 use dsa_local::{LocalGraph, joined_group, joined_start};
 use first_values::apply_first;
 use frozen_graphs::{FrozenGraph, FunctionNames};
 use function_groups::Groups;
-use group_crossings::Before;
+use group_crossings::{Before, LiveTargets};
 use indexmap::IndexMap;
 use inner_calls::CalledClasses;
 use program_graphs::{FunctionGraph, ProgramGraphs};
@@ -29,12 +32,13 @@ use std::alloc::{AllocError, Global};
 use tac_ir::{FunctionId, Tac};
 
 /// The graphs of the groups so far, by their numbers; what they tell of functions, and which nodes escape each function, by the numbers of
-/// the functions.
+/// the functions; and of which functions some do.
 #[derive(Drop)]
 pub(crate) struct Making {
     graphs: Vec<FrozenGraph>,
     functions: Vec<FunctionGraph>,
     escaping: Vec<Vec<usize>>,
+    live: LiveTargets,
     /// That of `start`, of which nothing is told as long as groups have none.
     start: FrozenGraph,
     start_function: FunctionGraph,
@@ -42,7 +46,8 @@ pub(crate) struct Making {
 
 impl Making {
     /// No graphs.
-    pub(crate) fn new(alloc: Global, tac: &Tac) -> Result<Making, AllocError>
+    pub(crate) fn new(alloc: Global, tac: &Tac, groups: &Groups) -> Result<Making, AllocError>
+        requires { IsOf tac.now groups.now }
         ensures { IfOk result (IsEmpty tac.now) }
     {
         let mut functions = Vec::new(alloc);
@@ -61,6 +66,7 @@ impl Making {
             graphs: Vec::new(alloc),
             functions,
             escaping,
+            live: LiveTargets::new(alloc, tac, &groups.classes)?,
             start: blank_graph(alloc),
             start_function: blank_function(alloc),
         })
@@ -76,6 +82,7 @@ impl Making {
             graphs: self.graphs.as_slice(),
             functions: self.functions.as_slice(),
             escaping: self.escaping.as_slice(),
+            live: &self.live,
         }
     }
 
@@ -91,10 +98,13 @@ impl Making {
         requires grouped { IsGrouped tac.now groups.now }
         requires called { AreCalled tac.now called.now }
         requires making { IsMaking (made_in tac.now groups.now self.old) number }
+        requires live { AreLiveBelow (made_in tac.now groups.now self.old) number }
         requires within { number < length groups.now.members.items }
         ensures making { OnOk result (IsMaking (made_in tac.now groups.now self.new) (suc number)) }
+        ensures live { OnOk result (AreLiveBelow (made_in tac.now groups.now self.new) (suc number)) }
         ensures begins { OnOk result ((all : memory_program.ProgramGraphs) → BeginsWith (made_in tac.now groups.now self.new) (suc number) all → BeginsWith (made_in tac.now groups.now self.old) number all) }
         ensures least { OnOk result ((tac_of tac.now).start.parameters ≡ 0 → AreLeast (made_in tac.now groups.now self.old) number → AreLeast (made_in tac.now groups.now self.new) (suc number)) }
+        ensures bare { OnOk result ((tac_of tac.now).start.parameters ≡ 0 → AreLeast (made_in tac.now groups.now self.old) number → AreBare (made_in tac.now groups.now self.old) number → AreBare (made_in tac.now groups.now self.new) (suc number)) }
     {
         let members = groups.members[number].as_slice();
         let owners = owners_of(alloc, members)?;
@@ -132,7 +142,7 @@ impl Making {
         for (place, own) in functions.into_iter().enumerate() {
             self.keep_one(alloc, members[place].0, graph, own)?;
         }
-        Ok(())
+        self.live.add_members(members, self.escaping.as_slice())
     }
 
     /// Keeps what is told of one function.
@@ -162,10 +172,14 @@ impl Making {
     ) -> Result<ProgramGraphs, AllocError>
         requires grouped { IsGrouped tac.now groups.now }
         requires making { IsMaking (made_in tac.now groups.now self) (length (groups_of groups.now)) }
+        requires live { AreLiveBelow (made_in tac.now groups.now self) (length (groups_of groups.now)) }
         ensures closed { IfOk result (λ graphs. Closed (family_in tac.now (groups_of groups.now) graphs)) }
         ensures smallest { IfOk result (λ graphs. (tac_of tac.now).start.parameters ≡ 0 → AreLeast (made_in tac.now groups.now self) (length (groups_of groups.now)) → IsSmallest (family_in tac.now (groups_of groups.now) graphs)) }
+        ensures least { IfOk result (λ graphs. (tac_of tac.now).start.parameters ≡ 0 → AreLeast (made_in tac.now groups.now self) (length (groups_of groups.now)) → AreBare (made_in tac.now groups.now self) (length (groups_of groups.now))
+            → Least (family_in tac.now (groups_of groups.now) graphs)) }
         ensures begins { IfOk result (BeginsWith (made_in tac.now groups.now self) (length (groups_of groups.now))) }
         ensures graphs { IfOk result (λ graphs. length graphs.graphs.items ≡ length groups.now.members.items) }
+        ensures ascend { IfOk result GraphsAscend }
     {
         let LocalGraph { mut graph, scopes } = joined_start(alloc, tac)?;
         apply_first(alloc, tac, &mut graph)?;
@@ -185,10 +199,12 @@ impl Making {
             graphs,
             functions,
             escaping,
+            live,
             start: blank,
             start_function: blank_function,
         } = self;
         drop(escaping);
+        drop(live);
         drop(blank);
         drop(blank_function);
         Ok(ProgramGraphs {

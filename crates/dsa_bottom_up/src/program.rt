@@ -4,9 +4,12 @@ ghost use Rattle.std.specs.Prelude.{◌≡◌, ◌≤◌, ℕ, length, Err, IfOk
 ghost use Rattle.tac_ir.specs.Views.{tac_of};
 ghost use Rattle.function_groups.specs.GroupViews.{groups_of};
 ghost use Rattle.heap_graph.specs.Closed.{Closed};
+ghost use Rattle.heap_graph.specs.Least.{Least};
 ghost use Rattle.program_graphs.specs.Programs.{family_in};
 ghost use Rattle.assembled_groups.specs.Making.{IsGrouped, IsMaking};
 ghost use Rattle.least_graphs.specs.Smallest.{IsSmallest};
+ghost use Rattle.dsa_bottom_up.specs.Ascending.{GraphsAscend};
+ghost use Rattle.least_graphs.specs.Below.{LeastBelow};
 ghost use Rattle.dsa_bottom_up.specs.Refused.{limit, AreFew, StartCounts, IsRefused};
 
 use crate::making::Making;
@@ -56,12 +59,15 @@ pub fn bottom_up(
     ensures functions { IfOk result (λ graphs. length graphs.functions.items ≡ length tac.now.functions.items) }
     ensures closed { IfOk result (λ graphs. Closed (family_in tac.now (groups_of groups.now) graphs)) }
     ensures smallest { IfOk result (λ graphs. (tac_of tac.now).start.parameters ≡ 0 → IsSmallest (family_in tac.now (groups_of groups.now) graphs)) }
+    ensures least_below { IfOk result (λ graphs. (tac_of tac.now).start.parameters ≡ 0 → LeastBelow (family_in tac.now (groups_of groups.now) graphs) (length (groups_of groups.now))) }
+    ensures least { IfOk result (λ graphs. (tac_of tac.now).start.parameters ≡ 0 → Least (family_in tac.now (groups_of groups.now) graphs)) }
     ensures few { IfOk result (λ graphs. AreFew (family_in tac.now (groups_of groups.now) graphs) counts.now.functions.items (length (groups_of groups.now))) }
     ensures few_first { IfOk result (λ graphs. (count : ℕ) × StartCounts (family_in tac.now (groups_of groups.now) graphs) counts.now.start count × (count ≤ limit)) }
-    ensures refused { (count : ℕ) → result ≡ Err (GraphErr.TooMany count) → IsRefused (tac_of tac.now) (groups_of groups.now) counts.now.functions.items counts.now.start count }
+    ensures ascend { IfOk result GraphsAscend }
+    ensures refused { (tac_of tac.now).start.parameters ≡ 0 → (count : ℕ) → result ≡ Err (GraphErr.TooMany count) → IsRefused (tac_of tac.now) (groups_of groups.now) counts.now.functions.items counts.now.start count }
 {
     let called = CalledClasses::of_program(alloc, tac, &groups.classes)?;
-    let mut making = Making::new(alloc, tac)?;
+    let mut making = Making::new(alloc, tac, groups)?;
     for number in 0..groups.members.len() {
         making.count_group(alloc, tac, groups, counts, number)?;
         making.add_group(alloc, tac, groups, &called, number)?;

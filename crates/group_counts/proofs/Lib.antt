@@ -4,3 +4,4 @@ pub mod Totals
 pub mod TargetSums
 pub mod Firsts
 pub mod Points
+pub mod Quiet

@@ -1,5 +1,6 @@
--- What is counted over the functions to which a call may come, each of which stands once in a list, is what is counted over all functions.
-use Rattle.std.proofs.Common.{◌≡◌, ℕ, zero, suc, ◌+◌, ◌<◌, ◌==◌, ◌&&◌, ◌||◌, Bool, true, false, if◌then◌else◌, inl, inr, List, [], ◌∷◌, length, refl, sym, ap, ◌∙◌, arith, eqb-true, eq-eqb, ◌≤◌}
+-- What is counted over the functions to which a call may come and from which something escapes, each of which stands once in a list, is what is
+-- counted over all functions.
+use Rattle.std.proofs.Common.{◌≡◌, ℕ, zero, suc, ◌+◌, ◌<◌, ◌==◌, ◌&&◌, ◌||◌, Bool, true, false, if◌then◌else◌, inl, inr, List, [], ◌∷◌, length, refl, sym, ap, subst, ◌∙◌, arith, eqb-true, eq-eqb, ◌↔◌, ◌≤◌}
 use borrow.Author.Tests.{ltb-true, ltb-false, lt-ltb}
 use Rattle.std.specs.Prelude.{nat_lt}
 use Rattle.std.specs.List.{list_any}
@@ -7,10 +8,10 @@ use Rattle.std.proofs.lemmas.Bool.{true≢false, false≢true}
 use Rattle.tac_ir.specs.Code.{Callee, Tac}
 use Rattle.call_groups.specs.Targets.{is_target}
 use Rattle.graph_rows.specs.Lists.{Has, is_among}
-use Rattle.call_targets.specs.TargetLists.{IsRising, AreTargets}
 use Rattle.heap_graph.specs.Graphs.{Name}
 use Rattle.group_counts.specs.Counting.{total, any_below, Outside, copies_to, comes_out}
-use Rattle.group_counts.specs.Tallies.{copies_from, told_from, call_names, any_of}
+use Rattle.group_crossings.specs.Live.{IsOnce}
+use Rattle.group_counts.specs.Tallies.{AreQuiet, copies_from, told_from, call_names, any_of}
 
 -- ---- lists
 
@@ -38,13 +39,19 @@ not_among number numbers never = by (is_among number numbers) refl
     by true e = absurd (never (among_has number numbers e))
     by false e = e
 
--- what the call may come to is what stands in the list
-target_among : (tac : Tac) (callee : Callee) (functions : List ℕ) → AreTargets tac callee functions → (number : ℕ) → is_target tac callee number ≡ is_among number functions
-target_among tac callee functions are number = by (is_target tac callee number) refl
+-- exactly the functions to which the call may come and that pass a test, each once
+pub record ListsLive (tac : Tac) (callee : Callee) (live : ℕ → Bool) (functions : List ℕ) : Type 0 where
+  pub each : (called : ℕ) → Has functions called ↔ ((is_target tac callee called ≡ true) × (live called ≡ true))
+  pub once : IsOnce functions
+
+-- what the call may come to and passes the test is what stands in the list
+target_among : (tac : Tac) (callee : Callee) (live : ℕ → Bool) (functions : List ℕ) → ListsLive tac callee live functions → (number : ℕ) → (is_target tac callee number && live number) ≡ is_among number functions
+target_among tac callee live functions are number = by (is_target tac callee number) refl (live number) refl
   where
-    by : (t : Bool) → is_target tac callee number ≡ t → is_target tac callee number ≡ is_among number functions
-    by true e = e ∙ sym (has_among number functions ((are.each number).1 e))
-    by false e = e ∙ sym (not_among number functions (λ has. true≢false (sym ((are.each number).0 has) ∙ e)))
+    by : (t : Bool) → is_target tac callee number ≡ t → (l : Bool) → live number ≡ l → (t && l) ≡ is_among number functions
+    by true e true f = sym (has_among number functions ((are.each number).1 (e, f)))
+    by true e false f = sym (not_among number functions (λ has. true≢false (sym ((are.each number).0 has).1 ∙ f)))
+    by false e l f = sym (not_among number functions (λ has. true≢false (sym ((are.each number).0 has).0 ∙ e)))
 
 -- ---- sums
 
@@ -99,17 +106,17 @@ sum_one (suc count) one of = by (one == count) refl (sum_one count one of) ∙ a
     by false e rest = omega arith ∙ rest
 
 -- A list in which each number stands once: what its numbers count below another, all numbers below count that stand in it.
-sum_listed : (count : ℕ) (of : ℕ → ℕ) (numbers : List ℕ) → IsRising numbers
+sum_listed : (count : ℕ) (of : ℕ → ℕ) (numbers : List ℕ) → IsOnce numbers
     → sum_below count (λ number. if is_among number numbers then of number else 0) ≡ total (λ number. if nat_lt number count then of number else 0) numbers
-sum_listed count of [] rising = sums_zero count
-sum_listed count of (first ∷ numbers) rising =
+sum_listed count of [] once = sums_zero count
+sum_listed count of (first ∷ numbers) once =
     sums_same count (λ number. if is_among number (first ∷ numbers) then of number else 0) (λ number. (if first == number then of number else 0) + (if is_among number numbers then of number else 0))
     (λ number less. by number (first == number) refl)
     ∙ (sums_both count (λ number. if first == number then of number else 0) (λ number. if is_among number numbers then of number else 0)
-    ∙ (λ i. sum_one count first of i + sum_listed count of numbers rising.1 i))
+    ∙ (λ i. sum_one count first of i + sum_listed count of numbers once.1 i))
   where
     later : (number : ℕ) → (first == number) ≡ true → is_among number numbers ≡ false
-    later number e = not_among number numbers (λ has. absurd (let same : first ≡ number = eqb-true first number e in let less : first < number = rising.0 number has in omega (arith, same, less)))
+    later number e = not_among number numbers (λ has. once.0 (subst (Has numbers) (sym (eqb-true first number e)) has))
 
     by : (number : ℕ) (t : Bool) → (first == number) ≡ t
         → (if t || is_among number numbers then of number else 0) ≡ (if t then of number else 0) + (if is_among number numbers then of number else 0)
@@ -118,7 +125,7 @@ sum_listed count of (first ∷ numbers) rising =
 
 -- ---- copies
 
-module _ (tac : Tac) (outside : Outside) (callee : Callee) (functions : List ℕ) (are : AreTargets tac callee functions) where
+module _ (tac : Tac) (outside : Outside) (callee : Callee) (live : ℕ → Bool) (quiet : AreQuiet outside live) (functions : List ℕ) (are : ListsLive tac callee live functions) where
   abbrev copies : ℕ → ℕ
   copies number = if outside.is_out number then outside.escaping number else 0
 
@@ -126,12 +133,14 @@ module _ (tac : Tac) (outside : Outside) (callee : Callee) (functions : List ℕ
   copies_summed zero = refl
   copies_summed (suc count) = λ i. one i + copies_summed count i
     where
-      by : (t o : Bool) → (if t && o then outside.escaping count else 0) ≡ (if t then (if o then outside.escaping count else 0) else 0)
-      by true o = refl
-      by false o = refl
+      by : (t o l : Bool) → live count ≡ l → (if t && o then outside.escaping count else 0) ≡ (if t && l then (if o then outside.escaping count else 0) else 0)
+      by true o true e = refl
+      by true true false e = quiet.escaping count e
+      by true false false e = refl
+      by false o l e = refl
 
       one : (if comes_out tac outside callee count then outside.escaping count else 0) ≡ (if is_among count functions then copies count else 0)
-      one = by (is_target tac callee count) (outside.is_out count) ∙ ap (λ t. if t then copies count else 0) (target_among tac callee functions are count)
+      one = by (is_target tac callee count) (outside.is_out count) (live count) refl ∙ ap (λ t. if t then copies count else 0) (target_among tac callee live functions are count)
 
   totals_same : (of other : ℕ → ℕ) → ((number : ℕ) → of number ≡ other number) → (numbers : List ℕ) → total of numbers ≡ total other numbers
   totals_same of other same [] = refl
@@ -141,7 +150,7 @@ module _ (tac : Tac) (outside : Outside) (callee : Callee) (functions : List ℕ
   copies_counted =
       totals_same (copies_from tac outside) (λ number. if nat_lt number (length tac.functions) then copies number else 0)
       (λ number. by (nat_lt number (length tac.functions)) (outside.is_out number) (outside.escaping number)) functions
-      ∙ (sym (sum_listed (length tac.functions) copies functions are.in_order) ∙ sym (copies_summed (length tac.functions)))
+      ∙ (sym (sum_listed (length tac.functions) copies functions are.once) ∙ sym (copies_summed (length tac.functions)))
     where
       by : (t o : Bool) (n : ℕ) → (if t && o then n else 0) ≡ (if t then (if o then n else 0) else 0)
       by true o n = refl
@@ -218,13 +227,19 @@ module _ (tac : Tac) (outside : Outside) (callee : Callee) (functions : List ℕ
       forth is =
           let found = list_found one functions is in
           let parts = ones found.0 found.2 in
-          any_shown all (length tac.functions) found.0 parts.0 (put (is_target tac callee found.0) (outside.is_out found.0) (outside.tells found.0 name) ((are.each found.0).0 found.1) parts.1)
+          any_shown all (length tac.functions) found.0 parts.0 (put (is_target tac callee found.0) (outside.is_out found.0) (outside.tells found.0 name) ((are.each found.0).0 found.1).0 parts.1)
+
+      -- something escapes a function that tells of a name
+      loud : (number : ℕ) (l : Bool) → live number ≡ l → (o t : Bool) → outside.tells number name ≡ t → (o && t) ≡ true → live number ≡ true
+      loud number true e o t told is = e
+      loud number false e true t told is = absurd (true≢false (sym is ∙ (sym told ∙ quiet.tells number name e)))
+      loud number false e false t told is = absurd (false≢true is)
 
       back : call_names tac outside callee name ≡ true → any_of (told_from tac outside) functions name ≡ true
       back is =
           let found = any_found all (length tac.functions) is in
           let parts = alls found.0 found.2 in
-          listed one functions found.0 ((are.each found.0).1 parts.0)
+          listed one functions found.0 ((are.each found.0).1 (parts.0, loud found.0 (live found.0) refl (outside.is_out found.0) (outside.tells found.0 name) refl parts.1))
           (put (nat_lt found.0 (length tac.functions)) (outside.is_out found.0) (outside.tells found.0 name) (lt-ltb found.0 (length tac.functions) found.1) parts.1)
 
       by : (a : Bool) → any_of (told_from tac outside) functions name ≡ a → (b : Bool) → call_names tac outside callee name ≡ b

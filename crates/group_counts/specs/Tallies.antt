@@ -1,5 +1,5 @@
 -- Marks of the variables outside functions and the literals that are mentioned, and counts that go on with them.
-use Rattle.std.specs.Prelude.{◌≡◌, ℕ, ◌+◌, ◌&&◌, Bool, false, if◌then◌else◌, nat_lt, List, length, Option}
+use Rattle.std.specs.Prelude.{◌≡◌, ℕ, ◌+◌, ◌<◌, ◌&&◌, Bool, false, if◌then◌else◌, nat_lt, List, length, slice_get, Option, Some}
 use Rattle.std.specs.List.{list_any}
 use Rattle.tac_ir.specs.Code.{Base, Callee, Op, Tac}
 use Rattle.tac_ir.specs.States.{Owner, function_of, points_of}
@@ -7,7 +7,9 @@ use Rattle.tac_ir.specs.Views.{tac_of}
 use Rattle.heap_graph.specs.Graphs.{Name, OfGlobal, OfLiteral}
 use Rattle.group_begins.specs.Mentioned.{is_global, is_literal}
 use Rattle.group_crossings.specs.declared.before.Before.{Before}
-use Rattle.group_crossings.specs.Before.{graphs_before}
+use Rattle.function_groups.specs.GroupViews.{IsOf}
+use Rattle.group_crossings.specs.Before.{IsReached, graphs_before, rows_of}
+use Rattle.group_crossings.specs.Live.{AreLive}
 use Rattle.group_counts.specs.declared.mentions.Mentions.{Mentions}
 use Rattle.group_counts.specs.declared.tally.Tally.{Tally}
 use Rattle.group_counts.specs.Counting.{Outside, any_below, comes_out, mentions}
@@ -49,12 +51,23 @@ pub record IsNew (tac : Tac) (own : ℕ) (tally : Tally) : Type 0 where
 
 -- ---- groups
 
+-- The functions of groups that have graphs are known, and so are those from which something escapes.
+pub record IsKnown (before : Before) : Type 0 where
+  pub groups : IsOf before.tac.now before.groups.now
+  pub live : AreLive before.tac.now (rows_of before.escaping.now) before.live.now
+  pub reached : (called group : ℕ) → slice_get before.groups.now.group_of.items called ≡ Some group → group < length before.graphs.now → IsReached (graphs_before before) called
+
 abbrev pub code_of : Before → Tac
 code_of before = tac_of before.tac.now
 
 -- the functions of all groups but one
 abbrev pub beyond : Before → Option ℕ → Outside
 beyond before group = outside_of (graphs_before before) group
+
+-- no node escapes a function that doesn't pass a test, and it tells of no name
+pub record AreQuiet (outside : Outside) (live : ℕ → Bool) : Type 0 where
+  pub escaping : (called : ℕ) → live called ≡ false → outside.escaping called ≡ 0
+  pub tells : (called : ℕ) (name : Name) → live called ≡ false → outside.tells called name ≡ false
 
 module _ (tac : Tac) (outside : Outside) where
   -- one of the program's functions, and outside the group

@@ -2,11 +2,11 @@
 
 ghost use Rattle.std.specs.Prelude.{◌≡◌, None, IfOk};
 ghost use Rattle.tac_ir.specs.Views.{tac_of};
-ghost use Rattle.function_groups.specs.GroupViews.{IsOf};
 ghost use Rattle.group_crossings.specs.Before.{graphs_before};
 ghost use Rattle.group_crossings.specs.Crossings.{owners_in};
 ghost use Rattle.group_counts.specs.Counting as C;
 ghost use Rattle.group_counts.specs.Sums.{outside_of};
+ghost use Rattle.group_counts.specs.Tallies.{IsKnown};
 
 use crate::tally::Tally;
 use group_crossings::Before;
@@ -22,7 +22,7 @@ pub fn group_count(
     group: Option<usize>,
     own: u64,
 ) -> Result<u64, AllocError>
-    requires groups { IsOf before.tac.now before.groups.now }
+    requires { IsKnown before }
     ensures { IfOk result (λ count. count ≡ C.group_count (tac_of before.entry.tac.now) (outside_of (graphs_before before.entry) group) own (owners_in owners.now)) }
 {
     let mut tally = Tally::new(alloc, before.tac, own)?;
@@ -34,7 +34,7 @@ pub fn group_count(
 
 /// The same of `start`, whose first values count `own` by themselves and mention what they name.
 pub fn start_count(alloc: Global, before: Before<'_>, own: u64) -> Result<u64, AllocError>
-    requires groups { IsOf before.tac.now before.groups.now }
+    requires { IsKnown before }
     ensures { IfOk result (λ count. count ≡ C.start_count (tac_of before.entry.tac.now) (outside_of (graphs_before before.entry) None) own) }
 {
     let numbers = StaticNumbers::of_program(alloc, before.tac)?;

@@ -4,10 +4,9 @@ ghost use Rattle.std.specs.Prelude.{◌≡◌, ◌+◌, length, map, IfOk, OnOk}
 ghost use Rattle.tac_ir.specs.Views.{tac_of, op_in, callee_in};
 ghost use Rattle.graph_memory.specs.Memory.{owner_of};
 ghost use Rattle.call_targets.specs.ClassLists.{numbers_of};
-ghost use Rattle.function_groups.specs.GroupViews.{IsOf};
 ghost use Rattle.group_counts.specs.Counting.{total, copies_to, copies_of, copies_in, count_below};
 ghost use Rattle.group_counts.specs.Marks.{is_marked};
-ghost use Rattle.group_counts.specs.Tallies.{code_of, beyond, IsNew, Counts, any_of, copies_from, told_from, call_names, op_mentions, owner_mentions};
+ghost use Rattle.group_counts.specs.Tallies.{IsKnown, code_of, beyond, IsNew, Counts, any_of, copies_from, told_from, call_names, op_mentions, owner_mentions};
 
 use crate::mentions::Mentions;
 use crate::outside::{escaping, graph_before, is_apart};
@@ -49,7 +48,7 @@ impl Tally {
         group: Option<usize>,
         owner: Option<FunctionId>,
     ) -> Result<(), AllocError>
-        requires { IsOf before.tac.now before.groups.now }
+        requires { IsKnown before }
         ensures { OnOk result (Counts (copies_in (code_of before.entry) (beyond before.entry group) (owner_of owner)) (owner_mentions (code_of before.entry) (beyond before.entry group) (owner_of owner)) self.old self.new) }
     {
         match owner {
@@ -69,7 +68,7 @@ impl Tally {
         group: Option<usize>,
         points: &[Op],
     ) -> Result<(), AllocError>
-        requires { IsOf before.tac.now before.groups.now }
+        requires { IsKnown before }
         ensures { OnOk result (Counts (total (copies_of (code_of before.entry) (beyond before.entry group)) (map (op_in before.entry.tac.now.types) points.now)) (any_of (op_mentions (code_of before.entry) (beyond before.entry group)) (map (op_in before.entry.tac.now.types) points.now)) self.old self.new) }
     {
         for op in points {
@@ -86,7 +85,7 @@ impl Tally {
         group: Option<usize>,
         op: &Op,
     ) -> Result<(), AllocError>
-        requires { IsOf before.tac.now before.groups.now }
+        requires { IsKnown before }
         ensures { OnOk result (Counts (copies_of (code_of before.entry) (beyond before.entry group) (op_in before.entry.tac.now.types op.now)) (op_mentions (code_of before.entry) (beyond before.entry group) (op_in before.entry.tac.now.types op.now)) self.old self.new) }
     {
         self.mentions.add_path(op);
@@ -104,10 +103,10 @@ impl Tally {
         group: Option<usize>,
         callee: Callee,
     ) -> Result<(), AllocError>
-        requires { IsOf before.tac.now before.groups.now }
+        requires { IsKnown before }
         ensures { OnOk result (Counts (copies_to (code_of before.entry) (beyond before.entry group) (length (code_of before.entry).functions) (callee_in before.entry.tac.now.types callee)) (call_names (code_of before.entry) (beyond before.entry group) (callee_in before.entry.tac.now.types callee)) self.old self.new) }
     {
-        let targets = before.groups.classes.targets(alloc, before.tac, callee)?;
+        let targets = before.live_targets(alloc, callee)?;
         self.add_targets(before, group, targets.as_slice())
     }
 
@@ -118,7 +117,7 @@ impl Tally {
         group: Option<usize>,
         targets: &[FunctionId],
     ) -> Result<(), AllocError>
-        requires { IsOf before.tac.now before.groups.now }
+        requires { IsKnown before }
         ensures { OnOk result (Counts (total (copies_from (code_of before.entry) (beyond before.entry group)) (numbers_of targets.now)) (any_of (told_from (code_of before.entry) (beyond before.entry group)) (numbers_of targets.now)) self.old self.new) }
     {
         for target in targets {
@@ -134,7 +133,7 @@ impl Tally {
         group: Option<usize>,
         called: usize,
     ) -> Result<(), AllocError>
-        requires { IsOf before.tac.now before.groups.now }
+        requires { IsKnown before }
         ensures { OnOk result (Counts (copies_from (code_of before.entry) (beyond before.entry group) called) (told_from (code_of before.entry) (beyond before.entry group) called) self.old self.new) }
     {
         if !is_apart(before, group, called) {

@@ -56,7 +56,8 @@ module _ (before : GraphsBefore) (made : AreMade (structs_in before.tac.types)) 
       (stand_kept called copies old new sound goes its.0, its.1)
 
   pub op_kept : (group : Option ℕ) (owner : Owner) (own : Crossings) (op : Op) → Stays before (λ graph. OpCrosses before group owner own graph op)
-  op_kept group owner own op old new sound goes crosses = λ site callee arguments called is target out. uses_kept owner site arguments called own old new sound goes (crosses site callee arguments called is target out)
+  op_kept group owner own op old new sound goes crosses = λ site callee arguments called is target out live.
+      uses_kept owner site arguments called own old new sound goes (crosses site callee arguments called is target out live)
 
   pub calls_kept : (group : Option ℕ) (owner : Owner) (own : Crossings) → Stays before (CallsCross before group owner own)
   calls_kept group owner own old new sound goes cross = λ function at op is there. op_kept group owner own op old new sound goes (cross function at op is there)

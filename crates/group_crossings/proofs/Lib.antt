@@ -8,3 +8,6 @@ pub mod Arrays
 pub mod Images
 pub mod FrozenEntries
 pub mod ToldCopies
+pub mod AskedCalls
+pub mod LiveClasses
+pub mod LiveRows

@@ -14,7 +14,6 @@ use Rattle.tac_ir.specs.States.{Owner, function_of}
 use Rattle.tac_ir.specs.Views.{function_in, tac_of}
 use Rattle.graph_memory.specs.Memory.{owner_of}
 use Rattle.graph_rows.specs.Lists.{Has}
-use Rattle.call_targets.specs.TargetLists.{AreTargets}
 use Rattle.group_freezing.specs.Owners.{function_at}
 use Rattle.heap_graph.specs.Structures.{AreMade}
 use Rattle.heap_graph.specs.Graphs.{OfRegister, Graph}
@@ -28,6 +27,7 @@ use Rattle.outer_calls.specs.Crossed.{CallNamed}
 use Rattle.group_crossings.specs.CallSteps.{IsPoint, OwnerNamed, CallOut}
 use Rattle.group_crossings.specs.Before.{GraphsBefore}
 use Rattle.group_crossings.specs.Crossings.{AreReached}
+use Rattle.group_crossings.specs.Live.{AreLiveTargets}
 
 at_each : {X : Type 0} (P : X → Type 0) (xs : List X) → AllByRecursion P xs → (at : ℕ) (x : X) → slice_get xs at ≡ Some x → P x
 at_each P [] all at x is = absurd (none-some x is)
@@ -69,11 +69,11 @@ pub function_there : (tac : memory_tac.Tac) (owner : Option FunctionId) (functio
 function_there tac None function is = ap (option_map (function_in tac.types)) is
 function_there tac (Some id) function is = slice_get-map (function_in tac.types) tac.functions.items id.0 ∙ ap (option_map (function_in tac.types)) is
 
--- where a point calls functions outside the group, these are known
+-- where a point calls functions outside the group from which something escapes, these are known
 pub targets_out : (before : GraphsBefore) (group : Option ℕ) (owner : Owner) (site : ℕ) (callee : Callee) (arguments : List Register) → AreReached before group owner
-    → IsPoint (tac_of before.tac) owner (O.Call site callee arguments) → (targets : List ℕ) → AreTargets (tac_of before.tac) callee targets → (called : ℕ) → Has targets called → CallOut before group owner site called
+    → IsPoint (tac_of before.tac) owner (O.Call site callee arguments) → (targets : List ℕ) → AreLiveTargets before callee targets → (called : ℕ) → Has targets called → CallOut before group owner site called
 targets_out before group owner site callee arguments reached own targets are called has = λ out.
-    let target = (are.each called).0 has in (
-      record { function = own.function; is = own.is; at = own.at; callee = callee; arguments = arguments; call = own.point; target = target; out = out },
-      reached own.function own.at site callee arguments called own.is own.point target out,
+    let its = (are.each called).0 has in (
+      record { function = own.function; is = own.is; at = own.at; callee = callee; arguments = arguments; call = own.point; target = its.0; out = out; live = its.1 },
+      reached own.function own.at site callee arguments called own.is own.point its.0 out,
     )

@@ -16,7 +16,6 @@ use Rattle.heap_graph.specs.Targets.{element_kept}
 use Rattle.heap_graph.specs.Merging.{IsSound}
 use Rattle.heap_graph.proofs.MapsCompose.{at_there, target_in, mapped_there}
 use Rattle.call_groups.specs.Targets.{is_target}
-use Rattle.call_targets.specs.TargetLists.{AreTargets}
 use Rattle.graph_rows.proofs.Lists.{has_at, at_has}
 use Rattle.made_graphs.specs.Going.{GoesOn}
 use Rattle.made_graphs.proofs.Goes.{goes_same, goes_then}
@@ -27,6 +26,7 @@ use Rattle.outer_calls.proofs.Kept.{crossed_kept}
 use Rattle.group_crossings.specs.declared.before.Crossings.{Crossings}
 use Rattle.group_crossings.specs.Before.{GraphsBefore, graph_reached, nodes_reached, is_out}
 use Rattle.group_crossings.specs.Crossings.{CopiesStand, UsesCopies, EntriesStand, CallsCross}
+use Rattle.group_crossings.specs.Live.{AreLiveTargets}
 use Rattle.group_crossings.specs.CallSteps.{OwnStands, HasEntry, TargetCrosses, TargetsCross, PointCrosses, IsOfEntry, EntriesStay, Crosses, OwnerCrosses}
 
 abbrev pub Wanted : Type 1
@@ -119,12 +119,12 @@ module _ (before : GraphsBefore) (made : AreMade (structs_in before.tac.types)) 
     target_back site arguments called own after graph other stay here its = λ out. uses_back owner site arguments called own after graph other stay (here out) (its out)
 
     pub point_kept : (op : Op) → Keeps structs (PointCrosses before group owner op)
-    point_kept op own after old new stay sound goes its = λ site callee arguments called same target out.
-        uses_kept owner site arguments called own after old new stay sound goes (its site callee arguments called same target out)
+    point_kept op own after old new stay sound goes its = λ site callee arguments called same target out live.
+        uses_kept owner site arguments called own after old new stay sound goes (its site callee arguments called same target out live)
 
     pub point_back : (op : Op) → Backs (PointCrosses before group owner op)
-    point_back op own after graph other stay here its = λ site callee arguments called same target out.
-        uses_back owner site arguments called own after graph other stay (here site callee arguments called same target out) (its site callee arguments called same target out)
+    point_back op own after graph other stay here its = λ site callee arguments called same target out live.
+        uses_back owner site arguments called own after graph other stay (here site callee arguments called same target out live) (its site callee arguments called same target out live)
 
     pub calls_kept : (own : Crossings) (old new : Graph) → IsSound structs old → GoesOn structs old new → CallsCross before group owner own old → CallsCross before group owner own new
     calls_kept own old new sound goes its = λ function at op is point. point_kept op own own old new (entries_same own) sound goes (its function at op is point)
@@ -223,20 +223,20 @@ module _ (before : GraphsBefore) (made : AreMade (structs_in before.tac.types)) 
         below there.0 (omega (arith, less, long)) called there.1)
         its
 
-    pub call_done : (site : ℕ) (callee : Callee) (arguments : List Register) (targets : List ℕ) → AreTargets (tac_of before.tac) callee targets → (own after : Crossings) (old new : Graph)
+    pub call_done : (site : ℕ) (callee : Callee) (arguments : List Register) (targets : List ℕ) → AreLiveTargets before callee targets → (own after : Crossings) (old new : Graph)
         → Crosses before group owner (TargetsCross before group owner site arguments targets) own after old new → Crosses before group owner (PointCrosses before group owner (O.Call site callee arguments)) own after old new
     call_done site callee arguments targets are own after old new its =
         crosses_for (TargetsCross before group owner site arguments targets) (PointCrosses before group owner (O.Call site callee arguments))
-        (λ own' g wanted called has out. wanted site callee arguments called refl ((are.each called).0 has) out) own after old new
-        (λ all site' callee' arguments' called same target out.
+        (λ own' g wanted called has out. let its = (are.each called).0 has in wanted site callee arguments called refl its.0 out its.1) own after old new
+        (λ all site' callee' arguments' called same target out live.
         let parts = same_call site site' callee callee' arguments arguments' same in
-        let uses = all called ((are.each called).1 (subst (λ (c : Callee). is_target (tac_of before.tac) c called ≡ true) (sym parts.1) target)) out in
+        let uses = all called ((are.each called).1 (subst (λ (c : Callee). is_target (tac_of before.tac) c called ≡ true) (sym parts.1) target, live)) out in
         subst (λ s. UsesCopies before owner s arguments' called after new) parts.0 (subst (λ l. UsesCopies before owner site l called after new) parts.2 uses))
         its
 
     -- points that are no calls ask nothing
     pub no_call_crosses : (op : Op) → ((site : ℕ) (callee : Callee) (arguments : List Register) → op ≡ O.Call site callee arguments → ⊥) → (own : Crossings) (graph : Graph) → PointCrosses before group owner op own graph
-    no_call_crosses op none own graph = λ site callee arguments called same target out. absurd (none site callee arguments same)
+    no_call_crosses op none own graph = λ site callee arguments called same target out live. absurd (none site callee arguments same)
 
     pub points_done : (function : Function) → function_of (tac_of before.tac) owner ≡ Some function → (own after : Crossings) (old new : Graph) (count : ℕ) → length function.points ≤ count
         → Crosses before group owner (Below (AtEach (PointCrosses before group owner) function.points) count) own after old new → Crosses before group owner (CallsCross before group owner) own after old new

@@ -23,6 +23,7 @@ use Rattle.function_groups.specs.declared.group_lists.Groups.{Groups}
 use Rattle.call_copies.specs.Adding.{HaveSlots, AreClosed}
 use Rattle.inner_calls.specs.Members.{is_numbered}
 use Rattle.group_crossings.specs.declared.before.Before.{Before}
+use Rattle.group_crossings.specs.declared.live.LiveTargets.{LiveTargets}
 
 -- ---- what was made of the groups before
 
@@ -32,6 +33,7 @@ pub record GraphsBefore : Type 0 where
   pub graphs : List FrozenGraph
   pub functions : List FunctionGraph
   pub escaping : List (List ℕ)
+  pub live : LiveTargets
 
 abbrev pub rows_of : {A : Type 0} → List (Vec ℕ A) → List (List ℕ)
 rows_of = map vec_items
@@ -43,7 +45,25 @@ graphs_before before = record {
   graphs = before.graphs.now;
   functions = before.functions.now;
   escaping = rows_of before.escaping.now;
+  live = before.live.now;
 }
+
+-- a list has a number
+abbrev pub has_numbers : List ℕ → Bool
+has_numbers [] = false
+has_numbers (first ∷ numbers) = true
+
+abbrev pub is_some_list : Option (List ℕ) → Bool
+is_some_list None = false
+is_some_list (Some numbers) = has_numbers numbers
+
+-- the list of this number has one
+abbrev pub is_listed : List (List ℕ) → ℕ → Bool
+is_listed lists number = is_some_list (slice_get lists number)
+
+-- something escapes the function, as far as it is one of a group before
+abbrev pub is_live : GraphsBefore → ℕ → Bool
+is_live before called = is_listed before.escaping called
 
 -- ---- one function
 

@@ -25,7 +25,8 @@ use Rattle.group_freezing.specs.Copies.{TellsCopies}
 use Rattle.outer_calls.specs.Crossed.{IsCrossed}
 use Rattle.group_crossings.specs.declared.before.Before.{Before}
 use Rattle.group_crossings.specs.declared.before.Crossings.{Crossings}
-use Rattle.group_crossings.specs.Before.{GraphsBefore, IsReached, graph_reached, nodes_reached, is_out}
+use Rattle.group_crossings.specs.Before.{GraphsBefore, IsReached, rows_of, graph_reached, nodes_reached, is_live, is_out}
+use Rattle.group_crossings.specs.Live.{AreLive}
 
 -- the functions of which the owners are numbers; none is `start`
 abbrev pub owners_in : List (Option FunctionId) → List Owner
@@ -47,6 +48,7 @@ pub record IsKnown (before : Before) : Type 0 where
   pub code : CodeStands (tac_of before.tac.now)
   pub literals : LiteralsStand before.tac.now.types before.tac.now.literals.items
   pub groups : IsOf before.tac.now before.groups.now
+  pub live : AreLive before.tac.now (rows_of before.escaping.now) before.live.now
 
 -- ---- one call, to one function
 
@@ -58,7 +60,7 @@ pub record CopiesStand (before : GraphsBefore) (called : ℕ) (copies : Copies) 
   pub numbered : AreNumbered (nodes_reached before called reached) reached.numbers (numbers_in copies) first next
   pub copied : AreCopied (structs_in before.tac.types) graph (nodes_reached before called reached) (numbers_in copies)
 
--- a point of the owner calls it, and it is outside the group
+-- a point of the owner calls it, it is outside the group, and something escapes it
 pub record IsCalledFrom (before : GraphsBefore) (group : Option ℕ) (owner : Owner) (site called : ℕ) : Type 0 where
   pub function : Function
   pub is : function_of (tac_of before.tac) owner ≡ Some function
@@ -68,6 +70,7 @@ pub record IsCalledFrom (before : GraphsBefore) (group : Option ℕ) (owner : Ow
   pub call : slice_get function.points at ≡ Some (O.Call site callee arguments)
   pub target : is_target (tac_of before.tac) callee called ≡ true
   pub out : is_out before.groups group called ≡ true
+  pub live : is_live before called ≡ true
 
 -- the copies at a call
 abbrev pub copies_at : Crossings → ℕ → ℕ → Option Copies
@@ -86,11 +89,11 @@ abbrev pub EntriesStand : GraphsBefore → Option ℕ → Owner → Crossings �
 EntriesStand before group owner own graph =
     (site called : ℕ) (copies : Copies) → copies_at own site called ≡ Some copies → CopiesStand before called copies graph × IsCalledFrom before group owner site called
 
--- so does each call of an op to a function outside the group
+-- so does each call of an op to a function outside the group from which something escapes
 abbrev pub OpCrosses : GraphsBefore → Option ℕ → Owner → Crossings → Graph → Op → Type 0
 OpCrosses before group owner own graph op =
     (site : ℕ) (callee : Callee) (arguments : List Register) (called : ℕ) → op ≡ O.Call site callee arguments → is_target (tac_of before.tac) callee called ≡ true
-    → is_out before.groups group called ≡ true → UsesCopies before owner site arguments called own graph
+    → is_out before.groups group called ≡ true → is_live before called ≡ true → UsesCopies before owner site arguments called own graph
 
 abbrev pub CallsCross : GraphsBefore → Option ℕ → Owner → Crossings → Graph → Type 0
 CallsCross before group owner own graph =
@@ -121,7 +124,8 @@ pub record IsOneCall (all : List Crossings) (number : ℕ) (a b : IsOfCall all n
 abbrev pub NumbersApart : List Crossings → Type 0
 NumbersApart all = (number : ℕ) (a b : IsOfCall all number) → IsOneCall all number a b
 
--- The owners' calls out of the group have copies, by the places of the owners, and use them. All copies are those of such calls.
+-- The owners' calls out of the group have copies, by the places of the owners, and use them, where something escapes what is called. All
+-- copies are those of such calls.
 pub record AreCrossed (before : GraphsBefore) (group : Option ℕ) (owners : List (Option FunctionId)) (all : List Crossings) (graph : Graph) : Type 0 where
   pub size : length all ≡ length owners
   pub entries : (place : ℕ) (owner : Option FunctionId) (own : Crossings) → slice_get owners place ≡ Some owner → slice_get all place ≡ Some own → EntriesStand before group (owner_of owner) own graph

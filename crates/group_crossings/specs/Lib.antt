@@ -1,3 +1,5 @@
 pub mod Before
+pub mod Live
 pub mod Crossings
 pub mod CallSteps
+pub mod Asking

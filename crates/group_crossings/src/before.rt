@@ -1,5 +1,6 @@
 // The graphs of the groups before.
 
+use crate::live::LiveTargets;
 use call_copies::Copies;
 use frozen_graphs::FrozenGraph;
 use function_groups::Groups;
@@ -8,7 +9,7 @@ use program_graphs::{Crossing, FunctionGraph};
 use tac_ir::Tac;
 
 /// The graphs of the groups so far, by the numbers of the groups; what they tell of functions, and which nodes escape each function, by the
-/// numbers of the functions.
+/// numbers of the functions. Where nothing escapes a function, a call to it needs no copies.
 #[derive(Clone, Copy)]
 pub struct Before<'a> {
     pub tac: &'a Tac,
@@ -16,6 +17,7 @@ pub struct Before<'a> {
     pub graphs: &'a [FrozenGraph],
     pub functions: &'a [FunctionGraph],
     pub escaping: &'a [Vec<usize>],
+    pub live: &'a LiveTargets,
 }
 
 /// The copies at the calls that one function makes to functions of other groups.

@@ -121,7 +121,7 @@ impl<'a> Before<'a> {
                 callee,
                 arguments,
             } => {
-                let targets = self.groups.classes.targets(alloc, self.tac, *callee)?;
+                let targets = self.live_targets(alloc, *callee)?;
                 self.cross_targets(alloc, graph, own, caller, *site, arguments, &targets)
             }
             _ => Ok(()),

@@ -7,7 +7,9 @@
 mod before;
 mod crossing;
 mod freezing;
+mod live;
 mod telling;
 
 pub use before::{Before, Crossings};
 pub use freezing::frozen_crossings;
+pub use live::LiveTargets;

@@ -7,8 +7,9 @@ ghost use Rattle.graph_memory.specs.Memory.{graph_in, IsGraph};
 ghost use Rattle.made_graphs.specs.Going.{GoesOn};
 ghost use Rattle.call_copies.specs.declared.copies.Copies as memory_copies;
 ghost use Rattle.call_copies.specs.Copied.{numbers_in};
-ghost use Rattle.call_copies.specs.Telling.{CopiesTold, ArraysTold};
+ghost use Rattle.call_copies.specs.Telling.{CopiesTold, ArraysTold, AsksCopy, OnlyAsked};
 ghost use Rattle.group_crossings.specs.Before.{graphs_before, IsReached, nodes_reached};
+ghost use Rattle.group_crossings.specs.Asking.{AsksOwn, AsksCall};
 ghost use Rattle.group_crossings.specs.Crossings.{copies_at, EachStands, AllCopiesTold};
 
 use crate::before::{Before, Crossings};
@@ -25,6 +26,7 @@ impl<'a> Before<'a> {
         ensures goes { GoesOn (structs_in self.entry.tac.now.types) (graph_in self.entry.tac.now.types graph.old) (graph_in self.entry.tac.now.types graph.new) }
         ensures arrays { ArraysTold (graph_in self.entry.tac.now.types graph.old) (graph_in self.entry.tac.now.types graph.new) }
         ensures told { AllCopiesTold (graphs_before self.entry) all.now (graph_in self.entry.tac.now.types graph.new) }
+        ensures only { OnlyAsked (AsksCall (graphs_before self.entry) all.now (graph_in self.entry.tac.now.types graph.old)) (graph_in self.entry.tac.now.types graph.old) (graph_in self.entry.tac.now.types graph.new) }
     {
         for own in all {
             self.tell_own(graph, own);
@@ -41,6 +43,7 @@ impl<'a> Before<'a> {
         ensures arrays { ArraysTold (graph_in self.entry.tac.now.types graph.old) (graph_in self.entry.tac.now.types graph.new) }
         ensures told { (site called : ℕ) (copies : memory_copies.Copies) → copies_at own.now site called ≡ Some copies → (reached : IsReached (graphs_before self.entry) called)
             → CopiesTold (graph_in self.entry.tac.now.types graph.new) (nodes_reached (graphs_before self.entry) called reached) (numbers_in copies) }
+        ensures only { OnlyAsked (AsksOwn (graphs_before self.entry) own.now (graph_in self.entry.tac.now.types graph.old)) (graph_in self.entry.tac.now.types graph.old) (graph_in self.entry.tac.now.types graph.new) }
     {
         for (crossing, copies) in own.copies.iter() {
             self.tell_one(graph, crossing.called, copies);
@@ -57,6 +60,8 @@ impl<'a> Before<'a> {
         ensures arrays { ArraysTold (graph_in self.entry.tac.now.types graph.old) (graph_in self.entry.tac.now.types graph.new) }
         ensures told { (reached : IsReached (graphs_before self.entry) called)
             → CopiesTold (graph_in self.entry.tac.now.types graph.new) (nodes_reached (graphs_before self.entry) called reached) (numbers_in copies.now) }
+        ensures only { (reached : IsReached (graphs_before self.entry) called)
+            → OnlyAsked (AsksCopy (graph_in self.entry.tac.now.types graph.old) (nodes_reached (graphs_before self.entry) called reached) (numbers_in copies.now)) (graph_in self.entry.tac.now.types graph.old) (graph_in self.entry.tac.now.types graph.new) }
     {
         let callee = self.graph_of(called);
         tell_copies(graph, &self.tac.types, callee, copies);

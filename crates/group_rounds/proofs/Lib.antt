@@ -3,3 +3,4 @@ pub mod Grown
 pub mod GrownPoints
 pub mod SizeSteps
 pub mod Closing
+pub mod ArraySteps

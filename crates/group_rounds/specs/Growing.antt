@@ -1,6 +1,6 @@
 -- Graphs in which flags are set and nothing else is changed.
-use Rattle.std.specs.Prelude.{◌≡◌, ℕ, true, Some, None}
-use Rattle.heap_graph.specs.Graphs.{Flags, Node, Name, Graph, node_at}
+use Rattle.std.specs.Prelude.{◌≡◌, ◌⊎◌, ℕ, true, Some, None}
+use Rattle.heap_graph.specs.Graphs.{Element, Flags, Node, Name, Graph, node_at}
 
 -- what was told of objects is told still, and the same nodes are certain
 pub record FlagsGrow (old new : Flags) : Type 0 where
@@ -27,3 +27,14 @@ pub record OnlyFlagsGrow (old new : Graph) : Type 0 where
   pub names : (name : Name) → new.targets name ≡ old.targets name
   pub nodes : (number : ℕ) (node : Node) → node_at old number ≡ Some node → IsGrown new number node
   pub none : (number : ℕ) → node_at old number ≡ None → node_at new number ≡ None
+
+-- ---- arrays
+
+-- a node as it was, but that it may be of an array now, where that is asked
+pub record GetsArray (asked : Type 0) (old new : Node) : Type 0 where
+  pub same : new ≡ record old { flags = record old.flags { array = new.flags.array } }
+  pub only : new.flags.array ≡ true → (old.flags.array ≡ true) ⊎ asked
+
+-- nodes are of arrays only where they were or that is asked of them; nothing else is told
+abbrev pub OnlyArrays : (ℕ → Element → Type 0) → Graph → Graph → Type 0
+OnlyArrays asked old new = (number : ℕ) (a b : Node) → node_at old number ≡ Some a → node_at new number ≡ Some b → GetsArray (asked number a.element) a b

@@ -1,13 +1,15 @@
 -- What is told of allocations at the end.
-use Rattle.std.specs.Prelude.{◌≡◌, ℤ, Bool, true, false, ◌||◌, List, Option, Some, None, pos}
+use Rattle.std.specs.Prelude.{◌≡◌, ℕ, ℤ, Bool, true, false, ◌||◌, List, slice_get, Option, Some, None, pos}
 use Rattle.std.specs.List.{AllByRecursion}
 use Rattle.std.specs.Ordering.{int_eq}
 use Rattle.c_typed.specs.Layouts.{StructDef}
+use Rattle.tac_ir.specs.declared.register.Register.TheVariants as R
+use Rattle.tac_ir.specs.Code as O
 use Rattle.tac_ir.specs.Code.{Tree, Op, Tac}
 use Rattle.tac_ir.specs.Layouts.{size_of}
 use Rattle.tac_ir.specs.States.{Owner}
 use Rattle.tac_ir.specs.Trees.{no_registers, computes}
-use Rattle.heap_graph.specs.Graphs.{Element, OfType, Name, Graph}
+use Rattle.heap_graph.specs.Graphs.{Target, Element, OfType, Name, OfRegister, Graph}
 use Rattle.heap_graph.specs.Targets.{at_target}
 use Rattle.point_asks.specs.Asks.{sizes_told}
 use Rattle.group_rounds.specs.Rounds.{points_at}
@@ -33,6 +35,36 @@ AllSizesTold tac owner ops graph = AllByRecursion (λ op. sizes_told tac graph o
 -- and of these functions'
 abbrev pub SizesTold : Tac → List Owner → Graph → Type 0
 SizesTold tac owners graph = AllByRecursion (λ owner. AllSizesTold tac owner (points_at tac owner) graph) owners
+
+-- ---- where a size asks for an array
+
+-- a name's node is the one of this number, and the size isn't that of one object of this element
+pub record AsksSize (structs : List StructDef) (name : Name) (size : Tree) (graph : Graph) (number : ℕ) (element : Element) : Type 0 where
+  pub target : Target
+  pub is : graph.targets name ≡ Some target
+  pub node : target.node ≡ number
+  pub differs : is_size_of structs size element ≡ false
+
+-- so does the size of an allocation
+pub record AsksOp (tac : Tac) (owner : Owner) (op : Op) (graph : Graph) (number : ℕ) (element : Element) : Type 0 where
+  pub site : ℕ
+  pub size : Tree
+  pub is : op ≡ O.Allocate site size
+  pub asks : AsksSize tac.structs (OfRegister owner (R.Call site)) size graph number element
+
+-- one of these points does
+pub record AsksPoint (tac : Tac) (owner : Owner) (ops : List Op) (graph : Graph) (number : ℕ) (element : Element) : Type 0 where
+  pub at : ℕ
+  pub op : Op
+  pub point : slice_get ops at ≡ Some op
+  pub asks : AsksOp tac owner op graph number element
+
+-- a point of one of these functions does
+pub record AsksOwner (tac : Tac) (owners : List Owner) (graph : Graph) (number : ℕ) (element : Element) : Type 0 where
+  pub place : ℕ
+  pub owner : Owner
+  pub there : slice_get owners place ≡ Some owner
+  pub asks : AsksPoint tac owner (points_at tac owner) graph number element
 
 -- ---- one after the other
 

@@ -11,8 +11,8 @@ ghost use Rattle.graph_memory.specs.Memory.{name_of, graph_in, IsGraph};
 ghost use Rattle.made_graphs.specs.Going.{GoesOn};
 ghost use Rattle.point_asks.specs.Asks.{sizes_told};
 ghost use Rattle.group_rounds.specs.Rounds.{owners_of, Settled};
-ghost use Rattle.group_rounds.specs.Growing.{OnlyFlagsGrow};
-ghost use Rattle.group_rounds.specs.Sizes.{SizeIsTold, AllSizesTold, SizesTold};
+ghost use Rattle.group_rounds.specs.Growing.{OnlyFlagsGrow, OnlyArrays};
+ghost use Rattle.group_rounds.specs.Sizes.{SizeIsTold, AllSizesTold, SizesTold, AsksSize, AsksOp, AsksPoint, AsksOwner};
 
 use crate::code::points_of;
 use c_typed::TypeTable;
@@ -32,6 +32,7 @@ pub fn tell_sizes(tac: &Tac, scopes: &[Scope], graph: &mut Graph)
     ensures grows { OnlyFlagsGrow (graph_in tac.now.types graph.old) (graph_in tac.now.types graph.new) }
     ensures settled { Settled (tac_of tac.now) (owners_of scopes.now) (graph_in tac.now.types graph.new) }
     ensures told { SizesTold (tac_of tac.now) (owners_of scopes.now) (graph_in tac.now.types graph.new) }
+    ensures arrays { OnlyArrays (AsksOwner (tac_of tac.now) (owners_of scopes.now) (graph_in tac.now.types graph.old)) (graph_in tac.now.types graph.old) (graph_in tac.now.types graph.new) }
 {
     for scope in scopes {
         tell_all(tac, scope.owner, points_of(tac, scope.owner), graph);
@@ -46,6 +47,7 @@ fn tell_all(tac: &Tac, owner: Option<FunctionId>, points: &[Op], graph: &mut Gra
     ensures goes { GoesOn (structs_in tac.now.types) (graph_in tac.now.types graph.old) (graph_in tac.now.types graph.new) }
     ensures grows { OnlyFlagsGrow (graph_in tac.now.types graph.old) (graph_in tac.now.types graph.new) }
     ensures told { AllSizesTold (tac_of tac.now) (owner_at owner) (map (op_in tac.now.types) points.now) (graph_in tac.now.types graph.new) }
+    ensures arrays { OnlyArrays (AsksPoint (tac_of tac.now) (owner_at owner) (map (op_in tac.now.types) points.now) (graph_in tac.now.types graph.old)) (graph_in tac.now.types graph.old) (graph_in tac.now.types graph.new) }
 {
     for op in points {
         tell_point(tac, owner, op, graph);
@@ -60,6 +62,7 @@ fn tell_point(tac: &Tac, owner: Option<FunctionId>, op: &Op, graph: &mut Graph)
     ensures goes { GoesOn (structs_in tac.now.types) (graph_in tac.now.types graph.old) (graph_in tac.now.types graph.new) }
     ensures grows { OnlyFlagsGrow (graph_in tac.now.types graph.old) (graph_in tac.now.types graph.new) }
     ensures told { sizes_told (tac_of tac.now) (graph_in tac.now.types graph.new) (owner_at owner) (op_in tac.now.types op.now) ≡ true }
+    ensures arrays { OnlyArrays (AsksOp (tac_of tac.now) (owner_at owner) (op_in tac.now.types op.now) (graph_in tac.now.types graph.old)) (graph_in tac.now.types graph.old) (graph_in tac.now.types graph.new) }
 {
     match op {
         Op::Allocate { site, size } => {
@@ -81,6 +84,7 @@ fn tell_size(types: &TypeTable, name: Name, size: &Tree, graph: &mut Graph)
     ensures goes { GoesOn (structs_in types.now) (graph_in types.now graph.old) (graph_in types.now graph.new) }
     ensures grows { OnlyFlagsGrow (graph_in types.now graph.old) (graph_in types.now graph.new) }
     ensures told { SizeIsTold (structs_in types.now) (name_of name) (tree_of size.now) (graph_in types.now graph.new) }
+    ensures arrays { OnlyArrays (AsksSize (structs_in types.now) (name_of name) (tree_of size.now) (graph_in types.now graph.old)) (graph_in types.now graph.old) (graph_in types.now graph.new) }
 {
     let Some(target) = graph.target(name) else {
         return;

@@ -1,22 +1,24 @@
 -- With each group that gets its graph one group more is mapped to each other closed family.
-use Rattle.std.proofs.Common.{◌≡◌, ℕ, suc, ◌==◌, ◌⊎◌, inl, inr, Bool, true, false, cond, List, [], ◌∷◌, map, Option, Some, refl, sym, ap, subst, ◌∙◌, arith, eq-eqb}
+use Rattle.std.proofs.Common.{◌≡◌, ℕ, suc, ◌<◌, ◌==◌, ◌⊎◌, inl, inr, Bool, true, false, cond, List, [], ◌∷◌, map, Option, Some, refl, sym, ap, subst, ◌∙◌, arith, eq-eqb}
 use Rattle.std.specs.Prelude.{slice_get, option_map}
 use Rattle.std.proofs.lemmas.Option.{same_Some, slice_get-map, slice_get_within}
 use Rattle.std.proofs.lemmas.Bool.{false≢true, cond-true, cond-false, cases_eq, ne_eqb}
 use Rattle.tac_ir.specs.declared.register.FunctionId.{FunctionId}
-use Rattle.tac_ir.specs.States.{Owner, InStart, InFunction}
+use Rattle.tac_ir.specs.Code.{Function}
+use Rattle.tac_ir.specs.States.{Owner, InStart, InFunction, function_of}
 use Rattle.tac_ir.specs.Views.{tac_of}
 use Rattle.call_targets.specs.ClassLists.{numbers_of}
 use Rattle.heap_graph.specs.Graphs.{Graph, ProgramGraphs}
 use Rattle.heap_graph.specs.Merging.{GraphMap, Maps}
 use Rattle.heap_graph.specs.Steps.{unmoved}
 use Rattle.heap_graph.specs.Least.{embedded}
-use Rattle.heap_graph.specs.Closed.{Family, graph_of, group_of, group_from, is_in, of_group, or_no_graph, same_group, crossing, GraphClosed, Closed}
+use Rattle.heap_graph.specs.Closed.{Family, graph_of, group_of, group_from, is_in, of_group, or_no_graph, same_group, crossing, FunctionClosed, GraphClosed}
 use Rattle.graph_memory.specs.Memory.{owner_of}
 use Rattle.frozen_graphs.specs.declared.frozen.FrozenGraph.{FrozenGraph}
 use Rattle.program_graphs.specs.declared.program.FunctionGraph.{FunctionGraph}
 use Rattle.program_graphs.specs.declared.program.ProgramGraphs as memory_graphs
 use Rattle.program_graphs.proofs.GroupNumbers.{is_then_in, own_number, in_own_at}
+use Rattle.closed_graphs.specs.Faults.{GroupClosed}
 use Rattle.point_asks.specs.Completed.{completed}
 use Rattle.point_asks.proofs.CompletedGraph.{closed_has_nodes}
 use Rattle.function_groups.specs.GroupViews.{groups_of}
@@ -24,9 +26,9 @@ use Rattle.reached_nodes.specs.Complete.{numbers}
 use Rattle.group_begins.specs.Mentioned.{is_among}
 use Rattle.group_begins.specs.Told.{NoCopies}
 use Rattle.group_begins.proofs.Completing.{closed_fits}
-use Rattle.inner_calls.proofs.Completing.{classes_completed, calls_completed}
 use Rattle.group_freezing.proofs.ShownKept.{owners_are}
 use Rattle.dsa_local.specs.Local.{LeadsJoined}
+use Rattle.group_crossings.specs.declared.live.LiveTargets.{LiveTargets}
 use Rattle.group_crossings.specs.Before.{GraphsBefore, is_inside, is_out}
 use Rattle.group_crossings.specs.Crossings.{owners_in}
 use Rattle.assembled_groups.specs.Assembled.{kept_graph, IsAssembled}
@@ -37,9 +39,13 @@ use Rattle.assembled_groups.proofs.Members.{listed_inside, inside_is, inside_wit
 use Rattle.assembled_groups.proofs.Growing.{begins_before, begins_graph, begins_own}
 use Rattle.assembled_groups.proofs.Closing.{HasGroup, member_at, owner_shown}
 use Rattle.assembled_groups.proofs.Whole.{member_owner}
-use Rattle.least_graphs.specs.Mapping.{GroupMaps, EmbeddingsKept, MapsOwner, MapsBelow}
-use Rattle.least_graphs.specs.Making.{other_at, IsFullFamily, AreLeast}
-use Rattle.least_graphs.proofs.OneGroup.{function_closed, group_mapped}
+use Rattle.least_graphs.specs.Mapping.{GroupMaps, EmbeddingsKept, MapsOwner, MapsBelow, KeepsCertain, FlagsBelow}
+use Rattle.least_graphs.specs.Making.{other_at, AreLeast}
+use Rattle.least_graphs.specs.Below.{ClosedBelow}
+use Rattle.least_graphs.proofs.Below.{closed_less}
+use Rattle.least_graphs.proofs.InnerCalls.{classes_below, calls_below}
+use Rattle.least_graphs.proofs.FullFlags.{full_keeps}
+use Rattle.least_graphs.proofs.OneGroup.{group_kept, group_mapped}
 
 -- ---- maps of groups
 
@@ -81,8 +87,8 @@ module _ (before : GraphsBefore) (start : (tac_of before.tac).start.parameters �
     (row : slice_get (groups_of before.groups) number ≡ Some (numbers_of (first ∷ others))) (begun : Graph) (graph : FrozenGraph) (functions : List FunctionGraph)
     (assembled : IsAssembled before (Some number) (map Some (first ∷ others)) begun graph functions)
     (leads : LeadsJoined (tac_of before.tac) (owners_in (map Some (first ∷ others))) (is_inside before.groups (Some number)) begun) (none : NoCopies begun) (all : memory_graphs.ProgramGraphs)
-    (begins : BeginsWith before number all) (has : HasGroup before number (first ∷ others) graph functions all) (graphs : ProgramGraphs) (closed : Closed (other_at before graphs)) (full : IsFullFamily (other_at before graphs))
-    (maps : GroupMaps) (below : MapsBelow (family_at before all) (other_at before graphs) number maps) where
+    (begins : BeginsWith before number all) (has : HasGroup before number (first ∷ others) graph functions all) (graphs : ProgramGraphs) (closed : ClosedBelow (other_at before graphs) (suc number))
+    (maps : GroupMaps) (below : MapsBelow (family_at before all) (other_at before graphs) number maps) (flags : FlagsBelow (family_at before all) (other_at before graphs) number maps) where
   abbrev members : List FunctionId
   members = first ∷ others
 
@@ -101,14 +107,14 @@ module _ (before : GraphsBefore) (start : (tac_of before.tac).start.parameters �
   abbrev inside : ℕ → Bool
   inside = is_inside before.groups (Some number)
 
-  first_in : is_in first.0 (numbers members) ≡ true
+  pub first_in : is_in first.0 (numbers members) ≡ true
   first_in = is_then_in first.0 (numbers members) (inl refl)
 
   -- an owner is a function of the group
   in_group : (function : ℕ) → is_among (InFunction function) (owners_in owners) ≡ true → is_in function (numbers members) ≡ true
   in_group function among = sym (among_is owners (InFunction function) ∙ owners_are members (InFunction function)) ∙ among
 
-  of_number : (function : ℕ) → is_in function (numbers members) ≡ true → group_from 0 (groups_of before.groups) function ≡ number
+  pub of_number : (function : ℕ) → is_in function (numbers members) ≡ true → group_from 0 (groups_of before.groups) function ≡ number
   of_number function is = own_number (tac_of before.tac) (groups_of before.groups) grouped.groups number function (numbers members) row is
 
   one_graph : (function : ℕ) → is_in function (numbers members) ≡ true → graph_of other (InFunction function) ≡ graph_of other one
@@ -120,37 +126,52 @@ module _ (before : GraphsBefore) (start : (tac_of before.tac).start.parameters �
   in_of : (function : ℕ) → inside function ≡ true → is_in function (numbers members) ≡ true
   in_of function is = sym (inside_is before.tac before.groups grouped number (numbers members) row function) ∙ is
 
-  same : (owner : Owner) → is_among owner (owners_in owners) ≡ true → graph_of other owner ≡ graph_of other one
+  pub same : (owner : Owner) → is_among owner (owners_in owners) ≡ true → graph_of other owner ≡ graph_of other one
   same InStart among = absurd (false≢true (sym (among_is owners InStart ∙ owners_are members InStart) ∙ among))
   same (InFunction function) among = one_graph function (in_group function among)
 
-  apart : (owner : Owner) → is_among owner (owners_in owners) ≡ true → (called : ℕ) → is_out before.groups (Some number) called ≡ true → same_group other owner called ≡ false
+  pub apart : (owner : Owner) → is_among owner (owners_in owners) ≡ true → (called : ℕ) → is_out before.groups (Some number) called ≡ true → same_group other owner called ≡ false
   apart InStart among called out = refl
   apart (InFunction function) among called out = out_apart before all grouped number function called (inside_of function (in_group function among)) out
 
-  its_closed : GraphClosed other (graph_of other one) (of_group (numbers members)) one
-  its_closed = closed.graphs number first.0 (numbers members) row first_in
+  group : GroupClosed other number
+  group = closed.groups number (omega arith)
+
+  pub its_closed : GraphClosed other (graph_of other one) (of_group (numbers members)) one
+  its_closed = group.graph first.0 (numbers members) row first_in
+
+  own_closed : (owner : Owner) (function : Function) → is_among owner (owners_in owners) ≡ true → function_of other.tac owner ≡ Some function → FunctionClosed other owner function
+  own_closed InStart function among is = absurd (false≢true (sym (among_is owners InStart ∙ owners_are members InStart) ∙ among))
+  own_closed (InFunction own) function among is = group.functions own function is (of_number own (in_group own among))
+
+  below_next : (function : ℕ) → inside function ≡ true → group_of other function < suc number
+  below_next function is = let same = of_number function (in_of function is) in omega (arith, same)
 
   begin : (some : ℕ) → (map : GraphMap) × Maps (tac_of before.tac).structs begun (completed some (graph_of other one)) map
   begin some =
       leads (completed some (graph_of other one))
       (closed_fits other (owners_in owners) one (of_group (numbers members)) some start its_closed
-      (λ owner function among is. record { closed = function_closed other closed owner function is; graph = same owner among }))
-      (classes_completed some other closed inside (graph_of other one) (λ function is. one_graph function (in_of function is)))
-      (calls_completed some other closed inside (graph_of other one) (closed_has_nodes other (graph_of other one) (of_group (numbers members)) one its_closed) (λ function is. one_graph function (in_of function is))
+      (λ owner function among is. record { closed = own_closed owner function among is; graph = same owner among }))
+      (classes_below some other (suc number) closed inside (graph_of other one) (λ function is. one_graph function (in_of function is)) below_next)
+      (calls_below some other inside (λ caller function inside is. group.functions caller function is (of_number caller (in_of caller inside))) (graph_of other one) (closed_has_nodes other (graph_of other one) (of_group (numbers members)) one its_closed) (λ function is. one_graph function (in_of function is))
       (λ function is. inside_within before.tac before.groups grouped number function is) (λ a b is also. inside_same before all grouped number a b is also))
 
-  shows : ShowsOwners all owners functions
+  pub shows : ShowsOwners all owners functions
   shows place owner at =
       let its = member_owner members place owner at in
       subst (λ o. function_in all (owner_of o) ≡ slice_get functions place) (sym its.2) (has.own place its.0 its.1)
 
-  kept_shown : (owner : Owner) → is_among owner (owners_in owners) ≡ true → graph_of family owner ≡ kept_graph before owners graph functions
+  pub kept_shown : (owner : Owner) → is_among owner (owners_in owners) ≡ true → graph_of family owner ≡ kept_graph before owners graph functions
   kept_shown = owner_shown before number members graph functions all grouped has
+
+  -- what was told of its objects once types were final is told there
+  pub group_told : (new : GraphMap) × ((place : ℕ) (owner : Option FunctionId) → slice_get (map Some (first ∷ others)) place ≡ Some owner → MapsOwner (family_at before all) (other_at before graphs) number maps (owner_of owner) new)
+      × KeepsCertain assembled.typed (graph_of (other_at before graphs) (InFunction first.0)) new
+  group_told = group_kept before grouped number making all begins graphs maps below (Some number) owners begun graph functions assembled one same apart own_closed (of_group (numbers members)) its_closed flags none begin shows kept_shown
 
   pub group_added : (new : GroupMaps) × MapsBelow (family_at before all) (other_at before graphs) (suc number) new
   group_added =
-      let its = group_mapped before grouped number making all begins graphs closed maps below (Some number) owners begun graph functions assembled one same apart (of_group (numbers members)) its_closed (full one) none begin shows kept_shown in (
+      let its = group_mapped before grouped number making all begins graphs maps below (Some number) owners begun graph functions assembled one same apart own_closed (of_group (numbers members)) its_closed flags none begin shows kept_shown in (
         with_map number its.0 maps,
         below_more family other number its.0 maps below (λ function is. by its.0 its.1 function (member_at members function (listed function is))),
       )
@@ -182,18 +203,18 @@ pub record IsBegun (before : GraphsBefore) (group : Option ℕ) (owners : List (
   pub leads : LeadsJoined (tac_of before.tac) (owners_in owners) (is_inside before.groups group) begun
   pub copies : NoCopies begun
 
-abbrev with_lists : GraphsBefore → List FrozenGraph → List FunctionGraph → List (List ℕ) → GraphsBefore
-with_lists before graphs functions escaping = record { tac = before.tac; groups = before.groups; graphs = graphs; functions = functions; escaping = escaping }
+abbrev with_lists : GraphsBefore → List FrozenGraph → List FunctionGraph → List (List ℕ) → LiveTargets → GraphsBefore
+with_lists before graphs functions escaping live = record { tac = before.tac; groups = before.groups; graphs = graphs; functions = functions; escaping = escaping; live = live }
 
 module _ (before : GraphsBefore) (start : (tac_of before.tac).start.parameters ≡ 0) (grouped : IsGrouped before.tac before.groups) (number : ℕ) (making : IsMaking before number) (begun : Graph) (graph : FrozenGraph)
     (functions : List FunctionGraph) where
   grows : (members : List FunctionId) → slice_get (groups_of before.groups) number ≡ Some (numbers_of members) → IsAssembled before (Some number) (map Some members) begun graph functions
-      → IsBegun before (Some number) (map Some members) begun → AreLeast before number → (graphs : List FrozenGraph) (known : List FunctionGraph) (escaping : List (List ℕ))
-      → AddsGroup before (with_lists before graphs known escaping) members graph functions → AreLeast (with_lists before graphs known escaping) (suc number)
-  grows members row assembled begins_so least graphs known escaping adds all begins others closed full =
-      let after = with_lists before graphs known escaping in
+      → IsBegun before (Some number) (map Some members) begun → AreLeast before number → (graphs : List FrozenGraph) (known : List FunctionGraph) (escaping : List (List ℕ)) (live : LiveTargets)
+      → AddsGroup before (with_lists before graphs known escaping live) members graph functions → AreLeast (with_lists before graphs known escaping live) (suc number)
+  grows members row assembled begins_so least graphs known escaping live adds all begins others closed full =
+      let after = with_lists before graphs known escaping live in
       let earlier = begins_before before after number members graph functions grouped row making.graphs adds all begins in
-      let maps = least all earlier others closed full in
+      let maps = least all earlier others (closed_less (other_at before others) (suc number) number (omega arith) closed) full in
       by members row assembled begins_so (record {
         group = row;
         stored = begins_graph before after number members graph functions grouped row making.graphs adds all begins;
@@ -206,16 +227,17 @@ module _ (before : GraphsBefore) (start : (tac_of before.tac).start.parameters �
           → MapsBelow (family_at before all) (other_at before others) number maps → (new : GroupMaps) × MapsBelow (family_at before all) (other_at before others) (suc number) new
       by [] row assembled begins_so has earlier maps below = (with_map number unmoved maps, none_added before number all others maps row below)
       by (first ∷ rest) row assembled begins_so has earlier maps below =
-          group_added before start grouped number making first rest row begun graph functions assembled begins_so.leads begins_so.copies all earlier has others closed full maps below
+          group_added before start grouped number making first rest row begun graph functions assembled begins_so.leads begins_so.copies all earlier has others closed maps below
+          (full_keeps (family_at before all) (other_at before others) number maps full below)
 
   pub least_grows : (members : List FunctionId) → slice_get (groups_of before.groups) number ≡ Some (numbers_of members) → IsAssembled before (Some number) (map Some members) begun graph functions
       → IsBegun before (Some number) (map Some members) begun → (after : GraphsBefore) → AddsGroup before after members graph functions → AreLeast before number → AreLeast after (suc number)
   least_grows members row assembled begins_so after adds least =
       subst (λ made. AreLeast made (suc number)) (sym same)
-      (grows members row assembled begins_so least after.graphs after.functions after.escaping (subst (λ made. AddsGroup before made members graph functions) same adds))
+      (grows members row assembled begins_so least after.graphs after.functions after.escaping after.live (subst (λ made. AddsGroup before made members graph functions) same adds))
     where
-      same : after ≡ with_lists before after.graphs after.functions after.escaping
-      same = λ i. record { tac = adds.tac i; groups = adds.groups i; graphs = after.graphs; functions = after.functions; escaping = after.escaping }
+      same : after ≡ with_lists before after.graphs after.functions after.escaping after.live
+      same = λ i. record { tac = adds.tac i; groups = adds.groups i; graphs = after.graphs; functions = after.functions; escaping = after.escaping; live = after.live }
 
 -- no group has its graph yet
 pub least_begins : (before : GraphsBefore) → AreLeast before 0

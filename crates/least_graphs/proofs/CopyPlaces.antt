@@ -2,17 +2,17 @@
 use Rattle.std.proofs.Common.{◌≡◌, ℕ, ◌+◌, ◌==◌, Bool, true, false, cond, List, [], ◌∷◌, ◌++◌, Option, Some, refl, sym, ap, subst, ◌∙◌, arith, eqb-true}
 use Rattle.std.specs.Prelude.{◌&&◌}
 use Rattle.std.proofs.lemmas.Bool.{false≢true, and_parts, and_from}
-use Rattle.std.proofs.lemmas.Option.{none-some}
+use Rattle.std.proofs.lemmas.Option.{none-some, same_Some}
 use Rattle.tac_ir.specs.States.{Owner, InFunction}
 use Rattle.heap_graph.specs.Structures.{AreMade}
-use Rattle.heap_graph.specs.Graphs.{Target, Element, Missing, OfType, Collapsed, Edge, Node, Graph, OfCopy, Embedding, edge_in, node_at}
+use Rattle.heap_graph.specs.Graphs.{Target, Element, Missing, OfType, Collapsed, Flags, Edge, Node, Graph, OfCopy, Embedding, edge_in, node_at}
 use Rattle.heap_graph.specs.Targets.{same_target, is_collapsed, shifted, edge_at, implies, types_differ, flags_kept, marks_kept, element_kept}
 use Rattle.heap_graph.specs.Escaping.{Escapes}
 use Rattle.heap_graph.specs.Steps.{or_first, AreFound}
 use Rattle.heap_graph.specs.Closed as C
 use Rattle.heap_graph.specs.Closed.{Family, graph_of, crossing, is_slot, IsKept, IsEmbedding}
 use Rattle.heap_graph.specs.Merging.{GraphMap}
-use Rattle.heap_graph.proofs.MapsCompose.{at_there, at_from, shift_in, shifted_there, edge_there, element_trans, kept_collapsed, target_in}
+use Rattle.heap_graph.proofs.MapsCompose.{at_there, at_from, shift_in, shifted_there, edge_there, element_trans, flags_trans, kept_collapsed, target_in}
 use Rattle.point_asks.specs.Completed.{nothing_in, missing, completed_node, completed}
 use Rattle.point_asks.proofs.Certain.{same_eq}
 use Rattle.point_asks.proofs.CompletedGraph.{node_kept}
@@ -20,8 +20,7 @@ use Rattle.graph_names.specs.Adding.{NameFits}
 use Rattle.call_copies.specs.Copied.{named_copy, image, copied, EdgeCopied, EdgesCopied, AreCopied}
 use Rattle.call_copies.proofs.Carried.{copy_found}
 use Rattle.outer_calls.specs.Placed.{CopyPlaced}
-use Rattle.saturated_graphs.specs.Places.{IsFull}
-use Rattle.least_graphs.specs.Mapping.{MapsShape}
+use Rattle.least_graphs.specs.Mapping.{MapsShape, KeepsFlags}
 use Rattle.least_graphs.proofs.Reaching.{node_image, edge_image, EndsThere}
 
 -- ---- edges
@@ -60,6 +59,12 @@ shifts c true h r m t = refl
 shifts true false h r m t = absurd (false≢true (h refl))
 shifts false false h r m t = omega arith
 
+-- what is told of objects is told on the way
+flags_then : (a b c : Flags) → flags_kept a b ≡ true → flags_kept b c ≡ true → flags_kept a c ≡ true
+flags_then a b c first then =
+    (and_parts true (flags_kept a c)
+    (flags_trans (record a { certain = false }) (record b { certain = false }) c (and_from true (flags_kept a b) refl first) (and_from true (flags_kept b c) refl then))).1
+
 -- ---- places
 
 -- where the copy of a node is
@@ -86,6 +91,7 @@ module _ (family : Family) (made : AreMade family.tac.structs) (owner : Owner) (
     image : Node
     image_is : node_at own kept.at.node ≡ Some image
     then : element_kept family.tac.structs its.element image kept.at.shift ≡ true
+    marks : flags_kept its.flags image.flags ≡ true
     at : Target
     at_is : at ≡ record { node = kept.at.node; shift = shift_in image (kept.at.shift + (into number).shift) }
     place : place_of family owner site called into number ≡ at
@@ -98,6 +104,8 @@ module _ (family : Family) (made : AreMade family.tac.structs) (owner : Owner) (
       let here = at_there own kept.at (C.node_kept family owner there.node) kept.kept in
       let at : Target = record { node = kept.at.node; shift = shift_in here.node (kept.at.shift + (into number).shift) } in
       let shown : shifted own (into number).shift (embedding (into number).node) ≡ Some at = ap (shifted own (into number).shift) kept.is ∙ shifted_there own (into number).shift kept.at here.node here.is in
+      let parts = and_parts (element_kept family.tac.structs there.node.element here.node kept.at.shift)
+      (flags_kept there.node.flags here.node.flags && implies (there.node.flags.heap && types_differ there.node.element here.node.element) here.node.flags.array) here.so in
       record {
         its = there.node;
         its_is = there.is;
@@ -105,8 +113,8 @@ module _ (family : Family) (made : AreMade family.tac.structs) (owner : Owner) (
         kept = kept;
         image = here.node;
         image_is = here.is;
-        then = (and_parts (element_kept family.tac.structs there.node.element here.node kept.at.shift)
-            (flags_kept there.node.flags here.node.flags && implies (there.node.flags.heap && types_differ there.node.element here.node.element) here.node.flags.array) here.so).0;
+        then = parts.0;
+        marks = (and_parts (flags_kept there.node.flags here.node.flags) (implies (there.node.flags.heap && types_differ there.node.element here.node.element) here.node.flags.array) parts.1).0;
         at = at;
         at_is = refl;
         place = ap or_first shown;
@@ -143,7 +151,7 @@ module _ (family : Family) (made : AreMade family.tac.structs) (owner : Owner) (
 
   -- ---- the completed graph of the caller, in which copies have these places
 
-  module _ (bound : ℕ) (more whole : Graph) (nodes : more.nodes ≡ own.nodes) (whole_is : whole ≡ completed bound more) (full : IsFull whole) where
+  module _ (bound : ℕ) (more whole : Graph) (nodes : more.nodes ≡ own.nodes) (whole_is : whole ≡ completed bound more) (keeps : KeepsFlags callee theirs into) where
     abbrev nothing : Target
     nothing = nothing_in more
 
@@ -159,6 +167,8 @@ module _ (family : Family) (made : AreMade family.tac.structs) (owner : Owner) (
         let at : Target = record { node = p.kept.at.node; shift = shift_in p.image (p.kept.at.shift + (into number).shift) } in
         let here : Node = completed_node bound nothing p.image in
         let there : node_at whole at.node ≡ Some here = whole_node p.kept.at.node p.image p.image_is in
+        let kept = at_there theirs (into number) (λ image shift. flags_kept node.flags image.flags) (keeps number node is) in
+        let first : flags_kept node.flags p.its.flags ≡ true = ap (λ (n : Node). flags_kept node.flags n.flags) (same_Some p.its kept.node (sym p.its_is ∙ kept.is)) ∙ kept.so in
         record {
           target = at;
           is = target ∙ ap Some (p.place ∙ p.at_is);
@@ -166,7 +176,7 @@ module _ (family : Family) (made : AreMade family.tac.structs) (owner : Owner) (
           element = at_from whole at (element_kept family.tac.structs node.element) here there
               (element_trans family.tac.structs made node.element p.its.element p.image.element p.its.flags here.flags p.its.edges here.edges (into number).shift p.kept.at.shift p.element
               (whole_kept p.its.element p.image p.kept.at.shift p.then));
-          flags = at_from whole at (λ image shift. marks_kept (copied node).flags image.flags) here there (and_from true (flags_kept (copied node).flags here.flags) refl (full at.node here there (copied node).flags));
+          flags = at_from whole at (λ image shift. marks_kept (copied node).flags image.flags) here there (and_from true (flags_kept (copied node).flags here.flags) refl (flags_then node.flags p.its.flags p.image.flags first p.marks));
         }
       where
         whole_kept : (element : Element) (its : Node) (shift : ℕ) → element_kept family.tac.structs element its shift ≡ true → element_kept family.tac.structs element (completed_node bound nothing its) shift ≡ true

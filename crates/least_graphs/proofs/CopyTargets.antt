@@ -3,13 +3,9 @@ use Rattle.std.proofs.Common.{◌≡◌, ℕ, true, Option}
 use Rattle.heap_graph.specs.Graphs.{Target, Name, OfRegister, OfResult, OfObject, OfGlobal, OfLiteral, OfCopy, Graph}
 use Rattle.heap_graph.specs.Closed.{is_slot}
 use Rattle.point_asks.specs.Completed.{HasNodes}
-use Rattle.saturated_graphs.specs.Places.{IsFull}
 use Rattle.least_graphs.proofs.SamePoints.{with_copies}
 
 module _ (graph : Graph) (at : ℕ → Option Target) where
-  pub copies_full : IsFull graph → IsFull (with_copies graph at)
-  copies_full full = λ number node is few. full number node is few
-
   pub copies_sound : HasNodes graph → ((number : ℕ) → is_slot graph (at number) ≡ true) → HasNodes (with_copies graph at)
   copies_sound sound slots = record { names = by; edges = λ number node is. sound.edges number node is }
     where

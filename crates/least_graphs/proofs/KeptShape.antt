@@ -1,15 +1,18 @@
--- What is kept of a graph that was made is mapped where its certain nodes are.
+-- What is kept of a graph that was made is mapped where its certain nodes are; flags may have been set since.
 use Rattle.std.proofs.Common.{◌≡◌, ℕ, Bool, true, false, cond, List, Option, Some, None, refl, sym, ap, subst, ◌∙◌}
 use Rattle.std.proofs.lemmas.Option.{none-some}
 use Rattle.c_typed.specs.Layouts.{StructDef}
 use Rattle.tac_ir.specs.Code.{Tac}
 use Rattle.tac_ir.specs.States.{Owner}
-use Rattle.heap_graph.specs.Graphs.{Target, Name, OfRegister, OfResult, OfObject, OfGlobal, OfLiteral, OfCopy, Graph, edge_in}
+use Rattle.heap_graph.specs.Graphs.{Target, Name, OfRegister, OfResult, OfObject, OfGlobal, OfLiteral, OfCopy, Edge, Graph, edge_in}
 use Rattle.heap_graph.specs.Targets.{at_target, element_kept}
 use Rattle.heap_graph.specs.Merging.{GraphMap, mapped}
 use Rattle.point_asks.specs.Asks.{is_certain}
 use Rattle.point_asks.specs.Restricted.{if_certain}
 use Rattle.point_asks.specs.CertainMaps.{MapsCertain}
+use Rattle.group_rounds.specs.Growing.{OnlyFlagsGrow}
+use Rattle.group_rounds.proofs.Grown.{certain_grown}
+use Rattle.grown_maps.proofs.GrownMaps.{grown_places}
 use Rattle.group_freezing.specs.Kept.{is_own, IsFrozen}
 use Rattle.group_freezing.proofs.KeptNodes.{before}
 use Rattle.least_graphs.specs.Mapping.{MapsShape}
@@ -23,28 +26,35 @@ if_some graph (Some target) to e = by (is_certain graph (Some target)) refl e
     by true certain h = (h, ap (is_certain graph) (sym h) ∙ certain)
     by false certain h = absurd (none-some to h)
 
-module _ (tac : Tac) (owners : Owner → Bool) (made kept : Graph) (frozen : IsFrozen tac owners made kept) (structs : List StructDef) (other : Graph) (at : ℕ → Option Target) (map : GraphMap)
-    (maps : MapsCertain structs made (with_copies other at) map) where
-  kept_name : (name : Name) (target : Target) → kept.targets name ≡ Some target → (made.targets name ≡ Some target) × (is_certain made (Some target) ≡ true)
+module _ (tac : Tac) (owners : Owner → Bool) (made kept : Graph) (frozen : IsFrozen tac owners made kept) where
+  -- a name that is kept leads where it led, to a certain node
+  pub kept_name : (name : Name) (target : Target) → kept.targets name ≡ Some target → (made.targets name ≡ Some target) × (is_certain made (Some target) ≡ true)
   kept_name name target is = by (is_own tac owners name) (sym (frozen.names name) ∙ is)
     where
       by : (b : Bool) → cond b (if_certain made (made.targets name)) None ≡ Some target → (made.targets name ≡ Some target) × (is_certain made (Some target) ≡ true)
       by true e = if_some made (made.targets name) target e
       by false e = absurd (none-some target e)
 
+module _ (tac : Tac) (owners : Owner → Bool) (made kept : Graph) (frozen : IsFrozen tac owners made kept) (typed : Graph) (grows : OnlyFlagsGrow typed made) (structs : List StructDef) (other : Graph)
+    (at : ℕ → Option Target) (map : GraphMap) (maps : MapsCertain structs typed (with_copies other at) map) where
+  still_certain : (target : Target) → is_certain made (Some target) ≡ true → is_certain typed (Some target) ≡ true
+  still_certain target certain = sym (certain_grown typed made grows (Some target)) ∙ certain
+
   named : (name : Name) (target : Target) → kept.targets name ≡ Some target → (with_copies other at).targets name ≡ mapped other map target
-  named name target is = let was = kept_name name target is in maps.names name target was.0 was.1
+  named name target is = let was = kept_name tac owners made kept frozen name target is in maps.names name target (sym (grows.names name) ∙ was.0) (still_certain target was.1)
 
   pub kept_shape : MapsShape structs kept other map
   kept_shape = record {
     names = by;
     elements = λ number node is.
         let was = before made kept frozen.nodes number node is in
-        subst (λ element. at_target other (Some (map number)) (element_kept structs element) ≡ true) (sym was.keeps.element) (maps.elements number was.old was.is was.keeps.certain);
+        let first = (grown_places typed made grows).nodes number was.old was.is in
+        subst (λ element. at_target other (Some (map number)) (element_kept structs element) ≡ true) (sym (was.keeps.element ∙ first.element)) (maps.elements number first.was first.is (sym first.certain ∙ was.keeps.certain));
     edges = λ number slot node to is edge.
         let was = before made kept frozen.nodes number node is in
         let its = if_some made (edge_in was.old.edges slot) to (sym (was.keeps.edges slot) ∙ edge) in
-        maps.edges number slot was.old to was.is was.keeps.certain its.0 its.1;
+        let first = (grown_places typed made grows).nodes number was.old was.is in
+        maps.edges number slot first.was to first.is (sym first.certain ∙ was.keeps.certain) (sym (ap (λ (edges : List Edge). edge_in edges slot) first.edges) ∙ its.0) (still_certain to its.1);
   }
     where
       -- copies have no names any more

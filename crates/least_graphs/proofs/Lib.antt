@@ -7,7 +7,12 @@ pub mod Settling
 pub mod StaticNames
 pub mod KnownCallees
 pub mod KeptShape
+pub mod Below
+pub mod SaturatedBelow
+pub mod Mapped
 pub mod OneGroup
+pub mod InnerCalls
 pub mod Adding
 pub mod StartGraph
 pub mod Smallest
+pub mod FullFlags

@@ -1,5 +1,5 @@
--- The graph of a group that was assembled is mapped to that of each other closed family of which all flags are told, where the graphs of the
--- groups before are.
+-- The graph of a group that was assembled is mapped to that of each other closed family, where the graphs of the groups before are and what is
+-- told of their objects is kept.
 use Rattle.std.proofs.Common.{◌≡◌, ℕ, zero, suc, ◌<◌, ◌≤◌, ◌⊎◌, inl, inr, Bool, true, false, cond, List, [], ◌∷◌, length, Option, Some, None, refl, sym, ap, subst, ◌∙◌, arith}
 use Rattle.std.specs.Prelude.{◌&&◌, slice_get}
 use Rattle.std.proofs.lemmas.Bool.{false≢true, and_parts, cases_lt}
@@ -40,26 +40,25 @@ use Rattle.outer_calls.proofs.Completing.{outer_completed}
 use Rattle.group_begins.specs.Mentioned.{is_among}
 use Rattle.group_begins.specs.Told.{NoCopies}
 use Rattle.group_crossings.specs.declared.before.Crossings.{Crossings}
-use Rattle.group_crossings.specs.Before.{GraphsBefore, graph_reached, nodes_reached, is_out}
+use Rattle.group_crossings.specs.Before.{GraphsBefore, graph_reached, nodes_reached, is_live, is_out}
 use Rattle.group_crossings.specs.Crossings.{owners_in, copies_at, CopiesStand, IsCalledFrom, UsesCopies, IsOfCall}
 use Rattle.group_crossings.specs.CallSteps.{AllFit, OwnersCross}
 use Rattle.group_crossings.proofs.Reached.{one_reached, is_callee}
 use Rattle.group_crossings.proofs.Images.{call_images_none}
+use Rattle.group_rounds.proofs.Grown.{certain_grown}
 use Rattle.group_freezing.specs.Owners.{is_owner}
 use Rattle.assembled_groups.specs.Assembled.{kept_graph, IsWanted, IsAssembled}
-use Rattle.saturated_graphs.specs.Places.{IsFull}
 use Rattle.assembled_groups.specs.Making.{IsGrouped, family_at, BeginsWith, IsMaking}
 use Rattle.assembled_groups.specs.Shown.{ShowsOwners}
 use Rattle.assembled_groups.proofs.Placed.{also_there, among_there}
 use Rattle.assembled_groups.proofs.Copying.{embedding_told}
 use Rattle.assembled_groups.proofs.Crossing.{embedding_is}
-use Rattle.least_graphs.specs.Mapping.{MapsShape, GroupMaps, EmbeddingsKept, MapsOwner, MapsBelow}
+use Rattle.least_graphs.specs.Mapping.{MapsShape, GroupMaps, EmbeddingsKept, MapsOwner, MapsBelow, KeepsCertain, FlagsBelow}
 use Rattle.least_graphs.specs.Making.{other_at}
 use Rattle.least_graphs.proofs.Reaching.{escapes_mapped}
 use Rattle.least_graphs.proofs.SamePoints.{with_copies}
 use Rattle.least_graphs.proofs.SoundGraphs.{ends_there, found_there, name_there}
-use Rattle.saturated_graphs.proofs.CompletedFull.{completed_full}
-use Rattle.least_graphs.proofs.CopyTargets.{copies_full, copies_sound}
+use Rattle.least_graphs.proofs.CopyTargets.{copies_sound}
 use Rattle.least_graphs.proofs.Settling.{bound_of, all_settled}
 use Rattle.least_graphs.proofs.StaticNames.{statics_fit}
 use Rattle.least_graphs.proofs.KeptShape.{kept_shape}
@@ -68,7 +67,7 @@ use Rattle.least_graphs.proofs.CopyPlaces.{place_of, copy_placed, place_shown, p
 
 -- ---- calls of a closed family
 
-called_closed : (family : Family) (owner : Owner) (site : ℕ) (callee : Callee) (arguments : List Register) (count : ℕ) → call_closed family owner count site callee arguments ≡ true → (called : ℕ) → called < count
+pub called_closed : (family : Family) (owner : Owner) (site : ℕ) (callee : Callee) (arguments : List Register) (count : ℕ) → call_closed family owner count site callee arguments ≡ true → (called : ℕ) → called < count
     → is_target family.tac callee called ≡ true → call_of family owner site arguments called ≡ true
 called_closed family owner site callee arguments zero closed called less target = absurd (omega (arith, less))
 called_closed family owner site callee arguments (suc count) closed called less target = by (cases_lt called count) (λ before. called_closed family owner site callee arguments count both.1 called before target)
@@ -83,7 +82,8 @@ called_closed family owner site callee arguments (suc count) closed called less 
         subst (λ n. call_of family owner site arguments n ≡ true) (sym same)
         (implies_holds (is_target family.tac callee count) (call_of family owner site arguments count) both.0 (subst (λ n. is_target family.tac callee n ≡ true) same target))
 
-point_at : (family : Family) (owner : Owner) (ops : List Op) → ops_closed family owner ops ≡ true → (at : ℕ) (op : Op) → slice_get ops at ≡ Some op → op_closed family owner op ≡ true
+-- each point of a closed function is closed
+pub point_at : (family : Family) (owner : Owner) (ops : List Op) → ops_closed family owner ops ≡ true → (at : ℕ) (op : Op) → slice_get ops at ≡ Some op → op_closed family owner op ≡ true
 point_at family owner [] closed at op is = absurd (none-some op is)
 point_at family owner (first ∷ ops) closed zero op is =
     let both = and_parts (op_closed family owner first) (ops_closed family owner ops) (and_parts (mentions_closed family owner first) (op_closed family owner first && ops_closed family owner ops) closed).1 in
@@ -92,17 +92,17 @@ point_at family owner (first ∷ ops) closed (suc at) op is =
     let both = and_parts (op_closed family owner first) (ops_closed family owner ops) (and_parts (mentions_closed family owner first) (op_closed family owner first && ops_closed family owner ops) closed).1 in
     point_at family owner ops both.1 at op is
 
-module _ (other : Family) (closed : Closed other) where
-  pub function_closed : (owner : Owner) (function : Function) → function_of other.tac owner ≡ Some function → FunctionClosed other owner function
-  function_closed InStart function is = subst (FunctionClosed other InStart) (same_Some other.tac.start function is) closed.start
-  function_closed (InFunction number) function is = closed.functions number function is
+module _ (other : Family) where
+  pub function_closed : Closed other → (owner : Owner) (function : Function) → function_of other.tac owner ≡ Some function → FunctionClosed other owner function
+  function_closed closed InStart function is = subst (FunctionClosed other InStart) (same_Some other.tac.start function is) closed.start
+  function_closed closed (InFunction number) function is = closed.functions number function is
 
   -- a call out of the group is closed
-  outer_is_closed : (owner : Owner) (function : Function) (at site : ℕ) (callee : Callee) (arguments : List Register) (called : ℕ) → function_of other.tac owner ≡ Some function
+  outer_is_closed : (owner : Owner) (function : Function) → FunctionClosed other owner function → (at site : ℕ) (callee : Callee) (arguments : List Register) (called : ℕ)
       → slice_get function.points at ≡ Some (O.Call site callee arguments) → is_target other.tac callee called ≡ true → called < length other.tac.functions → same_group other owner called ≡ false
       → outer_call other owner site arguments called ≡ true
-  outer_is_closed owner function at site callee arguments called is call target less apart =
-      let all : call_closed other owner (length other.tac.functions) site callee arguments ≡ true = point_at other owner function.points (function_closed owner function is).points at (O.Call site callee arguments) call in
+  outer_is_closed owner function closed at site callee arguments called call target less apart =
+      let all : call_closed other owner (length other.tac.functions) site callee arguments ≡ true = point_at other owner function.points closed.points at (O.Call site callee arguments) call in
       sym (ap (λ b. cond b (inner_call other owner site arguments called) (outer_call other owner site arguments called)) apart)
       ∙ called_closed other owner site callee arguments (length other.tac.functions) all called less target
 
@@ -113,7 +113,7 @@ or_start (Some owner) = owner_of owner
 -- ---- the groups before
 
 module _ (before : GraphsBefore) (grouped : IsGrouped before.tac before.groups) (number : ℕ) (making : IsMaking before number) (all : memory_graphs.ProgramGraphs) (begins : BeginsWith before number all) (graphs : ProgramGraphs)
-    (closed : Closed (other_at before graphs)) (maps : GroupMaps) (below : MapsBelow (family_at before all) (other_at before graphs) number maps) where
+    (maps : GroupMaps) (below : MapsBelow (family_at before all) (other_at before graphs) number maps) where
   abbrev family : Family
   family = family_at before all
 
@@ -177,7 +177,8 @@ module _ (before : GraphsBefore) (grouped : IsGrouped before.tac before.groups) 
   module _ (group : Option ℕ) (owners : List (Option FunctionId)) (begun : Graph) (graph : FrozenGraph) (functions : List FunctionGraph) (assembled : IsAssembled before group owners begun graph functions) (one : Owner)
       (same : (owner : Owner) → is_among owner (owners_in owners) ≡ true → graph_of other owner ≡ graph_of other one)
       (apart : (owner : Owner) → is_among owner (owners_in owners) ≡ true → (called : ℕ) → is_out before.groups group called ≡ true → same_group other owner called ≡ false)
-      (test : Owner → Bool) (its_closed : GraphClosed other (graph_of other one) test one) (full : IsFull (graph_of other one)) where
+      (own_closed : (owner : Owner) (function : Function) → is_among owner (owners_in owners) ≡ true → function_of (tac_of before.tac) owner ≡ Some function → FunctionClosed other owner function)
+      (test : Owner → Bool) (its_closed : GraphClosed other (graph_of other one) test one) (flags : FlagsBelow family other number maps) where
     abbrev own : Graph
     own = graph_of other one
 
@@ -189,7 +190,7 @@ module _ (before : GraphsBefore) (grouped : IsGrouped before.tac before.groups) 
 
     embeds : (owner : Owner) (site called : ℕ) → is_among owner (owners_in owners) ≡ true → IsCalledFrom before group owner site called → IsEmbedding other owner site called
     embeds owner site called among from =
-        (function_closed other closed owner from.function from.is).embeddings site from.callee from.arguments from.at called from.call from.target (apart owner among called from.out)
+        (own_closed owner from.function among from.is).embeddings site from.callee from.arguments from.at called from.call from.target (apart owner among called from.out)
 
     -- ---- where copies are
 
@@ -267,9 +268,6 @@ module _ (before : GraphsBefore) (grouped : IsGrouped before.tac before.groups) 
     abbrev whole : Graph
     whole = completed bound more
 
-    whole_full : IsFull whole
-    whole_full = completed_full bound more (copies_full own at full)
-
     -- ---- calls use these copies
 
     abbrev UsesAt : Option FunctionId → Crossings → ℕ → List Register → ℕ → Type 0
@@ -311,7 +309,7 @@ module _ (before : GraphsBefore) (grouped : IsGrouped before.tac before.groups) 
         whole_copied stand =
             copied_shown called copies made stand whole
             (all_copied other made_structs (owner_of owner) site called (embeds (owner_of owner) site called among its_from) (callee called copies made stand) (into called copies made stand) (shape called copies made stand) bound more
-            whole (ap (λ (g : Graph). g.nodes) (sym (same (owner_of owner) among))) refl whole_full (numbers_in copies) whole_place (their_escapes called copies made stand)
+            whole (ap (λ (g : Graph). g.nodes) (sym (same (owner_of owner) among))) refl (flags called (known called copies made stand).less) (numbers_in copies) whole_place (their_escapes called copies made stand)
             (ends_there (callee called copies made stand) (known called copies made stand).sound) made (shown_copied called copies made stand made stand.copied)
             (found_there (callee called copies made stand) (known called copies made stand).sound))
 
@@ -326,10 +324,10 @@ module _ (before : GraphsBefore) (grouped : IsGrouped before.tac before.groups) 
             )
 
       uses_at : (function : Function) (point site : ℕ) (callee : Callee) (arguments : List Register) (called : ℕ) → function_of (tac_of before.tac) (owner_of owner) ≡ Some function
-          → slice_get function.points point ≡ Some (O.Call site callee arguments) → is_target (tac_of before.tac) callee called ≡ true → is_out before.groups group called ≡ true → UsesAt owner its site arguments called
-      uses_at function point site callee arguments called is call target out =
-          let was = assembled.crossed.calls place owner its here there function point (O.Call site callee arguments) is call site callee arguments called refl target out in
-          let outer = outer_is_closed other closed (owner_of owner) function point site callee arguments called is call target (known called was.copies made was.stand).within (apart (owner_of owner) among called out) in
+          → slice_get function.points point ≡ Some (O.Call site callee arguments) → is_target (tac_of before.tac) callee called ≡ true → is_out before.groups group called ≡ true → is_live before called ≡ true → UsesAt owner its site arguments called
+      uses_at function point site callee arguments called is call target out live =
+          let was = assembled.crossed.calls place owner its here there function point (O.Call site callee arguments) is call site callee arguments called refl target out live in
+          let outer = outer_is_closed other (owner_of owner) function (own_closed (owner_of owner) function among is) point site callee arguments called call target (known called was.copies made was.stand).within (apart (owner_of owner) among called out) in
           record {
             copies = was.copies;
             is = was.is;
@@ -342,23 +340,22 @@ module _ (before : GraphsBefore) (grouped : IsGrouped before.tac before.groups) 
           }
 
     all_cross : OwnersCross before group owners assembled.crossings whole
-    all_cross place owner its here there function point op is call site callee arguments called is_call target out =
-        uses_at place owner its here there function point site callee arguments called is (call ∙ ap Some is_call) target out
+    all_cross place owner its here there function point op is call site callee arguments called is_call target out live =
+        uses_at place owner its here there function point site callee arguments called is (call ∙ ap Some is_call) target out live
 
     all_fit : AllFit before group owners whole
     all_fit place owner here site called from reached =
         let its = also_there assembled.crossings owners place owner assembled.crossed.size here in
-        let uses = uses_at place owner its.0 here its.1 from.function from.at site from.callee from.arguments called from.is from.call from.target from.out in
-        statics_fit other one at bound more_sound whole_full its_closed.globals its_closed.literals (graph_reached before called reached) (numbers_in uses.copies)
+        let uses = uses_at place owner its.0 here its.1 from.function from.at site from.callee from.arguments called from.is from.call from.target from.out from.live in
+        statics_fit other one at bound more_sound its_closed.globals its_closed.literals (graph_reached before called reached) (numbers_in uses.copies)
         (subst (λ (g : Graph). AllCome g (numbers_in uses.copies) OfGlobal whole) (one_reached before called uses.stand.reached reached) uses.crossed.globals)
         (subst (λ (g : Graph). AllCome g (numbers_in uses.copies) OfLiteral whole) (one_reached before called uses.stand.reached reached) uses.crossed.literals)
 
     is_wanted : IsWanted before group owners assembled.crossings whole
     is_wanted = record {
-      full = whole_full;
       fits = all_fit;
       crosses = all_cross;
-      settled = all_settled other own at more_sound bound (owners_in owners) (omega arith) same (λ owner function among is. function_closed other closed owner function is);
+      settled = all_settled other own at more_sound bound (owners_in owners) (omega arith) same own_closed;
     }
 
     -- ---- the map
@@ -376,14 +373,14 @@ module _ (before : GraphsBefore) (grouped : IsGrouped before.tac before.groups) 
         by (OfCopy copy) target is = absurd (none-some target (sym (none copy) ∙ is))
 
     module _ (none : NoCopies begun) (first : (some : ℕ) → (map : GraphMap) × Maps structs begun (completed some own) map) where
-      made_maps : (map : GraphMap) × MapsCertain structs made more map
-      made_maps =
+      typed_maps : (map : GraphMap) × MapsCertain structs assembled.typed more map
+      typed_maps =
           let begin = first bound in
           let rest = assembled.leads whole begin.0 (begun_maps none begin.0 begin.1) is_wanted in
-          (rest.0, completed_maps structs made bound more more_sound rest.0 rest.1)
+          (rest.0, completed_maps structs assembled.typed bound more more_sound rest.0 rest.1)
 
     -- a map of the certain nodes keeps where copies are
-    module _ (map : GraphMap) (its_maps : MapsCertain structs made more map) (shows : ShowsOwners all owners functions) where
+    module _ (map : GraphMap) (its_maps : MapsCertain structs assembled.typed more map) (shows : ShowsOwners all owners functions) where
       abbrev Kept : Owner → ℕ → ℕ → ℕ → Target → Type 0
       Kept owner site called node target = (group_of family called < number) × (embedded other (crossing other owner site called) (Some (maps (group_of family called) node)) ≡ mapped (graph_of other owner) map target)
 
@@ -421,7 +418,7 @@ module _ (before : GraphsBefore) (grouped : IsGrouped before.tac before.groups) 
               let shown = place_shown other made_structs (owner_of owner) site called (embeds (owner_of owner) site called among from) (callee called copies made stand) (into called copies made stand)
               (shape called copies made stand) node old.0 old.1 (their_escapes called copies made stand node copy of) in
               let goes : mapped own map target ≡ Some (call_place place owner its here crossings.1 site called node) =
-              sym (its_maps.names (OfCopy copy) target to certain) ∙ copy_place place owner its here crossings.1 site called copies is node copy of in (
+              sym (its_maps.names (OfCopy copy) target (sym (assembled.grows.names (OfCopy copy)) ∙ to) (sym (certain_grown assembled.typed made assembled.grows (Some target)) ∙ certain)) ∙ copy_place place owner its here crossings.1 site called copies is node copy of in (
                 (known called copies made stand).less,
                 shown ∙ (sym goes ∙ ap (λ g. mapped g map target) (sym (same (owner_of owner) among))),
               )
@@ -431,13 +428,13 @@ module _ (before : GraphsBefore) (grouped : IsGrouped before.tac before.groups) 
           by (Some copies) is =
               copied_to copies is (numbers_in copies node) refl (sym (embedding_is before group owners begun graph functions assembled all shows place owner its here crossings.1 site called copies is node) ∙ held)
 
-    -- so the graph of the group is mapped to theirs
-    pub group_mapped : NoCopies begun → ((some : ℕ) → (map : GraphMap) × Maps structs begun (completed some own) map) → ShowsOwners all owners functions
+    -- so the graph of the group is mapped to theirs, and what was told of objects once types were final is told there
+    pub group_kept : NoCopies begun → ((some : ℕ) → (map : GraphMap) × Maps structs begun (completed some own) map) → ShowsOwners all owners functions
         → ((owner : Owner) → is_among owner (owners_in owners) ≡ true → graph_of family owner ≡ kept_graph before owners graph functions)
-        → (map : GraphMap) × ((place : ℕ) (owner : Option FunctionId) → slice_get owners place ≡ Some owner → MapsOwner family other number maps (owner_of owner) map)
-    group_mapped none first shows shown =
-        let its = made_maps none first in
-        let shape = kept_shape (tac_of before.tac) (is_owner owners) made (kept_graph before owners graph functions) assembled.frozen structs own at its.0 its.1 in (
+        → (map : GraphMap) × ((place : ℕ) (owner : Option FunctionId) → slice_get owners place ≡ Some owner → MapsOwner family other number maps (owner_of owner) map) × KeepsCertain assembled.typed (graph_of other one) map
+    group_kept none first shows shown =
+        let its = typed_maps none first in
+        let shape = kept_shape (tac_of before.tac) (is_owner owners) made (kept_graph before owners graph functions) assembled.frozen assembled.typed assembled.grows structs own at its.0 its.1 in (
           its.0,
           λ place owner here.
               let among = among_there owners place owner here in
@@ -446,4 +443,10 @@ module _ (before : GraphsBefore) (grouped : IsGrouped before.tac before.groups) 
                     (subst (λ g. MapsShape structs (kept_graph before owners graph functions) g its.0) (sym (same (owner_of owner) among)) shape);
                 embeddings = embeddings_kept its.0 its.1 shows place owner here;
               },
+          its.1.flags,
         )
+
+    pub group_mapped : NoCopies begun → ((some : ℕ) → (map : GraphMap) × Maps structs begun (completed some own) map) → ShowsOwners all owners functions
+        → ((owner : Owner) → is_among owner (owners_in owners) ≡ true → graph_of family owner ≡ kept_graph before owners graph functions)
+        → (map : GraphMap) × ((place : ℕ) (owner : Option FunctionId) → slice_get owners place ≡ Some owner → MapsOwner family other number maps (owner_of owner) map)
+    group_mapped none first shows shown = let its = group_kept none first shows shown in (its.0, its.1)

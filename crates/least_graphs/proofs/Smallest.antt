@@ -29,11 +29,13 @@ use Rattle.assembled_groups.proofs.Starting.{HasStart}
 use Rattle.least_graphs.specs.Mapping.{GroupMaps, MapsOwner, MapsBelow}
 use Rattle.least_graphs.specs.Making.{other_at, IsFullFamily, AreLeast}
 use Rattle.least_graphs.specs.Smallest.{IsSmallest}
+use Rattle.least_graphs.proofs.Below.{closed_below}
+use Rattle.least_graphs.proofs.FullFlags.{full_keeps}
 use Rattle.least_graphs.proofs.StartGraph.{IsStartBegun, start_mapped}
 
 -- ---- functions that are in no group
 
-past_graphs : (table : Interned) (groups : List (List ℕ)) (functions : List FunctionGraph) (count : ℕ) (graphs : List FrozenGraph) (at : ℕ) → length graphs ≤ at → slice_get (group_graphs table groups functions count graphs) at ≡ None
+pub past_graphs : (table : Interned) (groups : List (List ℕ)) (functions : List FunctionGraph) (count : ℕ) (graphs : List FrozenGraph) (at : ℕ) → length graphs ≤ at → slice_get (group_graphs table groups functions count graphs) at ≡ None
 past_graphs table groups functions count [] at past = refl
 past_graphs table groups functions count (graph ∷ graphs) zero past = absurd (omega (arith, past))
 past_graphs table groups functions count (graph ∷ graphs) (suc at) past = past_graphs table groups functions (suc count) graphs at (omega (arith, past))
@@ -134,7 +136,8 @@ program_smallest before start begun graph own all grouped making least begins si
     let other = other_at before graphs in
     let whole = saturated other in
     let full : IsFullFamily (other_at before whole.graphs) = family_full other in
-    let maps = least all begins whole.graphs (saturated_closed other closed) full in
-    let last = start_mapped before start grouped making begun graph own assembled begins_so all begins has whole.graphs (saturated_closed other closed) full maps.0 maps.1 in
+    let maps = least all begins whole.graphs (closed_below whole (saturated_closed other closed) (length (groups_of before.groups))) full in
+    let last = start_mapped before start grouped making begun graph own assembled begins_so all begins has whole.graphs (saturated_closed other closed) maps.0 maps.1
+    (full_keeps (family_at before all) (other_at before whole.graphs) (length (groups_of before.groups)) maps.0 full maps.1) in
     let map = node_map (family_at before all) maps.0 last.0 in
     (map, map_to_saturated (family_at before all) other map (all_mapped before grouped all begins size whole.graphs maps.0 maps.1 last.0 last.1))

@@ -15,7 +15,7 @@ use Rattle.least_graphs.proofs.Reaching.{IsThere, EndsThere}
 pub slot_there : (graph : Graph) (target : Target) → is_slot graph (Some target) ≡ true → IsThere graph target.node
 slot_there graph target slot = let there = at_there graph target (λ node shift. implies (is_collapsed node.element) (shift == 0)) slot in (there.node, there.is)
 
-edge_slot : (graph : Graph) (node : Node) (edges : List Edge) (slot : ℕ) (to : Target) → edges_sound graph node edges ≡ true → edge_in edges slot ≡ Some to → is_slot graph (Some to) ≡ true
+pub edge_slot : (graph : Graph) (node : Node) (edges : List Edge) (slot : ℕ) (to : Target) → edges_sound graph node edges ≡ true → edge_in edges slot ≡ Some to → is_slot graph (Some to) ≡ true
 edge_slot graph node [] slot to h e = absurd (none-some to e)
 edge_slot graph node (edge ∷ edges) slot to h e =
     let rest = (and_parts (same_target (edge_in node.edges edge.slot) (Some edge.to)) (is_slot graph (Some edge.to) && (implies (is_collapsed node.element) (edge.slot == 0) && edges_sound graph node edges)) h).1 in

@@ -25,17 +25,16 @@ use Rattle.first_values.proofs.Completing.{first_completed, first_alone}
 use Rattle.dsa_local.specs.Local.{LeadsJoined}
 use Rattle.group_crossings.specs.Before.{GraphsBefore, is_out}
 use Rattle.group_crossings.specs.Crossings.{owners_in}
-use Rattle.saturated_graphs.proofs.CompletedFull.{completed_full}
 use Rattle.assembled_groups.specs.Assembled.{IsAssembled}
 use Rattle.assembled_groups.specs.Making.{IsGrouped, family_at, BeginsWith, IsMaking}
 use Rattle.assembled_groups.specs.Shown.{function_in, ShowsOwners}
 use Rattle.assembled_groups.proofs.Starting.{HasStart, start_owner_shown}
-use Rattle.least_graphs.specs.Mapping.{GroupMaps, MapsOwner, MapsBelow}
-use Rattle.least_graphs.specs.Making.{other_at, IsFullFamily}
+use Rattle.least_graphs.specs.Mapping.{GroupMaps, MapsOwner, MapsBelow, KeepsCertain, FlagsBelow}
+use Rattle.least_graphs.specs.Making.{other_at}
 use Rattle.least_graphs.proofs.SamePoints.{with_copies}
-use Rattle.least_graphs.proofs.CopyTargets.{copies_full, copies_sound}
+use Rattle.least_graphs.proofs.CopyTargets.{copies_sound}
 use Rattle.least_graphs.proofs.StaticNames.{global_fits, literal_fits}
-use Rattle.least_graphs.proofs.OneGroup.{function_closed, group_mapped}
+use Rattle.least_graphs.proofs.OneGroup.{function_closed, group_kept}
 
 -- what is known of the graph of `start` before its calls are joined: first values were stored into one in which its names are
 pub record IsStartBegun (before : GraphsBefore) (begun : Graph) : Type 0 where
@@ -46,8 +45,8 @@ pub record IsStartBegun (before : GraphsBefore) (begun : Graph) : Type 0 where
 
 module _ (before : GraphsBefore) (start : (tac_of before.tac).start.parameters ≡ 0) (grouped : IsGrouped before.tac before.groups) (making : IsMaking before (length (groups_of before.groups))) (begun : Graph)
     (graph : FrozenGraph) (own : FunctionGraph) (assembled : IsAssembled before None (None ∷ []) begun graph (own ∷ [])) (begins_so : IsStartBegun before begun) (all : memory_graphs.ProgramGraphs)
-    (begins : BeginsWith before (length (groups_of before.groups)) all) (has : HasStart graph own all) (graphs : ProgramGraphs) (closed : Closed (other_at before graphs)) (full : IsFullFamily (other_at before graphs))
-    (maps : GroupMaps) (below : MapsBelow (family_at before all) (other_at before graphs) (length (groups_of before.groups)) maps) where
+    (begins : BeginsWith before (length (groups_of before.groups)) all) (has : HasStart graph own all) (graphs : ProgramGraphs) (closed : Closed (other_at before graphs)) (maps : GroupMaps)
+    (below : MapsBelow (family_at before all) (other_at before graphs) (length (groups_of before.groups)) maps) (flags : FlagsBelow (family_at before all) (other_at before graphs) (length (groups_of before.groups)) maps) where
   abbrev alone : List (Option FunctionId)
   alone = None ∷ []
 
@@ -60,11 +59,11 @@ module _ (before : GraphsBefore) (start : (tac_of before.tac).start.parameters �
   abbrev theirs : Graph
   theirs = graph_of other InStart
 
-  same : (owner : Owner) → is_among owner (owners_in alone) ≡ true → graph_of other owner ≡ theirs
+  pub same : (owner : Owner) → is_among owner (owners_in alone) ≡ true → graph_of other owner ≡ theirs
   same InStart among = refl
   same (InFunction function) among = absurd (false≢true among)
 
-  apart : (owner : Owner) → is_among owner (owners_in alone) ≡ true → (called : ℕ) → is_out before.groups None called ≡ true → same_group other owner called ≡ false
+  pub apart : (owner : Owner) → is_among owner (owners_in alone) ≡ true → (called : ℕ) → is_out before.groups None called ≡ true → same_group other owner called ≡ false
   apart InStart among called out = refl
   apart (InFunction function) among called out = absurd (false≢true among)
 
@@ -87,12 +86,10 @@ module _ (before : GraphsBefore) (start : (tac_of before.tac).start.parameters �
     own = theirs;
     named = told;
     globals = λ number global is there.
-        let fits = global_fits other InStart no_copies some more_sound (completed_full some (with_copies theirs no_copies) (copies_full theirs no_copies (full InStart))) closed.last.globals closed.last.literals number global is
-        there in
+        let fits = global_fits other InStart no_copies some more_sound closed.last.globals closed.last.literals number global is there in
         record { target = fits.target; is = fits.is; slot = fits.slot; element = fits.element; flags = fits.flags };
     literals = λ number literal is there.
-        let fits = literal_fits other InStart no_copies some more_sound (completed_full some (with_copies theirs no_copies) (copies_full theirs no_copies (full InStart))) closed.last.globals closed.last.literals number literal is
-        there in
+        let fits = literal_fits other InStart no_copies some more_sound closed.last.globals closed.last.literals number literal is there in
         record { target = fits.target; is = fits.is; slot = fits.slot; element = fits.element; flags = fits.flags };
   }
 
@@ -103,12 +100,17 @@ module _ (before : GraphsBefore) (start : (tac_of before.tac).start.parameters �
       (classes_completed some other closed (λ number. false) theirs (λ function is. absurd (false≢true is))) (λ caller is. absurd (false≢true is)) in
       begins_so.keeps.leads (completed some theirs) first.0 first.1 (first_fits some)
 
-  shows : ShowsOwners all (None ∷ []) (own ∷ [])
+  pub shows : ShowsOwners all (None ∷ []) (own ∷ [])
   shows zero owner at = subst (λ o. function_in all (owner_of o) ≡ Some own) (same_Some None owner at) (ap Some has.function)
   shows (suc place) owner at = absurd (none-some owner at)
 
-  pub start_mapped : (map : GraphMap) × MapsOwner (family_at before all) (other_at before graphs) (length (groups_of before.groups)) maps InStart map
-  start_mapped =
-      let its = group_mapped before grouped (length (groups_of before.groups)) making all begins graphs closed maps below None alone begun graph (own ∷ []) assembled InStart same apart is_start closed.last (full InStart)
+  -- what was told of objects once types were final is told there
+  pub start_told : (map : GraphMap) × MapsOwner (family_at before all) (other_at before graphs) (length (groups_of before.groups)) maps InStart map × KeepsCertain assembled.typed (graph_of (other_at before graphs) InStart) map
+  start_told =
+      let its = group_kept before grouped (length (groups_of before.groups)) making all begins graphs maps below None alone begun graph (own ∷ []) assembled InStart same apart
+      (λ owner function among is. function_closed other closed owner function is) is_start closed.last flags
       begins_so.copies begin shows (start_owner_shown before graph own all grouped has) in
-      (its.0, its.1 0 None refl)
+      (its.0, its.1 0 None refl, its.2)
+
+  pub start_mapped : (map : GraphMap) × MapsOwner (family_at before all) (other_at before graphs) (length (groups_of before.groups)) maps InStart map
+  start_mapped = (start_told.0, start_told.1)

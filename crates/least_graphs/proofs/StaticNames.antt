@@ -1,12 +1,12 @@
--- Variables outside functions and literals of a closed graph keep what is told of their first nodes, where all flags are told.
-use Rattle.std.proofs.Common.{◌≡◌, ℕ, zero, suc, ◌+◌, Bool, true, false, List, [], ◌∷◌, Option, Some, None, refl, sym, ap, subst, ◌∙◌, arith}
+-- Variables outside functions and literals of a closed graph keep what is told of their first nodes.
+use Rattle.std.proofs.Common.{◌≡◌, ℕ, zero, suc, ◌+◌, true, false, List, [], ◌∷◌, Option, Some, None, refl, sym, ap, subst, ◌∙◌, arith}
 use Rattle.std.specs.Prelude.{◌==◌, ◌&&◌, slice_get}
 use Rattle.std.proofs.lemmas.Bool.{false≢true, and_parts, and_from}
 use Rattle.std.proofs.lemmas.Option.{none-some, same_Some}
 use Rattle.c_typed.specs.Types.{CType, literal_type}
 use Rattle.c_typed.specs.Typed.{GlobalDef, LiteralDef}
 use Rattle.tac_ir.specs.States.{Owner}
-use Rattle.heap_graph.specs.Graphs.{Target, Flags, Name, OfGlobal, OfLiteral, Graph, node_at}
+use Rattle.heap_graph.specs.Graphs.{Target, Name, OfGlobal, OfLiteral, Graph, node_at}
 use Rattle.heap_graph.specs.Targets.{has_target, is_collapsed, holds_part, is_array, elements_of, implies, flags_kept, marks_kept, element_kept}
 use Rattle.heap_graph.specs.Closed.{Family, graph_of, is_slot, object_closed, global_closed, globals_closed, literal_closed, literals_closed}
 use Rattle.heap_graph.proofs.MapsCompose.{at_there, at_from}
@@ -18,7 +18,6 @@ use Rattle.point_asks.proofs.CompletedNames.{certain_has}
 use Rattle.graph_names.specs.Adding.{NameFits}
 use Rattle.graph_names.specs.First.{object_node, static_flags}
 use Rattle.outer_calls.specs.Crossed.{IsImage, AllCome, StaticsFit}
-use Rattle.saturated_graphs.specs.Places.{IsFull}
 use Rattle.least_graphs.proofs.SamePoints.{with_copies}
 
 -- ---- lists
@@ -50,7 +49,7 @@ there : (found : Option Target) → has_target found ≡ true → (target : Targ
 there None h = absurd (false≢true h)
 there (Some target) h = (target, refl)
 
-module _ (family : Family) (one : Owner) (at : ℕ → Option Target) (bound : ℕ) (sound : HasNodes (with_copies (graph_of family one) at)) (full : IsFull (completed bound (with_copies (graph_of family one) at)))
+module _ (family : Family) (one : Owner) (at : ℕ → Option Target) (bound : ℕ) (sound : HasNodes (with_copies (graph_of family one) at))
     (globals : globals_closed family one 0 family.tac.globals ≡ true) (literals : literals_closed family one 0 family.tac.literals ≡ true) where
   abbrev own : Graph
   own = graph_of family one
@@ -61,12 +60,14 @@ module _ (family : Family) (one : Owner) (at : ℕ → Option Target) (bound : �
   abbrev whole : Graph
   whole = completed bound more
 
-  object_fits : (name : Name) (c_type : CType) (kind : Flags → Bool) (target : Target) → whole.targets name ≡ Some target → is_slot own (Some target) ≡ true → object_closed family one c_type kind (Some target) ≡ true
+  object_fits : (name : Name) (c_type : CType) (target : Target) → whole.targets name ≡ Some target → is_slot own (Some target) ≡ true → object_closed family one c_type (λ flags. flags.global) (Some target) ≡ true
       → NameFits family.tac.structs whole name (object_node c_type (static_flags c_type))
-  object_fits name c_type kind target is slot closed =
+  object_fits name c_type target is slot closed =
       let structs = family.tac.structs in
-      let both = at_there own target (λ node shift. holds_part structs (elements_of c_type) node shift && (kind node.flags && implies (is_array c_type) node.flags.array)) closed in
-      let part = (and_parts (holds_part structs (elements_of c_type) both.node target.shift) (kind both.node.flags && implies (is_array c_type) both.node.flags.array) both.so).0 in
+      let both = at_there own target (λ node shift. holds_part structs (elements_of c_type) node shift && (node.flags.global && implies (is_array c_type) node.flags.array)) closed in
+      let parts = and_parts (holds_part structs (elements_of c_type) both.node target.shift) (both.node.flags.global && implies (is_array c_type) both.node.flags.array) both.so in
+      let part = parts.0 in
+      let told = and_parts both.node.flags.global (implies (is_array c_type) both.node.flags.array) parts.1 in
       let image = completed_node bound (nothing_in more) both.node in
       let here : node_at whole target.node ≡ Some image = node_kept bound more target.node both.node both.is in
       let first = at_there own target (λ node shift. implies (is_collapsed node.element) (shift == 0)) slot in
@@ -76,7 +77,8 @@ module _ (family : Family) (one : Owner) (at : ℕ → Option Target) (bound : �
         slot = at_from whole target (λ node shift. implies (is_collapsed node.element) (shift == 0)) (completed_node bound (nothing_in more) first.node) (node_kept bound more target.node first.node first.is) first.so;
         element = at_from whole target (element_kept structs (object_node c_type (static_flags c_type)).element) image here part;
         flags = at_from whole target (λ node shift. marks_kept (static_flags c_type) node.flags) image here
-            (and_from true (flags_kept (static_flags c_type) image.flags) refl (full target.node image here (static_flags c_type)));
+            (and_from true (flags_kept (static_flags c_type) image.flags) refl
+            (and_from image.flags.global (implies (is_array c_type) image.flags.array && true) told.0 (and_from (implies (is_array c_type) image.flags.array) true told.1 refl)));
       }
 
   -- what is told of a variable outside functions or of a literal of the graph
@@ -86,7 +88,7 @@ module _ (family : Family) (one : Owner) (at : ℕ → Option Target) (bound : �
       let target = there (own.targets (OfGlobal number)) has in
       let closed = implies_holds (has_target (own.targets (OfGlobal number))) (object_closed family one global.c_type (λ flags. flags.global) (own.targets (OfGlobal number)))
       (global_in family one 0 family.tac.globals globals number number global (omega arith) is) has in
-      object_fits (OfGlobal number) global.c_type (λ flags. flags.global) target.0 (ap (or_target (nothing_in more)) target.1) (subst (λ t. is_slot own t ≡ true) target.1 (sound.names (OfGlobal number)))
+      object_fits (OfGlobal number) global.c_type target.0 (ap (or_target (nothing_in more)) target.1) (subst (λ t. is_slot own t ≡ true) target.1 (sound.names (OfGlobal number)))
       (subst (λ t. object_closed family one global.c_type (λ flags. flags.global) t ≡ true) target.1 closed)
 
   pub literal_fits : (number : ℕ) (literal : LiteralDef) → slice_get family.tac.literals number ≡ Some literal → has_target (own.targets (OfLiteral number)) ≡ true
@@ -95,7 +97,7 @@ module _ (family : Family) (one : Owner) (at : ℕ → Option Target) (bound : �
       let target = there (own.targets (OfLiteral number)) has in
       let closed = implies_holds (has_target (own.targets (OfLiteral number))) (object_closed family one (literal_type literal.bytes) (λ flags. flags.global) (own.targets (OfLiteral number)))
       (literal_in family one 0 family.tac.literals literals number number literal (omega arith) is) has in
-      object_fits (OfLiteral number) (literal_type literal.bytes) (λ flags. flags.global) target.0 (ap (or_target (nothing_in more)) target.1) (subst (λ t. is_slot own t ≡ true) target.1 (sound.names (OfLiteral number)))
+      object_fits (OfLiteral number) (literal_type literal.bytes) target.0 (ap (or_target (nothing_in more)) target.1) (subst (λ t. is_slot own t ≡ true) target.1 (sound.names (OfLiteral number)))
       (subst (λ t. object_closed family one (literal_type literal.bytes) (λ flags. flags.global) t ≡ true) target.1 closed)
 
   -- so those fit of which the graph of a function tells whose copies they come to

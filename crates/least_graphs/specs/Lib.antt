@@ -1,3 +1,4 @@
 pub mod Mapping
+pub mod Below
 pub mod Making
 pub mod Smallest

@@ -3,13 +3,14 @@ use Rattle.std.specs.Prelude.{ℕ}
 use Rattle.tac_ir.specs.Views.{tac_of}
 use Rattle.tac_ir.specs.States.{Owner}
 use Rattle.heap_graph.specs.Graphs.{ProgramGraphs}
-use Rattle.heap_graph.specs.Closed.{Family, graph_of, Closed}
+use Rattle.heap_graph.specs.Closed.{Family, graph_of}
 use Rattle.function_groups.specs.GroupViews.{groups_of}
 use Rattle.program_graphs.specs.declared.program.ProgramGraphs as memory_graphs
 use Rattle.group_crossings.specs.Before.{GraphsBefore}
 use Rattle.saturated_graphs.specs.Places.{IsFull}
 use Rattle.assembled_groups.specs.Making.{family_at, BeginsWith}
 use Rattle.least_graphs.specs.Mapping.{GroupMaps, MapsBelow}
+use Rattle.least_graphs.specs.Below.{ClosedBelow}
 
 -- other graphs of the program and its groups
 abbrev pub other_at : GraphsBefore → ProgramGraphs → Family
@@ -20,8 +21,8 @@ abbrev pub IsFullFamily : Family → Type 0
 IsFullFamily family = (owner : Owner) → IsFull (graph_of family owner)
 
 -- Where the graphs of a program begin with those that were made, there is a map of the groups below the number to each other family of graphs
--- that are closed and of which all flags are told.
+-- that is closed below it and of which all flags are told.
 abbrev pub AreLeast : GraphsBefore → ℕ → Type 0
 AreLeast before number =
-    (all : memory_graphs.ProgramGraphs) → BeginsWith before number all → (graphs : ProgramGraphs) → Closed (other_at before graphs) → IsFullFamily (other_at before graphs)
+    (all : memory_graphs.ProgramGraphs) → BeginsWith before number all → (graphs : ProgramGraphs) → ClosedBelow (other_at before graphs) number → IsFullFamily (other_at before graphs)
     → (maps : GroupMaps) × MapsBelow (family_at before all) (other_at before graphs) number maps

@@ -3,7 +3,7 @@ use Rattle.std.specs.Prelude.{◌≡◌, ℕ, ◌<◌, true, List, Some}
 use Rattle.c_typed.specs.Layouts.{StructDef}
 use Rattle.tac_ir.specs.States.{Owner, InFunction}
 use Rattle.heap_graph.specs.Graphs.{Target, Node, Name, Graph, edge_in, node_at}
-use Rattle.heap_graph.specs.Targets.{at_target, shifted, edge_at, element_kept}
+use Rattle.heap_graph.specs.Targets.{at_target, shifted, edge_at, flags_kept, element_kept}
 use Rattle.heap_graph.specs.Merging.{GraphMap, mapped}
 use Rattle.heap_graph.specs.Closed.{Family, graph_of, group_of, crossing}
 use Rattle.heap_graph.specs.Least.{embedded}
@@ -35,3 +35,18 @@ pub record MapsOwner (family other : Family) (number : ℕ) (maps : GroupMaps) (
 -- so it is of each function of a group below the number
 abbrev pub MapsBelow : Family → Family → ℕ → GroupMaps → Type 0
 MapsBelow family other number maps = (function : ℕ) → group_of family function < number → MapsOwner family other number maps (InFunction function) (maps (group_of family function))
+
+-- ---- flags
+
+-- what is told of objects is told where the map leads
+abbrev pub KeepsFlags : Graph → Graph → GraphMap → Type 0
+KeepsFlags graph other map = (number : ℕ) (node : Node) → node_at graph number ≡ Some node → at_target other (Some (map number)) (λ image shift. flags_kept node.flags image.flags) ≡ true
+
+-- what is told of objects of certain nodes is
+abbrev pub KeepsCertain : Graph → Graph → GraphMap → Type 0
+KeepsCertain graph other map =
+    (number : ℕ) (node : Node) → node_at graph number ≡ Some node → node.flags.certain ≡ true → at_target other (Some (map number)) (λ image shift. flags_kept node.flags image.flags) ≡ true
+
+-- what is told of objects is kept for each function of a group below the number
+abbrev pub FlagsBelow : Family → Family → ℕ → GroupMaps → Type 0
+FlagsBelow family other number maps = (function : ℕ) → group_of family function < number → KeepsFlags (graph_of family (InFunction function)) (graph_of other (InFunction function)) (maps (group_of family function))

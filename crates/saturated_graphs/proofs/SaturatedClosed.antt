@@ -169,7 +169,7 @@ module _ (family : Family) (owner : Owner) where
   needed_same owners number (named name target is at) = named name target (targets_same family owner name ∙ is) at
   needed_same owners number (embedded at node target own is image same) = embedded at node target own (crossing_same at is) image same
 
-  graph_more : (owners : Owner → Bool) → GraphClosed family old owners owner → GraphClosed (saturated family) new owners owner
+  pub graph_more : (owners : Owner → Bool) → GraphClosed family old owners owner → GraphClosed (saturated family) new owners owner
   graph_more owners closed = record {
     names = λ name. ap (is_slot new) (targets_same family owner name) ∙ (slot_same (old.targets name) ∙ closed.names name);
     own = λ name has. closed.own name (sym (has_same name) ∙ has);
@@ -184,7 +184,7 @@ module _ (family : Family) (owner : Owner) where
 
   -- ---- functions
 
-  function_more : (function : O.Function) → FunctionClosed family owner function → FunctionClosed (saturated family) owner function
+  pub function_more : (function : O.Function) → FunctionClosed family owner function → FunctionClosed (saturated family) owner function
   function_more function closed = record {
     formals = λ number is. formals_same number 0 (parameters_of function.c_type) ∙ closed.formals number is;
     locals = locals_more function.objects closed.locals;

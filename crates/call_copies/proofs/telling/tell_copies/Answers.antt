@@ -3,10 +3,11 @@ use Rattle.c_typed.specs.Table.{structs_in}
 use Rattle.graph_memory.specs.Memory.{graph_in}
 use Rattle.frozen_graphs.specs.Frozen.{bare}
 use Rattle.call_copies.specs.Copied.{numbers_in}
-use Rattle.call_copies.specs.Telling.{CopyTold}
+use Rattle.call_copies.specs.Telling.{CopyTold, AsksCopy}
 use Rattle.made_graphs.proofs.Goes.{goes_same, goes_then}
 use Rattle.call_copies.proofs.Carried.{copies_kept}
 use Rattle.call_copies.proofs.Seen.{each_key}
+use Rattle.call_copies.proofs.AskedCopies.{only_same, only_then, only_more, copy_asked}
 use Rattle.call_copies.proofs.Told.{nothing_told, arrays_then, copy_told}
 use Rattle.call_copies.proofs.telling.tell_copies.Goals as goal
 
@@ -18,6 +19,7 @@ loop-number-init c =
       goes = goes_same (structs_in table) c.requires.made (graph_in table c.args.graph.now) c.requires.graph.sound;
       arrays = nothing_told (graph_in table c.args.graph.now);
       told = λ place less. absurd (omega (arith, less));
+      only = only_same (AsksCopy (graph_in table c.args.graph.now) (bare table c.args.callee.now) (numbers_in c.args.copies.now)) (graph_in table c.args.graph.now);
     }
 
 pub loop-number-preserved : goal.loop-number-preserved
@@ -36,6 +38,8 @@ loop-number-preserved c =
       told =
           below_more (λ place. CopyTold new callee copies (get_or items place 0)) c.loop-number.number-index
           (λ place less. copy_told middle new callee copies (get_or items place 0) c.tell_copy.ensures.arrays (c.loop-number.invariant.told place less)) c.tell_copy.ensures.told;
+      only = only_then (AsksCopy old callee copies) old middle new c.loop-number.invariant.arrays c.loop-number.invariant.only
+          (only_more (AsksCopy middle callee copies) (AsksCopy old callee copies) middle new (copy_asked old middle callee copies c.loop-number.invariant.arrays.names) c.tell_copy.ensures.only);
     }
 
 pub returns-clause-copied : goal.returns-clause-copied

@@ -4,7 +4,7 @@ use Rattle.graph_memory.specs.Memory.{graph_in, IsGraph}
 use Rattle.frozen_graphs.specs.Frozen.{bare}
 use Rattle.made_graphs.specs.Going.{GoesOn}
 use Rattle.call_copies.specs.Copied.{numbers_in}
-use Rattle.call_copies.specs.Telling.{CopyTold, ArraysTold}
+use Rattle.call_copies.specs.Telling.{CopyTold, ArraysTold, AsksCopy, OnlyAsked}
 use Rattle.call_copies.proofs.telling.tell_copies.Given as goal
 
 -- it is told of the first copies
@@ -14,4 +14,5 @@ invariant-loop-number l = record {
   goes : GoesOn (structs_in l.types) (graph_in l.types l.fn.graph) (graph_in l.types l.graph);
   arrays : ArraysTold (graph_in l.types l.fn.graph) (graph_in l.types l.graph);
   told : (place : ℕ) → place < l.number-index → CopyTold (graph_in l.types l.graph) (bare l.types l.callee) (numbers_in l.copies) (get_or l.number-items place 0);
+  only : OnlyAsked (AsksCopy (graph_in l.types l.fn.graph) (bare l.types l.callee) (numbers_in l.copies)) (graph_in l.types l.fn.graph) (graph_in l.types l.graph);
 }

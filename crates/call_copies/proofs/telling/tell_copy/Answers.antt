@@ -1,5 +1,6 @@
 use Rattle.std.proofs.Common.{true, refl, sym, ap, subst, ◌∙◌, inl, inr}
 use Rattle.std.specs.Prelude.{◌&&◌}
+use Rattle.std.proofs.lemmas.Bool.{and_from}
 use Rattle.std.proofs.lemmas.Option.{none-some}
 use Rattle.c_typed.specs.Table.{structs_in}
 use Rattle.heap_graph.specs.Graphs.{Flags, OfCopy}
@@ -15,6 +16,8 @@ use Rattle.graph_steps.proofs.Marking.{marks}
 use Rattle.graph_steps.proofs.Seen.{told_node, told_none}
 use Rattle.call_copies.specs.Copied.{numbers_in}
 use Rattle.made_graphs.proofs.Goes.{goes_same, least_goes}
+use Rattle.call_copies.specs.Telling.{AsksCopy}
+use Rattle.call_copies.proofs.AskedCopies.{only_same, one_asked}
 use Rattle.call_copies.proofs.Told.{nothing_told, one_told, told_where, nothing_asked, already_told}
 use Rattle.call_copies.proofs.telling.tell_copy.Goals as goal
 use Rattle.call_copies.proofs.telling.tell_copy.Goals.{else-node-via-then-node+else-types_differ, else-node-via-else-node}
@@ -121,3 +124,56 @@ returns-then-types_differ-clause-told c =
     (sym c.in-Some-get.ensures.value) (node_before table callee.nodes.items (bare table callee) refl c.args.number own c.in-Some.ensures)
     (sets.names (OfCopy c.in-Some-get.copy.now) ∙ sym (c.in-Some-target.ensures table c.requires.graph)) (sets.at seen.node seen.is)
     (already_told (own.flags.heap && types_differ (element_in table own.element) seen.node.element))
+
+pub returns-in_default-clause-only : goal.returns-in_default-clause-only
+returns-in_default-clause-only c =
+    let table = c.args.types.now in
+    let graph = graph_in table c.args.graph.now in
+    only_same (AsksCopy graph (bare table c.args.callee.now) (numbers_in c.args.copies.now)) graph
+
+pub returns-in_default-get-clause-only : goal.returns-in_default-get-clause-only
+returns-in_default-get-clause-only c =
+    let table = c.args.types.now in
+    let graph = graph_in table c.args.graph.now in
+    only_same (AsksCopy graph (bare table c.args.callee.now) (numbers_in c.args.copies.now)) graph
+
+pub returns-in_default-target-clause-only : goal.returns-in_default-target-clause-only
+returns-in_default-target-clause-only c =
+    let table = c.args.types.now in
+    let graph = graph_in table c.args.graph.now in
+    only_same (AsksCopy graph (bare table c.args.callee.now) (numbers_in c.args.copies.now)) graph
+
+pub returns-in_default-node-clause-only : goal.returns-in_default-node-clause-only
+returns-in_default-node-clause-only c =
+    let table = c.args.types.now in
+    let graph = graph_in table c.args.graph.now in
+    only_same (AsksCopy graph (bare table c.args.callee.now) (numbers_in c.args.copies.now)) graph
+
+pub returns-else-node-clause-only : goal.returns-else-node-clause-only
+returns-else-node-clause-only c =
+    let table = c.args.types.now in
+    let graph = graph_in table c.args.graph.now in
+    only_same (AsksCopy graph (bare table c.args.callee.now) (numbers_in c.args.copies.now)) graph
+
+pub returns-then-types_differ-clause-only : goal.returns-then-types_differ-clause-only
+returns-then-types_differ-clause-only c =
+    let table = c.args.types.now in
+    let callee = c.args.callee.now in
+    let old = graph_in table c.args.graph.now in
+    let number = c.in-Some-target.target.node in
+    let own = c.in-Some.node.now in
+    let seen = told_node table old number c.in-Some-node.element c.in-Some-node.flags (c.in-Some-node.ensures.tells table) in
+    one_asked (AsksCopy old (bare table callee) (numbers_in c.args.copies.now)) old (graph_in table c.set_flags.new.self) number seen.node (record (flags_of c.in-Some-node.flags) { array = true }) seen.is
+    (record {
+      from = c.args.number;
+      copy = c.in-Some-get.copy.now;
+      of = sym c.in-Some-get.ensures.value;
+      node = node_in table own;
+      there = node_before table callee.nodes.items (bare table callee) refl c.args.number own c.in-Some.ensures;
+      target = target_of c.in-Some-target.target;
+      is = sym (c.in-Some-target.ensures table c.requires.graph);
+      at = refl;
+      asks = and_from own.flags.heap (types_differ (element_in table own.element) seen.node.element) c.if-node.true
+          (ap (types_differ (element_in table own.element)) (sym seen.element) ∙ (sym c.types_differ.ensures ∙ c.if-types_differ.true));
+    })
+    (c.set_flags.ensures.sets table)

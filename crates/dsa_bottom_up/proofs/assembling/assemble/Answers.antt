@@ -3,14 +3,17 @@ use Rattle.tac_ir.specs.Views.{tac_of}
 use Rattle.c_typed.specs.Table.{structs_in}
 use Rattle.graph_memory.specs.Memory.{graph_in}
 use Rattle.graph_steps.specs.Leading.{Leads}
+use Rattle.call_copies.specs.Telling.{OnlyAsked}
 use Rattle.group_rounds.specs.Rounds.{owners_of, Settled, AreFit}
-use Rattle.group_rounds.specs.Sizes.{SizesTold}
+use Rattle.group_rounds.specs.Growing.{OnlyArrays}
+use Rattle.group_rounds.specs.Sizes.{SizesTold, AsksOwner}
 use Rattle.dsa_local.proofs.Fitted.{all_fit}
 use Rattle.group_crossings.specs.Before.{graphs_before}
+use Rattle.group_crossings.specs.Asking.{AsksCall}
 use Rattle.group_crossings.specs.Crossings.{owners_in, EachStands, AllCopiesTold}
 use Rattle.group_crossings.proofs.Keeping.{stands_each}
 use Rattle.dsa_bottom_up.specs.Assembling.{TellEach}
-use Rattle.dsa_bottom_up.proofs.Leading.{sized_leads}
+use Rattle.dsa_bottom_up.proofs.Leading.{settled_leads}
 use Rattle.dsa_bottom_up.proofs.Crossed.{crossing_sized, goes_all, assembled}
 use Rattle.dsa_bottom_up.proofs.assembling.assemble.Goals as goal
 
@@ -68,9 +71,10 @@ returns c =
     let scoped : owners_of c.deref.result.now ≡ owners_in owners = ap owners_of c.deref.ensures.value ∙ c.requires.owned in
     let its = crossing_sized before made group owners all begun crossed settled grown c.requires.graph.sound first.graph.sound next.graph.sound sized.graph.sound first.goes next.goes sized.goes c.requires.joined
     first.told first.crossed next.leads.names sized.grows.names in
-    assembled before made group owners all begun grown done frozen functions
+    assembled before made group owners all begun settled grown done frozen functions c.requires.reached
     (goes_all before made group owners begun crossed settled grown done c.requires.graph.sound first.goes next.goes sized.goes last.goes) its first.apart
-    (sized_leads before group owners all begun crossed settled grown first.leads (subst (λ os. Leads (structs_in tac.types) crossed settled (Settled (tac_of tac) os)) scoped next.leads) sized.grows)
+    (settled_leads before group owners all begun crossed settled first.leads (subst (λ os. Leads (structs_in tac.types) crossed settled (Settled (tac_of tac) os)) scoped next.leads)) sized.grows
+    (subst (λ os. OnlyArrays (AsksOwner (tac_of tac) os settled) settled grown) same sized.arrays) (subst (λ l. OnlyAsked (AsksCall before l grown) grown done) c.deref-3.ensures.value last.only)
     last.graph.sound last.goes last.arrays
     (subst (λ os. Settled (tac_of tac) os grown) same sized.settled) (subst (λ os. SizesTold (tac_of tac) os grown) same sized.told)
     (subst (λ l. AllCopiesTold before l done) c.deref-3.ensures.value last.told) (c.in_ok-frozen.ensures tac.types last.graph)

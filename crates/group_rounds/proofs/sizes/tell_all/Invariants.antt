@@ -4,8 +4,8 @@ use Rattle.tac_ir.specs.Views.{tac_of, op_in}
 use Rattle.function_scopes.specs.Known.{owner_at}
 use Rattle.graph_memory.specs.Memory.{graph_in, IsGraph}
 use Rattle.made_graphs.specs.Going.{GoesOn}
-use Rattle.group_rounds.specs.Growing.{OnlyFlagsGrow}
-use Rattle.group_rounds.specs.Sizes.{AllSizesTold, SizesGoOn}
+use Rattle.group_rounds.specs.Growing.{OnlyFlagsGrow, OnlyArrays}
+use Rattle.group_rounds.specs.Sizes.{AllSizesTold, SizesGoOn, AsksPoint}
 use Rattle.group_rounds.proofs.sizes.tell_all.Given as goal
 
 abbrev pub invariant-loop-op : goal.invariant-loop-op
@@ -14,4 +14,5 @@ invariant-loop-op l = record {
   goes : GoesOn (structs_in l.tac.types) (graph_in l.tac.types l.fn.graph) (graph_in l.tac.types l.graph);
   grows : OnlyFlagsGrow (graph_in l.tac.types l.fn.graph) (graph_in l.tac.types l.graph);
   told : SizesGoOn (graph_in l.tac.types l.graph) (AllSizesTold (tac_of l.tac) (owner_at l.owner) (map (op_in l.tac.types) (drop l.op-index l.points))) (AllSizesTold (tac_of l.tac) (owner_at l.owner) (map (op_in l.tac.types) l.points));
+  arrays : OnlyArrays (AsksPoint (tac_of l.tac) (owner_at l.owner) (map (op_in l.tac.types) l.points) (graph_in l.tac.types l.fn.graph)) (graph_in l.tac.types l.fn.graph) (graph_in l.tac.types l.graph);
 }

@@ -1,4 +1,4 @@
-use Rattle.std.proofs.Common.{sym, ap, subst, ◌∙◌}
+use Rattle.std.proofs.Common.{refl, sym, ap, subst, ◌∙◌}
 use Rattle.c_typed.specs.Table.{structs_in}
 use Rattle.tac_ir.specs.Views.{tree_of}
 use Rattle.heap_graph.specs.Graphs.{node_at}
@@ -12,6 +12,8 @@ use Rattle.graph_steps.proofs.Seen.{told_node, told_none}
 use Rattle.made_graphs.proofs.Goes.{goes_same, least_goes}
 use Rattle.group_rounds.specs.Sizes.{is_size_of}
 use Rattle.group_rounds.proofs.Grown.{grown_by_array}
+use Rattle.group_rounds.specs.Sizes.{AsksSize}
+use Rattle.group_rounds.proofs.ArraySteps.{arrays_same, array_set}
 use Rattle.group_rounds.proofs.SizeSteps.{one_object, of_array}
 use Rattle.group_rounds.proofs.sizes.tell_size.Goals as goal
 
@@ -69,4 +71,40 @@ returns-clause-told c =
     let new = graph_in table c.set_flags.new.self in
     let told = told_node table old number c.in-Some-node.element c.in-Some-node.flags (c.in-Some-node.ensures.tells table) in
     of_array (structs_in table) (name_of c.args.name) (tree_of c.args.size.now) old new (target_of c.in-Some.target) told.node (c.in-Some.ensures table c.requires.graph) told.is
+    (subst (λ f. SetsFlags old new number f) (ap (marked K.Array) told.flags) (c.set_flags.ensures.sets table))
+
+pub returns-in_default-clause-arrays : goal.returns-in_default-clause-arrays
+returns-in_default-clause-arrays c =
+    let table = c.args.types.now in
+    let graph = graph_in table c.args.graph.now in
+    arrays_same (AsksSize (structs_in table) (name_of c.args.name) (tree_of c.args.size.now) graph) graph
+
+pub returns-in_default-node-clause-arrays : goal.returns-in_default-node-clause-arrays
+returns-in_default-node-clause-arrays c =
+    let table = c.args.types.now in
+    let graph = graph_in table c.args.graph.now in
+    arrays_same (AsksSize (structs_in table) (name_of c.args.name) (tree_of c.args.size.now) graph) graph
+
+pub returns-then-is_size_of-clause-arrays : goal.returns-then-is_size_of-clause-arrays
+returns-then-is_size_of-clause-arrays c =
+    let table = c.args.types.now in
+    let graph = graph_in table c.args.graph.now in
+    arrays_same (AsksSize (structs_in table) (name_of c.args.name) (tree_of c.args.size.now) graph) graph
+
+pub returns-clause-arrays : goal.returns-clause-arrays
+returns-clause-arrays c =
+    let table = c.args.types.now in
+    let structs = structs_in table in
+    let size = tree_of c.args.size.now in
+    let number = c.in-Some.target.node in
+    let old = graph_in table c.args.graph.now in
+    let new = graph_in table c.set_flags.new.self in
+    let told = told_node table old number c.in-Some-node.element c.in-Some-node.flags (c.in-Some-node.ensures.tells table) in
+    array_set (AsksSize structs (name_of c.args.name) size old) old new number told.node told.is
+    (record {
+      target = target_of c.in-Some.target;
+      is = sym (c.in-Some.ensures table c.requires.graph);
+      node = refl;
+      differs = sym (ap (is_size_of structs size) told.element) ∙ (sym c.is_size_of.ensures ∙ c.if-is_size_of.false);
+    })
     (subst (λ f. SetsFlags old new number f) (ap (marked K.Array) told.flags) (c.set_flags.ensures.sets table))

@@ -1,14 +1,19 @@
-use Rattle.std.proofs.Common.{◌+◌, [], drop, subst}
+use Rattle.std.proofs.Common.{◌≡◌, ◌+◌, [], drop, length, Some, refl, ap, subst, ◌∙◌}
+use Rattle.std.specs.Prelude.{slice_get, option_map}
+use Rattle.std.proofs.lemmas.Option.{slice_get_read, slice_get-map}
 use Rattle.c_typed.specs.Table.{structs_in}
 use Rattle.tac_ir.specs.Views.{tac_of}
+use Rattle.function_scopes.specs.declared.scope.Scope.{Scope}
 use Rattle.function_scopes.specs.Known.{owner_at}
 use Rattle.graph_memory.specs.Memory.{graph_in}
 use Rattle.made_graphs.proofs.Goes.{goes_same, goes_then}
 use Rattle.group_rounds.specs.Rounds.{points_at, owners_of}
-use Rattle.group_rounds.specs.Sizes.{AllSizesTold, SizesTold, SizesGoOn}
+use Rattle.group_rounds.specs.Growing.{OnlyArrays}
+use Rattle.group_rounds.specs.Sizes.{AllSizesTold, SizesTold, SizesGoOn, AsksPoint, AsksOwner}
 use Rattle.group_rounds.proofs.RoundSteps.{next_of, none_left}
 use Rattle.group_rounds.proofs.Grown.{grown_same, grown_then}
 use Rattle.group_rounds.proofs.GrownPoints.{settled_grown}
+use Rattle.group_rounds.proofs.ArraySteps.{arrays_same, arrays_then, arrays_more, owner_asked}
 use Rattle.group_rounds.proofs.SizeSteps.{sizes_begin, sizes_on, sizes_end, all_sizes_grown}
 use Rattle.group_rounds.proofs.sizes.tell_sizes.Goals as goal
 
@@ -21,6 +26,7 @@ loop-scope-init c =
       goes = goes_same (structs_in tac.types) c.requires.made graph c.requires.graph.sound;
       grows = grown_same graph;
       told = sizes_begin graph (SizesTold (tac_of tac) (owners_of c.args.scopes.now));
+      arrays = arrays_same (AsksOwner (tac_of tac) (owners_of c.args.scopes.now) graph) graph;
     }
 
 pub loop-scope-preserved : goal.loop-scope-preserved
@@ -36,6 +42,9 @@ loop-scope-preserved c =
     let left = owners_of (drop (index + 1) scopes) in
     let all = SizesTold code (owners_of scopes) in
     let here = next_of scopes index c.scope-item.result c.scope-item.is c.loop-scope-test.true in
+    let at : slice_get (owners_of scopes) index ≡ Some owner =
+    slice_get-map (λ (scope : Scope). owner_at scope.owner) scopes index
+    ∙ ap (option_map (λ (scope : Scope). owner_at scope.owner)) (slice_get_read scopes (length scopes) index c.scope-item.result refl c.loop-scope-test.true c.scope-item.is) in
     record {
       graph = c.tell_all.ensures.graph;
       goes = goes_then (structs_in tac.types) c.requires.made start graph next c.requires.graph.sound c.loop-scope.invariant.goes c.tell_all.ensures.goes;
@@ -43,6 +52,10 @@ loop-scope-preserved c =
       told = sizes_on graph next (AllSizesTold code owner (points_at code owner)) (SizesTold code left) all (λ new more. all_sizes_grown code next new more owner (points_at code owner))
           (subst (λ l. SizesGoOn graph (SizesTold code (owners_of l)) all) here c.loop-scope.invariant.told) c.tell_all.ensures.grows
           (subst (λ l. AllSizesTold code owner l next) c.points_of.ensures c.tell_all.ensures.told);
+      arrays = arrays_then (AsksOwner code (owners_of scopes) start) start graph next c.loop-scope.invariant.grows c.loop-scope.invariant.arrays
+          (arrays_more (AsksPoint code owner (points_at code owner) graph) (AsksOwner code (owners_of scopes) start) graph next
+          (owner_asked start graph c.loop-scope.invariant.grows.names code (owners_of scopes) index owner at)
+          (subst (λ l. OnlyArrays (AsksPoint code owner l graph) graph next) c.points_of.ensures c.tell_all.ensures.arrays));
     }
 
 pub returns-clause-settled : goal.returns-clause-settled

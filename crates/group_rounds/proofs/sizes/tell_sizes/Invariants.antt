@@ -4,8 +4,8 @@ use Rattle.tac_ir.specs.Views.{tac_of}
 use Rattle.graph_memory.specs.Memory.{graph_in, IsGraph}
 use Rattle.made_graphs.specs.Going.{GoesOn}
 use Rattle.group_rounds.specs.Rounds.{owners_of}
-use Rattle.group_rounds.specs.Growing.{OnlyFlagsGrow}
-use Rattle.group_rounds.specs.Sizes.{SizesTold, SizesGoOn}
+use Rattle.group_rounds.specs.Growing.{OnlyFlagsGrow, OnlyArrays}
+use Rattle.group_rounds.specs.Sizes.{SizesTold, SizesGoOn, AsksOwner}
 use Rattle.group_rounds.proofs.sizes.tell_sizes.Given as goal
 
 abbrev pub invariant-loop-scope : goal.invariant-loop-scope
@@ -14,4 +14,5 @@ invariant-loop-scope l = record {
   goes : GoesOn (structs_in l.tac.types) (graph_in l.tac.types l.fn.graph) (graph_in l.tac.types l.graph);
   grows : OnlyFlagsGrow (graph_in l.tac.types l.fn.graph) (graph_in l.tac.types l.graph);
   told : SizesGoOn (graph_in l.tac.types l.graph) (SizesTold (tac_of l.tac) (owners_of (drop l.scope-index l.scopes))) (SizesTold (tac_of l.tac) (owners_of l.scopes));
+  arrays : OnlyArrays (AsksOwner (tac_of l.tac) (owners_of l.scopes) (graph_in l.tac.types l.fn.graph)) (graph_in l.tac.types l.fn.graph) (graph_in l.tac.types l.graph);
 }

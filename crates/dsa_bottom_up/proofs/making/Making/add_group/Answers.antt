@@ -12,10 +12,11 @@ use Rattle.group_freezing.specs.Owners.{IsFunctionOf}
 use Rattle.dsa_local.specs.Local.{IsJoinedGroup, LeadsJoined, owners_at}
 use Rattle.group_crossings.specs.Before.{GraphsBefore, graphs_before, is_inside}
 use Rattle.group_crossings.specs.Crossings.{AllReached, owners_in}
+use Rattle.group_crossings.specs.Live.{AreLive}
 use Rattle.assembled_groups.specs.Assembled.{IsAssembled}
 use Rattle.assembled_groups.proofs.Growing.{all_reached}
 use Rattle.dsa_bottom_up.specs.Making.{made_in}
-use Rattle.dsa_bottom_up.proofs.Keeping.{group_added, least_added, begins_still, members_are, members_apart, owners_are, members_below}
+use Rattle.dsa_bottom_up.proofs.Keeping.{group_added, live_added, least_added, bare_added, begins_still, members_are, members_apart, owners_are, members_below}
 use Rattle.dsa_bottom_up.proofs.making.Making.add_group.Goals as goal
 
 listed : (lists : List (Vec FunctionId Global)) (n : ℕ) (list : Vec FunctionId Global) (members : List FunctionId) → n < length lists → list ≡ get_or lists n list → members ≡ list.items
@@ -31,6 +32,7 @@ assemble-requires-clause-known c =
       code = subst (λ (g : GraphsBefore). CodeStands (tac_of g.tac)) same c.requires.grouped.stands.code;
       literals = subst (λ (g : GraphsBefore). LiteralsStand g.tac.types g.tac.literals.items) same c.requires.grouped.literals;
       groups = subst (λ (g : GraphsBefore). IsOf g.tac g.groups) same c.requires.grouped.of;
+      live = subst (λ (g : GraphsBefore). AreLive g.tac g.escaping g.live) same c.requires.live.live;
     }
 
 pub assemble-requires-clause-owners : goal.assemble-requires-clause-owners
@@ -120,6 +122,16 @@ returns-in-Ok-clause-making c =
     (subst (λ os. IsAssembled (graphs_before c.before-2.result) (Some n) os begun graph functions) list c.in_ok-made.ensures) in
     group_added tac groups n members c.requires.grouped row c.args.self.now c.keep.new.self c.push.new.self begun graph functions c.requires.making assembled c.in_ok-keep.ensures c.in-Ok.ensures.items
 
+pub returns-in-Ok-clause-live : goal.returns-in-Ok-clause-live
+returns-in-Ok-clause-live c =
+    let tac = c.args.tac.now in
+    let groups = c.args.groups.now in
+    let n = c.args.number in
+    let members = c.as_slice-members.result.now in
+    let row : slice_get (groups_of groups) n ≡ Some (numbers_of members) =
+    listed groups.members.items n c.index.result.now members c.requires.within c.index.ensures c.as_slice-members.ensures.value in
+    live_added tac groups n members c.requires.grouped row c.args.self.now c.keep.new.self c.push.new.self c.in_ok-made.made.graph c.in_ok-made.made.functions.items c.requires.live c.in_ok-keep.ensures
+
 pub returns-in-Ok-clause-least : goal.returns-in-Ok-clause-least
 returns-in-Ok-clause-least c = λ start.
     let tac = c.args.tac.now in
@@ -138,6 +150,30 @@ returns-in-Ok-clause-least c = λ start.
     subst (λ (g : GraphsBefore). IsAssembled g (Some n) (map Some members) (graph_in g.tac.types local) graph functions) c.before-2.ensures
     (subst (λ os. IsAssembled (graphs_before c.before-2.result) (Some n) os (graph_in c.before-2.result.tac.now.types local) graph functions) list c.in_ok-made.ensures) in
     least_added tac groups n members c.requires.grouped row c.args.self.now c.keep.new.self c.push.new.self begun graph functions start c.requires.making assembled
+    (record {
+      leads = subst (λ os. LeadsJoined (tac_of tac) os (is_inside groups (Some n)) begun) (owners_are tac groups n members c.requires.grouped row) c.in_ok-local.ensures.leads;
+      copies = c.in_ok-local.ensures.copies;
+    })
+    c.in_ok-keep.ensures c.in-Ok.ensures.items
+
+pub returns-in-Ok-clause-bare : goal.returns-in-Ok-clause-bare
+returns-in-Ok-clause-bare c = λ start.
+    let tac = c.args.tac.now in
+    let groups = c.args.groups.now in
+    let n = c.args.number in
+    let members = c.as_slice-members.result.now in
+    let row : slice_get (groups_of groups) n ≡ Some (numbers_of members) =
+    listed groups.members.items n c.index.result.now members c.requires.within c.index.ensures c.as_slice-members.ensures.value in
+    let list : c.deref.result.now ≡ map Some members = c.deref.ensures.value ∙ c.in_ok-owners.ensures in
+    let graph = c.in_ok-made.made.graph in
+    let functions = c.in_ok-made.made.functions.items in
+    let before = made_in tac groups c.args.self.now in
+    let local = c.in_ok-local.local.graph in
+    let begun = graph_in tac.types local in
+    let assembled =
+    subst (λ (g : GraphsBefore). IsAssembled g (Some n) (map Some members) (graph_in g.tac.types local) graph functions) c.before-2.ensures
+    (subst (λ os. IsAssembled (graphs_before c.before-2.result) (Some n) os (graph_in c.before-2.result.tac.now.types local) graph functions) list c.in_ok-made.ensures) in
+    bare_added tac groups n members c.requires.grouped row c.args.self.now c.keep.new.self c.push.new.self begun graph functions start c.requires.making assembled
     (record {
       leads = subst (λ os. LeadsJoined (tac_of tac) os (is_inside groups (Some n)) begun) (owners_are tac groups n members c.requires.grouped row) c.in_ok-local.ensures.leads;
       copies = c.in_ok-local.ensures.copies;

@@ -6,8 +6,11 @@ use Rattle.function_groups.specs.GroupViews.{groups_of}
 use Rattle.group_crossings.specs.Before.{GraphsBefore, graphs_before}
 use Rattle.dsa_bottom_up.specs.Making.{made_in}
 use Rattle.dsa_bottom_up.specs.Refused.{limit}
-use Rattle.dsa_bottom_up.proofs.Outside.{counts_group, row_read, group_told}
+use Rattle.dsa_bottom_up.proofs.Outside.{known_of, counts_group, row_read, group_told}
 use Rattle.dsa_bottom_up.proofs.making.Making.count_group.Goals as goal
+
+pub group_count-requires : goal.group_count-requires
+group_count-requires c = known_of c.before-2.result (made_in c.args.tac.now c.args.groups.now c.args.self.now) c.before-2.ensures c.requires.grouped c.args.number c.requires.making c.requires.live
 
 pub returns-clause-few : goal.returns-clause-few
 returns-clause-few c =

@@ -1,10 +1,15 @@
-use Rattle.std.proofs.Common.{◌<◌, sym, subst, ◌∙◌}
+use Rattle.std.proofs.Common.{◌<◌, length, sym, subst, ◌∙◌}
 use Rattle.std.proofs.lemmas.Result.{on_ok_weaker}
+use Rattle.function_groups.specs.GroupViews.{groups_of}
 use Rattle.group_crossings.specs.Before.{GraphsBefore, graphs_before}
 use Rattle.dsa_bottom_up.specs.Making.{made_in}
 use Rattle.dsa_bottom_up.specs.Refused.{limit}
-use Rattle.dsa_bottom_up.proofs.Outside.{counts_start, start_told}
+use Rattle.dsa_bottom_up.proofs.Outside.{known_of, counts_start, start_told}
 use Rattle.dsa_bottom_up.proofs.making.Making.count_start.Goals as goal
+
+pub start_count-requires : goal.start_count-requires
+start_count-requires c =
+    known_of c.before-2.result (made_in c.args.tac.now c.args.groups.now c.args.self.now) c.before-2.ensures c.requires.grouped (length (groups_of c.args.groups.now)) c.requires.making c.requires.live
 
 pub returns-clause-few : goal.returns-clause-few
 returns-clause-few c =

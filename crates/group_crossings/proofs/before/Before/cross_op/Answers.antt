@@ -5,12 +5,12 @@ use Rattle.tac_ir.specs.Code as O
 use Rattle.tac_ir.specs.Code.{Op}
 use Rattle.tac_ir.specs.Views.{op_in, callee_in, tac_of}
 use Rattle.call_targets.specs.ClassLists.{numbers_of}
-use Rattle.call_targets.specs.TargetLists.{AreTargets}
 use Rattle.function_groups.proofs.CallSteps.{no_call}
 use Rattle.graph_memory.specs.Memory.{owner_of}
 use Rattle.graph_points.proofs.NamedSteps.{on_ok}
 use Rattle.outer_calls.specs.Crossed.{CallNamed}
 use Rattle.group_crossings.specs.Before.{graphs_before}
+use Rattle.group_crossings.specs.Live.{AreLiveTargets}
 use Rattle.group_crossings.specs.CallSteps.{shown, IsPoint, TargetsCross, PointCrosses, Crosses}
 use Rattle.group_crossings.proofs.Naming.{point_named, targets_out}
 use Rattle.group_crossings.proofs.Stepping.{crosses_same, no_call_crosses, call_done}
@@ -39,9 +39,9 @@ cross_targets-requires-clause-out c =
     let callee = callee_in table c.in-Call.callee in
     let call = O.Call c.in-Call.site callee c.in-Call.arguments.items in
     let point : IsPoint (tac_of self.tac.now) owner call = subst (IsPoint (tac_of self.tac.now) owner) (ap (op_in table) c.in-Call.is) c.requires.point in
-    let are : AreTargets (tac_of self.tac.now) callee (numbers_of c.in_ok-targets-in-Call.targets.items) = c.in_ok-targets-in-Call.ensures c.requires.known.groups.classes in
+    let are : AreLiveTargets before callee (numbers_of c.in_ok-targets-in-Call.targets.items) = c.in_ok-targets-in-Call.ensures in
     targets_out before group owner c.in-Call.site callee c.in-Call.arguments.items c.requires.reached point (numbers_of c.deref-in-Call.result.now)
-    (subst (λ (l : List FunctionId). AreTargets (tac_of self.tac.now) callee (numbers_of l)) (sym c.deref-in-Call.ensures.value) are)
+    (subst (λ (l : List FunctionId). AreLiveTargets before callee (numbers_of l)) (sym c.deref-in-Call.ensures.value) are)
 
 pub cross_targets-requires-clause-named : goal.cross_targets-requires-clause-named
 cross_targets-requires-clause-named c =
@@ -72,7 +72,7 @@ returns-in_ok-targets-in-Call-clause-crosses c =
     let old = shown self c.args.graph.now in
     let new = shown self c.cross_targets.new.graph in
     let same : op_in table c.args.op.now ≡ call = ap (op_in table) c.in-Call.is in
-    let are : AreTargets (tac_of self.tac.now) callee (numbers_of c.in_ok-targets-in-Call.targets.items) = c.in_ok-targets-in-Call.ensures c.requires.known.groups.classes in
+    let are : AreLiveTargets before callee (numbers_of c.in_ok-targets-in-Call.targets.items) = c.in_ok-targets-in-Call.ensures in
     on_ok c.cross_targets.result c.cross_targets.ensures.crosses
     (λ its.
     subst (λ (op : Op). Crosses before group owner (PointCrosses before group owner op) own after old new) (sym same)

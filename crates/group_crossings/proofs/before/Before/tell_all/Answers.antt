@@ -3,8 +3,11 @@ use Rattle.std.proofs.lemmas.Option.{slice_get_read}
 use Rattle.c_typed.specs.Table.{structs_in}
 use Rattle.graph_memory.specs.Memory.{graph_in}
 use Rattle.made_graphs.proofs.Goes.{goes_same, goes_then}
+use Rattle.call_copies.proofs.AskedCopies.{only_same, only_then, only_more}
 use Rattle.call_copies.proofs.Told.{nothing_told, arrays_then}
 use Rattle.group_crossings.specs.Before.{graphs_before}
+use Rattle.group_crossings.specs.Asking.{AsksOwn, AsksCall}
+use Rattle.group_crossings.proofs.AskedCalls.{call_asked}
 use Rattle.group_crossings.proofs.ToldCopies.{OwnTold, first_more, owners_still, all_told}
 use Rattle.group_crossings.proofs.before.Before.tell_all.Goals as goal
 
@@ -16,6 +19,7 @@ loop-own-init c =
       goes = goes_same (structs_in table) c.requires.made (graph_in table c.args.graph.now) c.requires.graph.sound;
       arrays = nothing_told (graph_in table c.args.graph.now);
       told = λ place own less there. absurd (omega (arith, less));
+      only = only_same (AsksCall (graphs_before c.args.self) c.args.all.now (graph_in table c.args.graph.now)) (graph_in table c.args.graph.now);
     }
 
 pub tell_own-requires-clause-reached : goal.tell_own-requires-clause-reached
@@ -39,6 +43,9 @@ loop-own-preserved c =
       goes = goes_then (structs_in table) c.requires.made old middle new c.requires.graph.sound c.loop-own.invariant.goes c.tell_own.ensures.goes;
       arrays = arrays_then old middle new c.loop-own.invariant.arrays c.tell_own.ensures.arrays;
       told = first_more (OwnTold before new) all index c.own-item.result there (owners_still before middle new c.tell_own.ensures.arrays all index c.loop-own.invariant.told) c.tell_own.ensures.told;
+      only = only_then (AsksCall before all old) old middle new c.loop-own.invariant.arrays c.loop-own.invariant.only
+          (only_more (AsksOwn before c.own-item.result middle) (AsksCall before all old) middle new
+          (call_asked before old middle c.loop-own.invariant.arrays.names all index c.own-item.result there) c.tell_own.ensures.only);
     }
 
 pub returns-clause-told : goal.returns-clause-told

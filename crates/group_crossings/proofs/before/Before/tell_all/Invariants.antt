@@ -1,8 +1,9 @@
 use Rattle.c_typed.specs.Table.{structs_in}
 use Rattle.graph_memory.specs.Memory.{graph_in, IsGraph}
 use Rattle.made_graphs.specs.Going.{GoesOn}
-use Rattle.call_copies.specs.Telling.{ArraysTold}
+use Rattle.call_copies.specs.Telling.{ArraysTold, OnlyAsked}
 use Rattle.group_crossings.specs.Before.{graphs_before}
+use Rattle.group_crossings.specs.Asking.{AsksCall}
 use Rattle.group_crossings.proofs.ToldCopies.{EachFirst, OwnTold}
 use Rattle.group_crossings.proofs.before.Before.tell_all.Given as goal
 
@@ -13,4 +14,5 @@ invariant-loop-own l = record {
   goes : GoesOn (structs_in l.self.tac.now.types) (graph_in l.self.tac.now.types l.fn.graph) (graph_in l.self.tac.now.types l.graph);
   arrays : ArraysTold (graph_in l.self.tac.now.types l.fn.graph) (graph_in l.self.tac.now.types l.graph);
   told : EachFirst (OwnTold (graphs_before l.self) (graph_in l.self.tac.now.types l.graph)) l.all l.own-index;
+  only : OnlyAsked (AsksCall (graphs_before l.self) l.all (graph_in l.self.tac.now.types l.fn.graph)) (graph_in l.self.tac.now.types l.fn.graph) (graph_in l.self.tac.now.types l.graph);
 }

@@ -3,10 +3,17 @@ use Rattle.graph_memory.specs.Memory.{graph_in}
 use Rattle.frozen_graphs.specs.Frozen.{bare}
 use Rattle.frozen_graphs.specs.declared.frozen.FrozenGraph.{FrozenGraph}
 use Rattle.call_copies.specs.Copied.{numbers_in}
-use Rattle.call_copies.specs.Telling.{CopiesTold}
+use Rattle.call_copies.specs.Telling.{CopiesTold, AsksCopy, OnlyAsked}
 use Rattle.group_crossings.proofs.before.Before.tell_one.Goals as goal
 
 pub returns-clause-told : goal.returns-clause-told
 returns-clause-told c = λ reached.
     let table = c.args.self.tac.now.types in
     subst (λ (callee : FrozenGraph). CopiesTold (graph_in table c.tell_copies.new.graph) (bare table callee) (numbers_in c.args.copies.now)) (sym (c.graph_of-callee.ensures reached)) c.tell_copies.ensures.told
+
+pub returns-clause-only : goal.returns-clause-only
+returns-clause-only c = λ reached.
+    let table = c.args.self.tac.now.types in
+    let old = graph_in table c.args.graph.now in
+    subst (λ (callee : FrozenGraph). OnlyAsked (AsksCopy old (bare table callee) (numbers_in c.args.copies.now)) old (graph_in table c.tell_copies.new.graph)) (sym (c.graph_of-callee.ensures reached))
+    c.tell_copies.ensures.only

@@ -5,8 +5,13 @@ use Rattle.std.specs.Map.Iter.{deref_pair}
 use Rattle.c_typed.specs.Table.{structs_in}
 use Rattle.graph_memory.specs.Memory.{graph_in}
 use Rattle.made_graphs.proofs.Goes.{goes_same, goes_then}
+use Rattle.call_copies.specs.Copied.{numbers_in}
+use Rattle.call_copies.specs.Telling.{AsksCopy}
+use Rattle.call_copies.proofs.AskedCopies.{only_same, only_then, only_more}
 use Rattle.call_copies.proofs.Told.{nothing_told, arrays_then}
-use Rattle.group_crossings.specs.Before.{graphs_before}
+use Rattle.group_crossings.specs.Before.{graphs_before, nodes_reached}
+use Rattle.group_crossings.specs.Asking.{AsksOwn}
+use Rattle.group_crossings.proofs.AskedCalls.{own_asked}
 use Rattle.group_crossings.proofs.FrozenEntries.{call_found}
 use Rattle.group_crossings.proofs.ToldCopies.{EachFirst, EntryTold, first_more, entries_still, own_told}
 use Rattle.group_crossings.proofs.before.Before.tell_own.Goals as goal
@@ -19,6 +24,7 @@ loop-crossing-init c =
       goes = goes_same (structs_in table) c.requires.made (graph_in table c.args.graph.now) c.requires.graph.sound;
       arrays = nothing_told (graph_in table c.args.graph.now);
       told = λ place entry less there. absurd (omega (arith, less));
+      only = only_same (AsksOwn (graphs_before c.args.self) c.args.own.now (graph_in table c.args.graph.now)) (graph_in table c.args.graph.now);
     }
 
 pub tell_one-requires-clause-graph : goal.tell_one-requires-clause-graph
@@ -43,6 +49,11 @@ loop-crossing-preserved c =
     let yielded = c.loop-crossing.yielded in
     let turn = iter_turn deref_pair entries yielded c.into_iter-crossing-iterator.result c.loop-crossing.crossing-iterator c.next.new.self c.next.result
     (c.into_iter-crossing-iterator.ensures.into_iter_gives ∙ c.iter-crossing-items.ensures.rest) c.loop-crossing.yielded_by (c.in-Some.crossing, c.in-Some.copies) c.in-Some.is c.next.ensures.steps in
+    let site = c.in-Some.crossing.now.site in
+    let called = c.in-Some.crossing.now.called in
+    let copies = c.in-Some.copies.now in
+    let found = call_found c.args.own.now.copies c.iter-crossing-items.ensures.unique (length yielded) c.in-Some.crossing.now copies turn.1 in
+    let reached = c.requires.reached site called copies found in
     record {
       graph = c.tell_one.ensures.graph;
       goes = goes_then (structs_in table) c.requires.made old middle new c.requires.graph.sound c.loop-crossing.invariant.goes c.tell_one.ensures.goes;
@@ -51,6 +62,9 @@ loop-crossing-preserved c =
           subst (λ n. EachFirst (EntryTold before new) entries n) (sym (length_push yielded (c.in-Some.crossing, c.in-Some.copies)))
           (first_more (EntryTold before new) entries (length yielded) (c.in-Some.crossing.now, c.in-Some.copies.now) turn.1
           (entries_still before middle new c.tell_one.ensures.arrays entries (length yielded) c.loop-crossing.invariant.told) c.tell_one.ensures.told);
+      only = only_then (AsksOwn before c.args.own.now old) old middle new c.loop-crossing.invariant.arrays c.loop-crossing.invariant.only
+          (only_more (AsksCopy middle (nodes_reached before called reached) (numbers_in copies)) (AsksOwn before c.args.own.now old) middle new
+          (own_asked before old middle c.loop-crossing.invariant.arrays.names c.args.own.now site called copies found reached) (c.tell_one.ensures.only reached));
     }
 
 pub returns-clause-told : goal.returns-clause-told

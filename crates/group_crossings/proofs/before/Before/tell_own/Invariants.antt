@@ -2,8 +2,9 @@ use Rattle.std.proofs.Common.{length}
 use Rattle.c_typed.specs.Table.{structs_in}
 use Rattle.graph_memory.specs.Memory.{graph_in, IsGraph}
 use Rattle.made_graphs.specs.Going.{GoesOn}
-use Rattle.call_copies.specs.Telling.{ArraysTold}
+use Rattle.call_copies.specs.Telling.{ArraysTold, OnlyAsked}
 use Rattle.group_crossings.specs.Before.{graphs_before}
+use Rattle.group_crossings.specs.Asking.{AsksOwn}
 use Rattle.group_crossings.proofs.ToldCopies.{EachFirst, EntryTold}
 use Rattle.group_crossings.proofs.before.Before.tell_own.Given as goal
 
@@ -14,4 +15,5 @@ invariant-loop-crossing l = record {
   goes : GoesOn (structs_in l.self.tac.now.types) (graph_in l.self.tac.now.types l.fn.graph) (graph_in l.self.tac.now.types l.graph);
   arrays : ArraysTold (graph_in l.self.tac.now.types l.fn.graph) (graph_in l.self.tac.now.types l.graph);
   told : EachFirst (EntryTold (graphs_before l.self) (graph_in l.self.tac.now.types l.graph)) l.own.copies.entries (length l.yielded);
+  only : OnlyAsked (AsksOwn (graphs_before l.self) l.own (graph_in l.self.tac.now.types l.fn.graph)) (graph_in l.self.tac.now.types l.fn.graph) (graph_in l.self.tac.now.types l.graph);
 }
