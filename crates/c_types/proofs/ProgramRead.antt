@@ -89,6 +89,12 @@ leaves-item scope (Trees.Function base declarator place body) =
     let based = base_type scope base in
     leaves-then (leaves-base scope base) (leaves-function based.scope (base_place base) based.type_of.known declarator body (declared_name declarator))
 
+-- outside functions no local is in scope, behind an item either
+pub stays-outside : (scope : Scope) (tree : ItemTree) → IsOutside scope → IsOutside (item scope tree).scope
+stays-outside scope tree outside =
+    let leaves = leaves-item scope tree in
+    (leaves.inner ∙ outside.0, leaves.outer ∙ outside.1)
+
 -- ---- types that were named stay, also where a structure is completed
 
 module _ (old new : Interned) (grows : Grows (without_structs old) (without_structs new)) where

@@ -51,7 +51,7 @@ pub(crate) fn declaration_locals(
 }
 
 /// One declarator of a declaration; its scope begins before its initializer (C17 6.2.1 paragraph 7).
-fn local(
+pub(crate) fn local(
     pass: &mut Pass,
     place: Pos,
     base: Option<CType>,

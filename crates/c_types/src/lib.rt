@@ -10,8 +10,11 @@ mod labels;
 mod parameters;
 mod program;
 mod scalars;
+mod scopes;
 mod statements;
 mod structures;
 mod values;
 
+pub use parameters::own_parameters;
 pub use program::{TypeErr, Typed, check};
+pub use scopes::{declare_item, declare_local, enter_body};

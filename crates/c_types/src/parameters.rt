@@ -18,7 +18,7 @@ use c_types_expressions::{
 use std::alloc::AllocError;
 
 /// The parameters of a function's own list, which stands next to its name.
-fn own_parameters(declarator: &Declarator) -> &[Parameter]
+pub fn own_parameters(declarator: &Declarator) -> &[Parameter]
     ensures { parameters_of result.now ≡ rules.own_parameters (declarator_tree declarator.now) }
 {
     match &declarator.direct {

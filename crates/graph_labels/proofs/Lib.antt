@@ -1,0 +1,5 @@
+pub mod CalledKnown
+pub mod MarksAdded
+pub mod AroundFunctions
+pub mod ScopesWithin
+pub mod Found
