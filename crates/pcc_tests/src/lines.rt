@@ -34,6 +34,7 @@ fn no_commands(rt: HostRuntime) -> Result<(), Fail> {
         "poolcc - exec f",
         "poolcc  exec f",
         "poolcc EXEC f",
+        "poolcc graphs a.c",
         "",
     ];
     for line in lines {
@@ -100,6 +101,12 @@ fn no_lines(rt: HostRuntime) -> Result<(), Fail> {
         "poolcc build",
         "poolcc ref",
         "poolcc run --",
+        "poolcc graph",
+        "poolcc graph --",
+        "poolcc graph a.c b.c",
+        "poolcc graph a.c --steps 5",
+        "poolcc graph a.c --slabs 1",
+        "poolcc graph a.c --one-pool",
     ];
     for line in lines {
         let words = words_of(rt.alloc(), line)?;
@@ -240,6 +247,8 @@ fn lines(rt: HostRuntime) -> Result<(), Fail> {
                 steps: 7,
             },
         ),
+        ("poolcc graph a.c", Line::Graph { file: "a.c" }),
+        ("poolcc graph -- -a.c", Line::Graph { file: "-a.c" }),
     ];
     for (line, wanted) in lines {
         let words = words_of(rt.alloc(), line)?;

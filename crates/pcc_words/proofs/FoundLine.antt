@@ -36,8 +36,8 @@ not_text a b differ = go (bytes_eq a b) refl
     go false e = e
 
 pub no_command : (name : Text) (rows : List Row) (file : Text) → (name ≡ codes "build" → ⊥) → (name ≡ codes "exec" → ⊥) → (name ≡ codes "run" → ⊥) → (name ≡ codes "ref" → ⊥)
-    → NoCommand ≡ file_line name rows file
-no_command name rows file a b c d = rw (not_text name (codes "build") a, not_text name (codes "exec") b, not_text name (codes "run") c, not_text name (codes "ref") d) refl
+    → (name ≡ codes "graph" → ⊥) → NoCommand ≡ file_line name rows file
+no_command name rows file a b c d e = rw (not_text name (codes "build") a, not_text name (codes "exec") b, not_text name (codes "run") c, not_text name (codes "ref") d, not_text name (codes "graph") e) refl
 
 -- an id has an entry where it has a row
 pub given_row : (found : Found) (id : Text) → is_some (matched_of found id) ≡ has_row id (rows_of found)

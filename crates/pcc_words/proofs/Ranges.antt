@@ -7,7 +7,7 @@ use Rattle.clap.specs.Walk.{Text}
 use Rattle.clap.proofs.WalkLemmas.{both}
 use Rattle.pcc_words.specs.declared.line.Line.{Line as CodeLine}
 use Rattle.pcc_words.specs.declared.line.Line.TheVariants as code
-use Rattle.pcc_words.specs.Line.{Limits, Line, NoCommand, NoLine, Build, Exec, Run, Ref, Choice, Part, Setting, Slabs, Index, Steps, build_choices, exec_choices, run_choices, build_line, command_line, default_of, exec_line, limits_in, line_from, line_of, most_of, name_of, number_in, number_of, part_at, ref_line, run_line, words_joined}
+use Rattle.pcc_words.specs.Line.{Limits, Line, NoCommand, NoLine, Build, Exec, Run, Ref, Graph, Choice, Part, Setting, Slabs, Index, Steps, build_choices, exec_choices, run_choices, graph_choices, build_line, command_line, default_of, exec_line, graph_line, limits_in, line_from, line_of, most_of, name_of, number_in, number_of, part_at, ref_line, run_line, words_joined}
 use Rattle.pcc_words.specs.Seen.{HasRanges, line_seen}
 use Rattle.pcc_words.proofs.WordNumbers.{AllGood, GoodIf, good_at, good_words}
 
@@ -42,6 +42,7 @@ IsRanged (Build file limits one_pool) = AreWithin limits
 IsRanged (Exec file limits one_pool steps) = AreWithin limits × IsWithin (2 ^ 62) steps
 IsRanged (Run file steps) = IsWithin (2 ^ 62) steps
 IsRanged (Ref file steps) = IsWithin (2 ^ 62) steps
+IsRanged (Graph file) = Unit {0}
 
 limits_within : (parts : List Part) → AllGood parts → AreWithin (limits_in parts)
 limits_within parts all = (number_within Slabs parts all, number_within Index parts all)
@@ -72,7 +73,8 @@ line_ranged (name ∷ command ∷ words) =
     either_ranged (bytes_eq (codes "build") command) _ _ (command_ranged build_line (λ parts file all. limits_within parts all) build_choices words)
     (either_ranged (bytes_eq (codes "exec") command) _ _ (command_ranged exec_line (λ parts file all. (limits_within parts all, steps_within parts all)) exec_choices words)
     (either_ranged (bytes_eq (codes "run") command) _ _ (command_ranged run_line (λ parts file all. steps_within parts all) run_choices words)
-    (either_ranged (bytes_eq (codes "ref") command) _ _ (command_ranged ref_line (λ parts file all. steps_within parts all) run_choices words) tt)))
+    (either_ranged (bytes_eq (codes "ref") command) _ _ (command_ranged ref_line (λ parts file all. steps_within parts all) run_choices words)
+    (either_ranged (bytes_eq (codes "graph") command) _ _ (command_ranged graph_line (λ parts file all. tt) graph_choices words) tt))))
 
 seen_ranged : (line : CodeLine) → IsRanged (line_seen line) → HasRanges line
 seen_ranged code.NoCommand is = tt
@@ -81,6 +83,7 @@ seen_ranged (code.Build file limits one_pool) is = record { slabs = is.0; index 
 seen_ranged (code.Exec file limits one_pool steps) is = (record { slabs = is.0.0; index = is.0.1 }, is.1)
 seen_ranged (code.Run file steps) is = is
 seen_ranged (code.Ref file steps) is = is
+seen_ranged (code.Graph file) is = tt
 
 pub has_ranges : (line : CodeLine) (words : List Text) → line_seen line ≡ line_of words → HasRanges line
 has_ranges line words says = seen_ranged line (subst (λ l. IsRanged l) (sym says) (line_ranged words))

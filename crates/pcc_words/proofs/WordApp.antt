@@ -11,7 +11,7 @@ use Rattle.clap.specs.Simple.{App, Shape, built, entered, label_of, names_of, ne
 use Rattle.clap.specs.declared.error.kind.ErrorKind.TheVariants.{DisplayHelp, InvalidSubcommand, MissingSubcommand, UnknownArgument}
 use Rattle.clap.proofs.WalkLemmas.{walk_stopped}
 use Rattle.clap.proofs.FaultLemmas.{stopped_fault}
-use Rattle.pcc_words.specs.Line.{Line, Look, Dashes, Named, Valued, Letters, Plain, NoCommand, NoLine, Build, Exec, Run, Ref, Choice, OnePool, Part, build_choices, exec_choices, run_choices, build_line, exec_line, run_line, ref_line, command_line, line_from, line_of, look_of, part_at, words_joined}
+use Rattle.pcc_words.specs.Line.{Line, Look, Dashes, Named, Valued, Letters, Plain, NoCommand, NoLine, Build, Exec, Run, Ref, Choice, OnePool, Part, build_choices, exec_choices, run_choices, graph_choices, build_line, exec_line, run_line, ref_line, graph_line, command_line, line_from, line_of, look_of, part_at, words_joined}
 use Rattle.pcc_words.specs.Clap.{app, names_command}
 use Rattle.pcc_words.specs.Found.{file_line, found_line}
 use Rattle.pcc_words.proofs.WordRules.{built_shape, rows_with, rules_with, some_kind}
@@ -34,7 +34,8 @@ abbrev pub built_app : App
 built_app = record {
   top = built_top;
   subs = built_shape (codes "build") build_choices ∷ built_shape (codes "exec") exec_choices
-      ∷ built_shape (codes "run") run_choices ∷ built_shape (codes "ref") run_choices ∷ [];
+      ∷ built_shape (codes "run") run_choices ∷ built_shape (codes "ref") run_choices
+      ∷ built_shape (codes "graph") graph_choices ∷ [];
 }
 
 pub app_built : built app ≡ built_app
@@ -241,26 +242,32 @@ module _ (program command : Text) (rest : List Text) (utf8 : IsUtf8 command) (te
   same_ref : (parts : List Part) (file : Text) → AllGood parts → file_line (codes "ref") (rows_with parts) file ≡ ref_line parts file
   same_ref parts file all = ap (λ n. Ref file n) (steps_are parts all)
 
+  same_graph : (parts : List Part) (file : Text) → AllGood parts → file_line (codes "graph") (rows_with parts) file ≡ graph_line parts file
+  same_graph parts file all = refl
+
   line_says : Says (line_of (program ∷ command ∷ rest)) kinds_found sub_found (names_command app (program ∷ command ∷ rest))
-  line_says = go (bytes_eq (codes "build") command) (bytes_eq (codes "exec") command) (bytes_eq (codes "run") command) (bytes_eq (codes "ref") command) refl refl refl refl
+  line_says = go (bytes_eq (codes "build") command) (bytes_eq (codes "exec") command) (bytes_eq (codes "run") command) (bytes_eq (codes "ref") command) (bytes_eq (codes "graph") command) refl refl refl refl refl
     where
-      go : (a b c d : Bool) → bytes_eq (codes "build") command ≡ a → bytes_eq (codes "exec") command ≡ b → bytes_eq (codes "run") command ≡ c → bytes_eq (codes "ref") command ≡ d
+      go : (a b c d g : Bool) → bytes_eq (codes "build") command ≡ a → bytes_eq (codes "exec") command ≡ b → bytes_eq (codes "run") command ≡ c → bytes_eq (codes "ref") command ≡ d → bytes_eq (codes "graph") command ≡ g
           → Says (line_of (program ∷ command ∷ rest)) kinds_found sub_found (names_command app (program ∷ command ∷ rest))
-      go true b c d ea eb ec ed =
+      go true b c d g ea eb ec ed eg =
           says_as (line_of (program ∷ command ∷ rest)) (command_line build_line build_choices rest) kinds_found sub_found (names_command app (program ∷ command ∷ rest)) true (rw ea refl) (rw ea refl)
           (one_command build_line (codes "build") build_choices (rw ea refl) refl refl same_build)
-      go false true c d ea eb ec ed =
+      go false true c d g ea eb ec ed eg =
           says_as (line_of (program ∷ command ∷ rest)) (command_line exec_line exec_choices rest) kinds_found sub_found (names_command app (program ∷ command ∷ rest)) true (rw (ea, eb) refl) (rw (ea, eb) refl)
           (one_command exec_line (codes "exec") exec_choices (rw (ea, eb) refl) refl refl same_exec)
-      go false false true d ea eb ec ed =
+      go false false true d g ea eb ec ed eg =
           says_as (line_of (program ∷ command ∷ rest)) (command_line run_line run_choices rest) kinds_found sub_found (names_command app (program ∷ command ∷ rest)) true (rw (ea, eb, ec) refl) (rw (ea, eb, ec) refl)
           (one_command run_line (codes "run") run_choices (rw (ea, eb, ec) refl) refl refl same_run)
-      go false false false true ea eb ec ed =
+      go false false false true g ea eb ec ed eg =
           says_as (line_of (program ∷ command ∷ rest)) (command_line ref_line run_choices rest) kinds_found sub_found (names_command app (program ∷ command ∷ rest)) true (rw (ea, eb, ec, ed) refl) (rw (ea, eb, ec, ed) refl)
           (one_command ref_line (codes "ref") run_choices (rw (ea, eb, ec, ed) refl) refl refl same_ref)
-      go false false false false ea eb ec ed =
-          says_as (line_of (program ∷ command ∷ rest)) NoCommand kinds_found sub_found (names_command app (program ∷ command ∷ rest)) false (rw (ea, eb, ec, ed) refl) (rw (ea, eb, ec, ed) refl)
-          (λ none. absurd (unknown command rest (rw (ea, eb, ec, ed) refl) (look_of command) (seen command utf8) none), λ some. refl)
+      go false false false false true ea eb ec ed eg =
+          says_as (line_of (program ∷ command ∷ rest)) (command_line graph_line graph_choices rest) kinds_found sub_found (names_command app (program ∷ command ∷ rest)) true (rw (ea, eb, ec, ed, eg) refl) (rw (ea, eb, ec, ed, eg) refl)
+          (one_command graph_line (codes "graph") graph_choices (rw (ea, eb, ec, ed, eg) refl) refl refl same_graph)
+      go false false false false false ea eb ec ed eg =
+          says_as (line_of (program ∷ command ∷ rest)) NoCommand kinds_found sub_found (names_command app (program ∷ command ∷ rest)) false (rw (ea, eb, ec, ed, eg) refl) (rw (ea, eb, ec, ed, eg) refl)
+          (λ none. absurd (unknown command rest (rw (ea, eb, ec, ed, eg) refl) (look_of command) (seen command utf8) none), λ some. refl)
 
 pub all_say : (words : List Text) → AllText words → Says (line_of words) (fault_of app words) (subcommand_of app words) (names_command app words)
 all_say [] texts = (λ none. absurd (no_words none), λ some. refl)

@@ -6,7 +6,7 @@ use Rattle.clap.specs.declared.builder.action.ArgAction.TheVariants.{Set}
 use Rattle.clap.specs.declared.builder.command.Command.{Command}
 use Rattle.clap.specs.declared.builder.command.Command.TheViews.{out-Command}
 use Rattle.clap.specs.declared.builder.value_parser.ValueParser.TheVariants.{Unsigned}
-use Rattle.pcc_words.specs.Line.{Choice, Numbered, Flagged, Setting, build_choices, exec_choices, run_choices, flag_name, name_of, most_of}
+use Rattle.pcc_words.specs.Line.{Choice, Numbered, Flagged, Setting, build_choices, exec_choices, run_choices, graph_choices, flag_name, name_of, most_of}
 
 -- no argument of the command is global
 abbrev pub IsLocal : Command → Type 0
@@ -53,10 +53,11 @@ bare = record {
 
 abbrev pub app : App
 app =
-    with_subcommand (with_subcommand (with_subcommand (with_subcommand bare (leaf (codes "build") build_choices).top)
+    with_subcommand (with_subcommand (with_subcommand (with_subcommand (with_subcommand bare (leaf (codes "build") build_choices).top)
     (leaf (codes "exec") exec_choices).top)
     (leaf (codes "run") run_choices).top)
-    (leaf (codes "ref") run_choices).top
+    (leaf (codes "ref") run_choices).top)
+    (leaf (codes "graph") graph_choices).top
 
 -- the second word is one of the commands
 abbrev pub names_command : App → List Text → Bool

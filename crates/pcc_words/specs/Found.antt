@@ -4,7 +4,7 @@ use Rattle.std.specs.Option.{option_map_or}
 use Rattle.std.specs.Str.{bytes_eq}
 use Rattle.std.specs.Str.Parse.{without_leading_plus}
 use Rattle.clap.specs.Walk.{Row, Text, first_of, has_row, one_of}
-use Rattle.pcc_words.specs.Line.{Limits, Line, NoCommand, NoLine, Build, Exec, Run, Ref, Flag, OnePool, Setting, Slabs, Index, Steps, name_of, flag_name, default_of, is_numeral, number_of}
+use Rattle.pcc_words.specs.Line.{Limits, Line, NoCommand, NoLine, Build, Exec, Run, Ref, Graph, Flag, OnePool, Setting, Slabs, Index, Steps, name_of, flag_name, default_of, is_numeral, number_of}
 
 -- a text that Rust reads as an unsigned number of so many bits
 abbrev pub is_unsigned : ℕ → Text → Bool
@@ -30,6 +30,7 @@ file_line name rows file =
     else if bytes_eq name (codes "exec") then Exec file (limits_found rows) (flag_found OnePool rows) (found_number 64 Steps rows)
     else if bytes_eq name (codes "run") then Run file (found_number 64 Steps rows)
     else if bytes_eq name (codes "ref") then Ref file (found_number 64 Steps rows)
+    else if bytes_eq name (codes "graph") then Graph file
     else NoCommand
 
 abbrev pub found_line : Option (Text × List Row) → Line

@@ -19,6 +19,7 @@ pub data Line : Type 0 where
   Exec : (file : List ℕ) (limits : Limits) (one_pool : Bool) (steps : ℕ) → Line
   Run : (file : List ℕ) (steps : ℕ) → Line
   Ref : (file : List ℕ) (steps : ℕ) → Line
+  Graph : (file : List ℕ) → Line
 
 -- ---- the options: a setting has a number, a flag no value
 
@@ -84,6 +85,9 @@ exec_choices = Numbered Slabs ∷ Numbered Index ∷ Flagged OnePool ∷ Numbere
 -- of `run` and of `ref`
 abbrev pub run_choices : List Choice
 run_choices = Numbered Steps ∷ []
+
+abbrev pub graph_choices : List Choice
+graph_choices = []
 
 -- ---- the parts of a line
 
@@ -196,6 +200,9 @@ run_line parts file = Run file (number_in Steps parts)
 abbrev pub ref_line : List Part → List ℕ → Line
 ref_line parts file = Ref file (number_in Steps parts)
 
+abbrev pub graph_line : List Part → List ℕ → Line
+graph_line parts file = Graph file
+
 -- a line has a file
 abbrev pub line_from : (List Part → List ℕ → Line) → Option (List Part) → Line
 line_from make None = NoLine
@@ -212,4 +219,5 @@ line_of (name ∷ command ∷ words) =
     else if bytes_eq (codes "exec") command then command_line exec_line exec_choices words
     else if bytes_eq (codes "run") command then command_line run_line run_choices words
     else if bytes_eq (codes "ref") command then command_line ref_line run_choices words
+    else if bytes_eq (codes "graph") command then command_line graph_line graph_choices words
     else NoCommand

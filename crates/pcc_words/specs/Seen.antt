@@ -3,7 +3,7 @@ use Rattle.std.specs.Prelude.{ℕ, ◌^◌, ◌≤◌}
 use Rattle.pcc_words.specs.declared.line.Limits.{Limits as CodeLimits}
 use Rattle.pcc_words.specs.declared.line.Line.{Line as CodeLine}
 use Rattle.pcc_words.specs.declared.line.Line.TheVariants as code
-use Rattle.pcc_words.specs.Line.{Limits, Line, NoCommand, NoLine, Build, Exec, Run, Ref}
+use Rattle.pcc_words.specs.Line.{Limits, Line, NoCommand, NoLine, Build, Exec, Run, Ref, Graph}
 
 abbrev pub limits_seen : CodeLimits → Limits
 limits_seen limits = record { slabs = limits.slabs; index = limits.index }
@@ -15,6 +15,7 @@ line_seen (code.Build file limits one_pool) = Build file.now (limits_seen limits
 line_seen (code.Exec file limits one_pool steps) = Exec file.now (limits_seen limits) one_pool steps
 line_seen (code.Run file steps) = Run file.now steps
 line_seen (code.Ref file steps) = Ref file.now steps
+line_seen (code.Graph file) = Graph file.now
 
 -- ---- the ranges of its numbers
 
@@ -32,3 +33,4 @@ HasRanges (code.Build file limits one_pool) = AreLimits limits
 HasRanges (code.Exec file limits one_pool steps) = AreLimits limits × AreSteps steps
 HasRanges (code.Run file steps) = AreSteps steps
 HasRanges (code.Ref file steps) = AreSteps steps
+HasRanges (code.Graph file) = Unit {0}

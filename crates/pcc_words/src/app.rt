@@ -25,6 +25,7 @@ pub(crate) fn poolcc<'a>(alloc: Global) -> Result<Command<'a>, AllocError>
     let exec = with_steps(alloc, compiling(alloc, "exec")?)?;
     let run = with_steps(alloc, of_file(alloc, "run")?)?;
     let reference = with_steps(alloc, of_file(alloc, "ref")?)?;
+    let graph = of_file(alloc, "graph")?;
     Command::new(alloc, "poolcc")
         .subcommand_required(true)
         .disable_help_flag(true)
@@ -32,7 +33,8 @@ pub(crate) fn poolcc<'a>(alloc: Global) -> Result<Command<'a>, AllocError>
         .subcommand(build)?
         .subcommand(exec)?
         .subcommand(run)?
-        .subcommand(reference)
+        .subcommand(reference)?
+        .subcommand(graph)
 }
 
 // A command that compiles its file.

@@ -52,6 +52,10 @@ pub enum Line<'a> {
         file: &'a str,
         steps: u64,
     },
+    /// `graph FILE`: write the heap graphs of a text's code.
+    Graph {
+        file: &'a str,
+    },
 }
 
 /// Reads a command line, the program's name first. It fails only for want of memory.

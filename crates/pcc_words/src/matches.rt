@@ -44,6 +44,7 @@ pub(crate) fn line_found<'a>(matches: &ArgMatches<'a>) -> Line<'a>
             file,
             steps: steps_in(found),
         },
+        "graph" => Line::Graph { file },
         _ => Line::NoCommand,
     }
 }

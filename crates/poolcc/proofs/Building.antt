@@ -8,11 +8,11 @@ use Rattle.pcc_status.specs.declared.status.Refusal.{Refusal}
 use Rattle.pcc_status.specs.declared.status.Status.{Status}
 use Rattle.pcc_status.specs.declared.status.Status.TheVariants as S
 use Rattle.poolcc.specs.Build.{Builds, BuildsPart, BuildGives}
-use Rattle.poolcc.specs.Compiled.{IsAccepted, Compiles}
-use Rattle.poolcc.specs.Complete.{IsBuiltUnlessHalted}
+use Rattle.poolcc.specs.Compiled.{IsBuildable, Compiles}
+use Rattle.poolcc.specs.Complete.{IsBuiltUnlessMemory}
 use Rattle.poolcc.specs.Exec.{source_limit}
-use Rattle.poolcc.specs.Refused.{IsRefused}
-use Rattle.poolcc.proofs.Refusals.{only_refusal, not_refused, halted}
+use Rattle.poolcc.specs.Refused.{IsUncompiled}
+use Rattle.poolcc.proofs.Refusals.{one_refusal_of_all, not_buildable, not_graphed}
 
 module _ (text : List ℕ) (limits : MachineLimits) (base bytes : List ℕ) (written written' : Option (List ℕ)) (form : Form) (short : length text ≤ source_limit) (compiles : Compiles text limits form) (same : bytes ≡ image_bytes form) (told : written ≡ Some base) where
   pub all_written : Adds written bytes written' → Builds text limits base written'
@@ -32,14 +32,14 @@ module _ (text : List ℕ) (limits : MachineLimits) (base bytes : List ℕ) (wri
   }
 
 module _ (text : List ℕ) (limits : MachineLimits) (base : List ℕ) (written' : Option (List ℕ)) (short : length text ≤ source_limit) where
-  module _ (program : ProgramTree) (accepted : IsAccepted text program) where
-    -- an answer of build that is no fault is that it is done, or the text is refused for its heap graphs, or memory ran out
-    pub built : (status : Status) → BuildGives text limits base status written' → (status ≡ S.ReadFault → ⊥) → (status ≡ S.WriteFault → ⊥) → IsBuiltUnlessHalted text limits base status written'
+  module _ (program : ProgramTree) (buildable : IsBuildable text program) where
+    -- an answer of build that is no fault is that it is done, or memory ran out
+    pub built : (status : Status) → BuildGives text limits base status written' → (status ≡ S.ReadFault → ⊥) → (status ≡ S.WriteFault → ⊥) → IsBuiltUnlessMemory text limits base status written'
     built S.Done gives read write = inr (record { form = gives.form; compiles = gives.compiles; ends = refl; output = gives.output })
-    built S.OutOfMemory gives read write = inl (inl refl)
+    built S.OutOfMemory gives read write = inl refl
     built S.ReadFault gives read write = absurd (read refl)
     built S.WriteFault gives read write = absurd (write refl)
-    built (S.Refused refusal) gives read write = inl (halted text program refusal accepted gives.1)
+    built (S.Refused refusal) gives read write = absurd (not_buildable text program refusal buildable gives.1)
     built S.SourceTooLong gives read write = let long = gives.0 in absurd (omega arith)
     built (S.Program status) gives read write = absurd gives
     built S.Depth gives read write = absurd gives
@@ -52,13 +52,13 @@ module _ (text : List ℕ) (limits : MachineLimits) (base : List ℕ) (written' 
     built S.ImageTooLong gives read write = absurd gives
     built (S.Usage kind) gives read write = absurd gives
 
-  module _ (refusal : Refusal) (refused : IsRefused text refusal) where
+  module _ (refusal : Refusal) (refused : IsUncompiled text refusal) where
     not_built : {form : Form} → Compiles text limits form → ⊥
-    not_built compiles = not_refused text compiles.program refusal compiles.accepted refused
+    not_built compiles = let graphed = compiles.graphed in not_graphed text compiles.program refusal compiles.accepted graphed.tac graphed.groups graphed.graphs graphed.has refused
 
     -- a text that is refused gets that answer, or memory ran out
     pub build_refuses : (status : Status) → BuildGives text limits base status written' → (status ≡ S.ReadFault → ⊥) → (status ≡ S.WriteFault → ⊥) → (status ≡ S.OutOfMemory) ⊎ (status ≡ S.Refused refusal)
-    build_refuses (S.Refused other) gives read write = inr (ap S.Refused (only_refusal text other refusal gives.1 refused))
+    build_refuses (S.Refused other) gives read write = inr (ap S.Refused (one_refusal_of_all text other refusal gives.1 refused))
     build_refuses S.OutOfMemory gives read write = inl refl
     build_refuses S.ReadFault gives read write = absurd (read refl)
     build_refuses S.WriteFault gives read write = absurd (write refl)

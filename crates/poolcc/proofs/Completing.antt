@@ -15,13 +15,13 @@ use Rattle.machine.proofs.Mach.{mach_over, mach_going}
 use Rattle.pcc_status.specs.declared.status.Status.{Status}
 use Rattle.pcc_status.specs.declared.status.Status.TheVariants as S
 use Rattle.pcc_status.specs.Said.{Said, after_failed_line}
-use Rattle.poolcc.specs.Compiled.{IsAccepted, Compiles, image_run, first_of_run}
-use Rattle.pcc_words.specs.Line.{Line, NoCommand, NoLine, Build, Exec, Run, Ref}
+use Rattle.poolcc.specs.Compiled.{IsAccepted, IsBuildable, Compiles, image_run, first_of_run}
+use Rattle.pcc_words.specs.Line.{Line, NoCommand, NoLine, Build, Exec, Run, Ref, Graph}
 use Rattle.poolcc.specs.Command.{Names}
-use Rattle.poolcc.specs.Complete.{told, RunsAs, RunsUnlessHalted}
+use Rattle.poolcc.specs.Complete.{told, RunsAs, RunsUnlessMemory}
 use Rattle.poolcc.specs.Exec.{source_limit, ExecGives}
 use Rattle.program_machine.proofs.Seen.{trapped_is_undefined}
-use Rattle.poolcc.proofs.Refusals.{halted}
+use Rattle.poolcc.proofs.Refusals.{not_buildable}
 
 -- a line that was written leaves the answer as it was
 pub said_as_it_is : (status answer : Status) (old new : Option (List ℕ)) (before after : ℕ) → Said status answer old new before after → (Rose before after → ⊥) → answer ≡ status
@@ -86,20 +86,20 @@ module _ (text : List ℕ) (limits : MachineLimits) (steps : ℕ) (left base : L
         output = there.2 ∙ ap (λ answer. Some (base ++ output_of (trace_of answer))) (sym there.1);
       }
 
-  module _ (program : ProgramTree) (accepted : IsAccepted text program) (short : length text ≤ source_limit) where
-    -- an answer of exec that is no fault is the machine's, or the text is refused for its heap graphs, or memory ran out
-    pub completed : (answer : Status) → ExecGives text limits steps left base answer left' written' → (answer ≡ S.ReadFault → ⊥) → (answer ≡ S.WriteFault → ⊥) → RunsUnlessHalted text limits steps left base answer written'
+  module _ (program : ProgramTree) (buildable : IsBuildable text program) (short : length text ≤ source_limit) where
+    -- an answer of exec that is no fault is the machine's, or memory ran out
+    pub completed : (answer : Status) → ExecGives text limits steps left base answer left' written' → (answer ≡ S.ReadFault → ⊥) → (answer ≡ S.WriteFault → ⊥) → RunsUnlessMemory text limits steps left base answer written'
     completed (S.Program status) gives read write = inr (over gives.form (Ended status) gives.ran.made gives.ran.heap gives.compiles gives.ran.gives (S.Program status) (λ trace. refl))
     completed S.Depth gives read write = inr (over gives.form DepthReached gives.ran.made gives.ran.heap gives.compiles gives.ran.gives S.Depth (λ trace. refl))
     completed S.HeapExhausted gives read write = inr (over gives.form HeapExhausted gives.ran.made gives.ran.heap gives.compiles gives.ran.gives S.HeapExhausted (λ trace. refl))
     completed S.IndexExhausted gives read write = inr (over gives.form IndexExhausted gives.ran.made gives.ran.heap gives.compiles gives.ran.gives S.IndexExhausted (λ trace. refl))
     completed (S.Trapped kind) gives read write = inr (over gives.form (Trapped kind) gives.ran.made gives.ran.heap gives.compiles gives.ran.gives (S.Trapped kind) (λ trace. refl))
     completed S.StepsSpent gives read write = inr (spent gives.form gives.ran.activations gives.ran.heap gives.compiles gives.ran.gives.1)
-    completed (S.Refused refusal) gives read write = inl (halted text program refusal accepted gives.1)
+    completed (S.Refused refusal) gives read write = absurd (not_buildable text program refusal buildable gives.1)
     completed S.SourceTooLong gives read write = let long = gives.0 in absurd (omega arith)
     completed S.ReadFault gives read write = absurd (read refl)
     completed S.WriteFault gives read write = absurd (write refl)
-    completed S.OutOfMemory gives read write = inl (inl refl)
+    completed S.OutOfMemory gives read write = inl refl
     completed S.Done gives read write = absurd gives
     completed (S.Undefined kind place) gives read write = absurd gives
     completed (S.BadImage at) gives read write = absurd gives
@@ -121,6 +121,7 @@ same_file file other (Build named limits one_pool) one two = sym one ∙ two
 same_file file other (Exec named limits one_pool steps) one two = sym one ∙ two
 same_file file other (Run named steps) one two = sym one ∙ two
 same_file file other (Ref named steps) one two = sym one ∙ two
+same_file file other (Graph named) one two = sym one ∙ two
 same_file file other NoCommand one two = absurd one
 same_file file other NoLine one two = absurd one
 

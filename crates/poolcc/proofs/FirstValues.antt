@@ -9,7 +9,9 @@ use Rattle.c_typed.specs.DefinitionViews.{program_of}
 use Rattle.c_rules.specs.Elaborated.{typed_of}
 use Rattle.c_types.specs.declared.program.Typed.{Typed}
 use Rattle.c_types.specs.InitialValues.{first_values}
-use Rattle.code_graphs.specs.Graphed.{IsOvergrown}
+use Rattle.tac_ir.specs.Code.{Tac}
+use Rattle.heap_graph.specs.Graphs.{ProgramGraphs}
+use Rattle.code_graphs.specs.Graphed.{HasGraphs, IsOvergrown}
 use Rattle.poolcc.specs.Compiled.{IsAccepted, listed, initial_values}
 use Rattle.poolcc.specs.Lowered.{first_of}
 use Rattle.poolcc.specs.Refused.{IsOverfull}
@@ -29,3 +31,9 @@ overfull text program typed count accepted elaborated first overgrown = record {
   accepted = accepted;
   overgrown = subst (λ (values : T.Values). IsOvergrown (typed_of program) values count) first (subst (λ (tree : T.Program). IsOvergrown tree (first_of typed) count) elaborated overgrown);
 }
+
+-- the graphs of an accepted text's code are its program's
+pub own_graphs : (program : ProgramTree) (typed : Typed) (tac : Tac) (groups : List (List ℕ)) (graphs : ProgramGraphs) → program_of typed.program ≡ typed_of program → first_of typed ≡ initial_values program
+    → HasGraphs (program_of typed.program) (first_of typed) tac groups graphs → HasGraphs (typed_of program) (initial_values program) tac groups graphs
+own_graphs program typed tac groups graphs elaborated first has =
+    subst (λ (values : T.Values). HasGraphs (typed_of program) values tac groups graphs) first (subst (λ (tree : T.Program). HasGraphs tree (first_of typed) tac groups graphs) elaborated has)

@@ -11,5 +11,6 @@ pub mod Refusing
 pub mod Referring
 pub mod RefCompleting
 pub mod Building
+pub mod Printing
 pub mod ImageRunning
 pub mod Commanding

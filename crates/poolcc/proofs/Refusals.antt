@@ -1,5 +1,5 @@
 -- A text has at most one refusal, and none where it is accepted. That for its heap graphs comes only where it is accepted so far.
-use Rattle.std.proofs.Common.{◌≡◌, ℕ, ◌⊎◌, inr, List, Option, Some, None, sym, ap, ◌∙◌, refl}
+use Rattle.std.proofs.Common.{◌≡◌, ℕ, List, Option, Some, None, sym, ap, subst, ◌∙◌, refl}
 use Rattle.text_place.specs.declared.place.Pos.{Pos}
 use Rattle.c_syntax.specs.Trees
 use Rattle.c_rules.specs.declared.violation.Violation.{Violation}
@@ -18,12 +18,14 @@ use Rattle.pcc_status.specs.declared.status.LimitKind.{LimitKind}
 use Rattle.pcc_status.specs.declared.status.LimitKind.TheVariants as M
 use Rattle.pcc_status.specs.declared.status.Refusal.{Refusal}
 use Rattle.pcc_status.specs.declared.status.Refusal.TheVariants as R
-use Rattle.pcc_status.specs.declared.status.Status.TheVariants as S
 use Rattle.poolcc.specs.declared.text.Stop as code
 use Rattle.poolcc.specs.declared.text.Stop.TheVariants as stops
-use Rattle.poolcc.specs.Complete.{IsHalted}
-use Rattle.poolcc.specs.Compiled.{ReadsAs, IsAccepted}
-use Rattle.poolcc.specs.Refused.{fault_of, IsLexical, IsSyntactic, IsRefused, IsUncompiled, IsStop, IsHalt, limit_named, stop_of}
+use Rattle.tac_ir.specs.Code.{Tac}
+use Rattle.heap_graph.specs.Graphs.{ProgramGraphs}
+use Rattle.code_graphs.specs.Graphed.{HasGraphs, IsOvergrown}
+use Rattle.code_graphs.proofs.Once.{one_overgrown, not_overgrown}
+use Rattle.poolcc.specs.Compiled.{ReadsAs, IsAccepted, IsBuildable, initial_values}
+use Rattle.poolcc.specs.Refused.{fault_of, IsLexical, IsSyntactic, IsRefused, IsOverfull, IsUncompiled, IsStop, IsHalt, limit_named, stop_of}
 use Rattle.poolcc.proofs.Misplacing.{one_syntactic}
 
 abbrev told_limit : Limit → LimitKind
@@ -133,14 +135,52 @@ only_refusal text (R.TypeRule rule place) refusal other refused = one_refusal te
 only_refusal text (R.Limit limit count) refusal other refused = one_refusal text (R.Limit limit count) refusal other refused
 only_refusal text (R.Pools function count) refusal other refused = absurd other
 
--- an accepted text that isn't compiled is refused for its heap graphs
-pub halted : (text : List ℕ) (program : Trees.ProgramTree) (refusal : Refusal) → IsAccepted text program → IsUncompiled text refusal → IsHalted text (S.Refused refusal)
-halted text program (R.Graph count) accepted overfull = inr (count, overfull, refl)
-halted text program (R.Lex kind place) accepted other = absurd (not_refused text program (R.Lex kind place) accepted other)
-halted text program (R.Syntax kind place) accepted other = absurd (not_refused text program (R.Syntax kind place) accepted other)
-halted text program (R.TypeRule rule place) accepted other = absurd (not_refused text program (R.TypeRule rule place) accepted other)
-halted text program (R.Limit limit count) accepted other = absurd (not_refused text program (R.Limit limit count) accepted other)
-halted text program (R.Pools function count) accepted other = absurd other
+module _ (text : List ℕ) where
+  -- what is overgrown is the program of the text
+  own_program : (program : Trees.ProgramTree) (count : ℕ) → IsAccepted text program → IsOverfull text count → IsOvergrown (elaborated.typed_of program) (initial_values program) count
+  own_program program count accepted overfull =
+      subst (λ (tree : Trees.ProgramTree). IsOvergrown (elaborated.typed_of tree) (initial_values tree) count) (accepted.reads.only overfull.program overfull.accepted.reads.reads) overfull.overgrown
+
+  overfull_once : (a b : ℕ) → IsOverfull text a → IsOverfull text b → a ≡ b
+  overfull_once a b one two =
+      let program = one.program in
+      one_overgrown (elaborated.typed_of program) (initial_values program) a b one.overgrown (own_program program b one.accepted two)
+
+  is_overfull : (refusal : Refusal) (count : ℕ) → IsUncompiled text refusal → IsOverfull text count → refusal ≡ R.Graph count
+  is_overfull (R.Graph other) count one two = ap R.Graph (overfull_once other count one two)
+  is_overfull (R.Lex kind place) count one two = absurd (not_refused text two.program (R.Lex kind place) two.accepted one)
+  is_overfull (R.Syntax kind place) count one two = absurd (not_refused text two.program (R.Syntax kind place) two.accepted one)
+  is_overfull (R.TypeRule rule place) count one two = absurd (not_refused text two.program (R.TypeRule rule place) two.accepted one)
+  is_overfull (R.Limit limit n) count one two = absurd (not_refused text two.program (R.Limit limit n) two.accepted one)
+  is_overfull (R.Pools function n) count one two = absurd one
+
+  -- a text that isn't compiled has one refusal
+  pub one_refusal_of_all : (refusal other : Refusal) → IsUncompiled text refusal → IsUncompiled text other → refusal ≡ other
+  one_refusal_of_all refusal (R.Graph count) one two = is_overfull refusal count one two
+  one_refusal_of_all refusal (R.Lex kind place) one two = only_refusal text refusal (R.Lex kind place) one two
+  one_refusal_of_all refusal (R.Syntax kind place) one two = only_refusal text refusal (R.Syntax kind place) one two
+  one_refusal_of_all refusal (R.TypeRule rule place) one two = only_refusal text refusal (R.TypeRule rule place) one two
+  one_refusal_of_all refusal (R.Limit limit n) one two = only_refusal text refusal (R.Limit limit n) one two
+  one_refusal_of_all refusal (R.Pools function n) one two = absurd two
+
+  module _ (program : Trees.ProgramTree) (accepted : IsAccepted text program) (few : (count : ℕ) → IsOvergrown (elaborated.typed_of program) (initial_values program) count → ⊥) where
+    not_halted : (refusal : Refusal) → IsUncompiled text refusal → ⊥
+    not_halted (R.Graph count) overfull = few count (own_program program count accepted overfull)
+    not_halted (R.Lex kind place) refused = not_refused text program (R.Lex kind place) accepted refused
+    not_halted (R.Syntax kind place) refused = not_refused text program (R.Syntax kind place) accepted refused
+    not_halted (R.TypeRule rule place) refused = not_refused text program (R.TypeRule rule place) accepted refused
+    not_halted (R.Limit limit n) refused = not_refused text program (R.Limit limit n) accepted refused
+    not_halted (R.Pools function n) refused = absurd refused
+
+  -- a text that can be compiled isn't refused
+  pub not_buildable : (program : Trees.ProgramTree) (refusal : Refusal) → IsBuildable text program → IsUncompiled text refusal → ⊥
+  not_buildable program refusal buildable = not_halted program buildable.accepted buildable.few refusal
+
+  -- nor is one whose graphs were made
+  pub not_graphed : (program : Trees.ProgramTree) (refusal : Refusal) → IsAccepted text program → (tac : Tac) (groups : List (List ℕ)) (graphs : ProgramGraphs)
+      → HasGraphs (elaborated.typed_of program) (initial_values program) tac groups graphs → IsUncompiled text refusal → ⊥
+  not_graphed program refusal accepted tac groups graphs has =
+      not_halted program accepted (not_overgrown (elaborated.typed_of program) (initial_values program) tac groups graphs has) refusal
 
 refused_halts : (text : List ℕ) (refusal : Refusal) → IsRefused text refusal → IsUncompiled text refusal
 refused_halts text (R.Graph count) refused = absurd refused

@@ -15,8 +15,8 @@ use Rattle.pcc_status.specs.declared.status.Status.{Status}
 use Rattle.pcc_status.specs.declared.status.Status.TheVariants as S
 use Rattle.poolcc.specs.Compiled.{Compiles}
 use Rattle.poolcc.specs.Exec.{source_limit, ExecGives}
-use Rattle.poolcc.specs.Refused.{fault_of, IsLexical, IsRefused, IsStop, stop_of}
-use Rattle.poolcc.proofs.Refusals.{only_refusal, not_refused}
+use Rattle.poolcc.specs.Refused.{fault_of, IsLexical, IsUncompiled, IsStop, stop_of}
+use Rattle.poolcc.proofs.Refusals.{one_refusal_of_all, not_graphed}
 
 pub is_lexical : (text : List ℕ) (kind : LexKind) (place : Pos) → Faults first_place text (fault_of kind place) → IsLexical text kind place
 is_lexical text kind place faults = record {
@@ -35,13 +35,13 @@ stops_so text (X.NameTooLong place) refused = is_lexical text K.NameTooLong plac
 stops_so text X.OutOfMemory refused = tt
 
 module _ (text : List ℕ) (limits : MachineLimits) (steps : ℕ) (left base : List ℕ) (left' written' : Option (List ℕ)) where
-  module _ (refusal : Refusal) (refused : IsRefused text refusal) (short : length text ≤ source_limit) where
+  module _ (refusal : Refusal) (refused : IsUncompiled text refusal) (short : length text ≤ source_limit) where
     not_run : {form : Form} → Compiles text limits form → ⊥
-    not_run compiles = not_refused text compiles.program refusal compiles.accepted refused
+    not_run compiles = let graphed = compiles.graphed in not_graphed text compiles.program refusal compiles.accepted graphed.tac graphed.groups graphed.graphs graphed.has refused
 
     -- a text that is refused gets that answer, or memory ran out
     pub refuses : (answer : Status) → ExecGives text limits steps left base answer left' written' → (answer ≡ S.ReadFault → ⊥) → (answer ≡ S.WriteFault → ⊥) → (answer ≡ S.OutOfMemory) ⊎ (answer ≡ S.Refused refusal)
-    refuses (S.Refused other) gives read write = inr (ap S.Refused (only_refusal text other refusal gives.1 refused))
+    refuses (S.Refused other) gives read write = inr (ap S.Refused (one_refusal_of_all text other refusal gives.1 refused))
     refuses S.OutOfMemory gives read write = inl refl
     refuses S.ReadFault gives read write = absurd (read refl)
     refuses S.WriteFault gives read write = absurd (write refl)

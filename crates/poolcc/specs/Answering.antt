@@ -5,10 +5,11 @@ use Rattle.pcc_status.specs.declared.status.Status.{Status}
 use Rattle.pcc_status.specs.declared.status.Status.TheVariants as S
 use Rattle.pcc_status.specs.declared.status.UsageKind.TheVariants as U
 use Rattle.poolcc.specs.Build.{BuildGives}
-use Rattle.pcc_words.specs.Line.{Line, Limits, NoCommand, NoLine, Build, Exec, Run, Ref}
+use Rattle.pcc_words.specs.Line.{Line, Limits, NoCommand, NoLine, Build, Exec, Run, Ref, Graph}
 use Rattle.poolcc.specs.Command.{Names, machine_limits}
 use Rattle.poolcc.specs.Exec.{ExecGives}
 use Rattle.poolcc.specs.ImageRun.{ImageGives}
+use Rattle.poolcc.specs.Printed.{GraphGives}
 use Rattle.poolcc.specs.Ref.{RefGives}
 
 -- What a command line comes to, before its line on the error output, by what is told of each file, of the input and of
@@ -20,4 +21,5 @@ pub record IsAnswer (line : Line) (contents : List ℕ → Told) (left written l
   pub exec : (file : List ℕ) (limits : Limits) (one_pool : Bool) (steps : ℕ) (text input base : List ℕ) → line ≡ Exec file limits one_pool steps → contents file ≡ Holds text → left ≡ Some input → written ≡ Some base → ExecGives text (machine_limits limits) steps input base answer left' written'
   pub run : (file : List ℕ) (steps : ℕ) (bytes input base : List ℕ) → line ≡ Run file steps → contents file ≡ Holds bytes → left ≡ Some input → written ≡ Some base → ImageGives bytes steps input base answer left' written'
   pub ref : (file : List ℕ) (steps : ℕ) (text input base : List ℕ) → line ≡ Ref file steps → contents file ≡ Holds text → left ≡ Some input → written ≡ Some base → RefGives text steps input base answer left' written'
+  pub graph : (file text base : List ℕ) → line ≡ Graph file → contents file ≡ Holds text → written ≡ Some base → (left' ≡ left) × GraphGives text base answer written'
   pub missing : (file : List ℕ) → Names line file → contents file ≡ Missing → ((answer ≡ S.ReadFault) ⊎ (answer ≡ S.OutOfMemory)) × (left' ≡ left) × (written' ≡ written)

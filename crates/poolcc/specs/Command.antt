@@ -1,7 +1,7 @@
 -- What a command line is of.
 use Rattle.std.specs.Prelude.{◌≡◌, ℕ, List}
 use Rattle.image_form.specs.declared.image.MachineLimits.{MachineLimits}
-use Rattle.pcc_words.specs.Line.{Line, Limits, Build, Exec, Run, Ref}
+use Rattle.pcc_words.specs.Line.{Line, Limits, Build, Exec, Run, Ref, Graph}
 
 -- the line is of this file
 abbrev pub Names : Line → List ℕ → Type 0
@@ -9,6 +9,7 @@ Names (Build file limits one_pool) name = file ≡ name
 Names (Exec file limits one_pool steps) name = file ≡ name
 Names (Run file steps) name = file ≡ name
 Names (Ref file steps) name = file ≡ name
+Names (Graph file) name = file ≡ name
 Names line name = ⊥
 
 -- the limits that the image of a line holds

@@ -24,7 +24,7 @@ use Rattle.c_types_limits.specs.Limits.{exceeded}
 use Rattle.tac_ir.specs.Code.{Tac}
 use Rattle.heap_graph.specs.Graphs.{ProgramGraphs}
 use Rattle.lowered_points.specs.Counted.{HaveFewSlots}
-use Rattle.code_graphs.specs.Graphed.{HasGraphs}
+use Rattle.code_graphs.specs.Graphed.{HasGraphs, IsOvergrown}
 use Rattle.pool_isa.specs.Machine.{State, initial, mach}
 use Rattle.image_form.specs.declared.image.MachineLimits.{MachineLimits}
 use Rattle.image_form.specs.Form.{Form, code_of, IsImage, ImageOf}
@@ -81,6 +81,11 @@ pub record IsGraphed (program : Program) (first : Values) : Type 0 where
   pub groups : List (List ℕ)
   pub graphs : ProgramGraphs
   pub has : HasGraphs program first tac groups graphs
+
+-- The text is accepted, and no group of its functions begins with more than 65,536 nodes: it can be compiled.
+pub record IsBuildable (text : List ℕ) (program : Trees.ProgramTree) : Type 0 where
+  pub accepted : IsAccepted text program
+  pub few : (count : ℕ) → IsOvergrown (elaborated.typed_of program) (initial_values program) count → ⊥
 
 -- ---- images
 

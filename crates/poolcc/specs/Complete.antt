@@ -4,12 +4,11 @@ use Rattle.run_theory.specs.Runs.{output_of, Ended, DepthReached, Undefined, Hea
 use Rattle.image_form.specs.declared.image.MachineLimits.{MachineLimits}
 use Rattle.image_form.specs.Form.{Form}
 use Rattle.image_form.specs.Faults.{IsBadAt}
-use Rattle.pcc_status.specs.declared.status.Refusal.TheVariants as R
 use Rattle.pcc_status.specs.declared.status.Status.{Status}
 use Rattle.pcc_status.specs.declared.status.Status.TheVariants as S
 use Rattle.ref_meaning.specs.Running.{Reached}
 use Rattle.poolcc.specs.Compiled.{image_run, Compiles}
-use Rattle.poolcc.specs.Refused.{IsOverfull}
+use Rattle.poolcc.specs.Printed.{IsPrinted}
 
 -- the answer of a run as a command tells it: a run that is going has spent its steps
 abbrev pub told : Answer → Status
@@ -47,13 +46,9 @@ pub record IsReachedAs (there : Reached) (base : List ℕ) (status : Status) (le
 abbrev pub IsReachedUnlessMemory : Reached → List ℕ → Status → Option (List ℕ) → Option (List ℕ) → Type 0
 IsReachedUnlessMemory there base status left written = (status ≡ S.OutOfMemory) ⊎ IsReachedAs there base status left written
 
--- the answer is that the text is refused for its heap graphs, or that memory ran out
-abbrev pub IsHalted : List ℕ → Status → Type 0
-IsHalted text status = (status ≡ S.OutOfMemory) ⊎ ((count : ℕ) × IsOverfull text count × (status ≡ S.Refused (R.Graph count)))
-
--- that, or so it is answered
-abbrev pub RunsUnlessHalted : List ℕ → MachineLimits → ℕ → List ℕ → List ℕ → Status → Option (List ℕ) → Type 0
-RunsUnlessHalted text limits steps input base status written = IsHalted text status ⊎ RunsAs text limits steps input base status written
+-- so it is answered, or memory ran out
+abbrev pub RunsUnlessMemory : List ℕ → MachineLimits → ℕ → List ℕ → List ℕ → Status → Option (List ℕ) → Type 0
+RunsUnlessMemory text limits steps input base status written = (status ≡ S.OutOfMemory) ⊎ RunsAs text limits steps input base status written
 
 -- The text was compiled, and this is done: the output is the bytes of its image, behind the base.
 pub record IsBuilt (text : List ℕ) (limits : MachineLimits) (base : List ℕ) (status : Status) (written : Option (List ℕ)) : Type 0 where
@@ -62,9 +57,20 @@ pub record IsBuilt (text : List ℕ) (limits : MachineLimits) (base : List ℕ) 
   pub ends : status ≡ S.Done
   pub output : written ≡ Some (base ++ compiles.encoded)
 
--- that, or the text is refused for its heap graphs, or memory ran out
-abbrev pub IsBuiltUnlessHalted : List ℕ → MachineLimits → List ℕ → Status → Option (List ℕ) → Type 0
-IsBuiltUnlessHalted text limits base status written = IsHalted text status ⊎ IsBuilt text limits base status written
+-- that, or memory ran out
+abbrev pub IsBuiltUnlessMemory : List ℕ → MachineLimits → List ℕ → Status → Option (List ℕ) → Type 0
+IsBuiltUnlessMemory text limits base status written = (status ≡ S.OutOfMemory) ⊎ IsBuilt text limits base status written
+
+-- The text has graphs, and this is done: the output is their lines, behind the base.
+pub record AreShown (text base : List ℕ) (status : Status) (written : Option (List ℕ)) : Type 0 where
+  pub lines : List ℕ
+  pub printed : IsPrinted text lines
+  pub ends : status ≡ S.Done
+  pub output : written ≡ Some (base ++ lines)
+
+-- that, or memory ran out
+abbrev pub AreShownUnlessMemory : List ℕ → List ℕ → Status → Option (List ℕ) → Type 0
+AreShownUnlessMemory text base status written = (status ≡ S.OutOfMemory) ⊎ AreShown text base status written
 
 -- the status names the first byte with which no image goes on, or memory ran out
 abbrev pub IsBadUnlessMemory : List ℕ → Status → Type 0

@@ -7,6 +7,7 @@ pub mod Complete
 pub mod Exec
 pub mod Lowered
 pub mod ImageRun
+pub mod Printed
 pub mod Ref
 pub mod Refused
 pub mod Seen

@@ -5,6 +5,7 @@ ghost use Rattle.c_typed.specs.DefinitionViews.{program_of, LiteralsStand};
 ghost use Rattle.tac_ir.specs.Views.{tac_of};
 ghost use Rattle.tac_build.specs.ProgramCode.{Code};
 ghost use Rattle.function_groups.specs.GroupViews.{groups_of};
+ghost use Rattle.dsa_bottom_up.specs.Ascending.{GraphsAscend};
 ghost use Rattle.code_graphs.specs.Graphed.{HasGraphs, IsOvergrown};
 ghost use Rattle.code_graphs.specs.Made.{graphs_in};
 ghost use Rattle.pool_isa.specs.Ranges.{IsWithin};
@@ -48,6 +49,7 @@ pub fn analyse(alloc: Global, typed: Typed) -> Result<Analysed, CompileErr>
     ensures code { IfOk result (λ made. Code (program_of typed.program) (tac_of made.tac)) }
     ensures literals { IfOk result (λ made. LiteralsStand made.tac.types made.tac.literals.items) }
     ensures graphs { IfOk result (λ made. HasGraphs (program_of typed.program) (first_of typed) (tac_of made.tac) (groups_of made.graphs.groups) (graphs_in made.tac made.graphs)) }
+    ensures ascend { IfOk result (λ made. GraphsAscend made.graphs.graphs) }
     ensures refused { (count : ℕ) → result ≡ Err (CompileErr.Graph count) → IsOvergrown (program_of typed.program) (first_of typed) count }
 {
     let Typed {

@@ -4,6 +4,7 @@
 mod build;
 mod compilation;
 mod execution;
+mod graphs;
 mod image_run;
 mod reference;
 mod text;
@@ -12,6 +13,7 @@ mod top;
 pub use build::build_file;
 pub use compilation::{Analysed, CompileErr, analyse, compile};
 pub use execution::exec;
+pub use graphs::graph_file;
 pub use image_run::run_file;
 pub use reference::ref_file;
 pub use text::{Stop, image_of, parse};

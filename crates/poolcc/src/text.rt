@@ -82,7 +82,7 @@ pub fn parse(alloc: Global, text: &[u8]) -> Result<Program, Stop>
 }
 
 /// The typed tree of a program that violates no type rule and exceeds no limit.
-fn elaborate(alloc: Global, program: &Program) -> Result<Typed, Stop>
+pub(crate) fn elaborate(alloc: Global, program: &Program) -> Result<Typed, Stop>
     ensures accepted { (text : List ℕ) → ReadsAs text (program_tree program.now) → IfOk result (λ typed. IsAccepted text (program_tree program.now)) }
     ensures typed { IfOk result (λ typed. typed_program_of typed.program ≡ elaborated.typed_of (program_tree program.now)) }
     ensures first { IfOk result (λ typed. first_of typed ≡ initial_values (program_tree program.now)) }

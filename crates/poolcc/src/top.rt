@@ -3,7 +3,7 @@
 ghost use Rattle.std.specs.Prelude.{◌≡◌, ℕ, Bool, ◌<◌, ◌≤◌, ◌⊎◌, List, Some, length, map, string_bytes};
 ghost use Rattle.pcc_outside.specs.Outside.{Rose};
 ghost use Rattle.pcc_status.specs.Said.{Said};
-ghost use Rattle.pcc_words.specs.Line.{Limits as SaidLimits, line_of, NoCommand, NoLine, Build, Exec, Run, Ref};
+ghost use Rattle.pcc_words.specs.Line.{Limits as SaidLimits, line_of, NoCommand, NoLine, Build, Exec, Run, Ref, Graph};
 ghost use Rattle.pcc_words.specs.Seen.{AreLimits, limits_seen};
 ghost use Rattle.poolcc.specs.Premises.{line_said, FromText, FromSource, Undisturbed, AReadFailed, NoneFailed, ReachesBeyond};
 ghost use Rattle.poolcc.specs.Command.{Names, machine_limits};
@@ -17,20 +17,21 @@ ghost use Rattle.pcc_status.specs.declared.status.LexKind.{LexKind};
 ghost use Rattle.pcc_status.specs.declared.status.Refusal.{Refusal};
 ghost use Rattle.pcc_status.specs.declared.status.Refusal.TheVariants as Refusal;
 ghost use Rattle.c_lexer.specs.Tokens.{Faults};
-ghost use Rattle.poolcc.specs.Refused.{fault_of, IsRefused};
-ghost use Rattle.poolcc.specs.Compiled.{IsAccepted, image_run};
+ghost use Rattle.poolcc.specs.Refused.{fault_of, IsRefused, IsUncompiled};
+ghost use Rattle.poolcc.specs.Compiled.{IsAccepted, IsBuildable, image_run};
 ghost use Rattle.c_syntax.specs.Trees.{ProgramTree};
 ghost use Rattle.c_rules.specs.Elaborated.{typed_of};
 ghost use Rattle.ref_semantics.specs.First.{reference};
 ghost use Rattle.ref_meaning.specs.Running.{behaviour_of};
 ghost use Rattle.poolcc.specs.Answering.{IsAnswer};
-ghost use Rattle.poolcc.specs.Complete.{RunsUnlessHalted, IsToldUnlessMemory, IsReachedUnlessMemory, IsBuiltUnlessHalted, IsBadUnlessMemory};
+ghost use Rattle.poolcc.specs.Complete.{RunsUnlessMemory, IsToldUnlessMemory, IsReachedUnlessMemory, IsBuiltUnlessMemory, AreShownUnlessMemory, IsBadUnlessMemory};
 ghost use Rattle.poolcc.specs.Exec.{source_limit};
 ghost use Rattle.poolcc.specs.ImageRun.{image_limit};
 ghost use Rattle.image_form.specs.Form.{Form, ImageOf, IsImageBytes};
 
 use crate::build::build_file;
 use crate::execution::exec;
+use crate::graphs::graph_file;
 use crate::image_run::run_file;
 use crate::reference::ref_file;
 use image_form::MachineLimits;
@@ -69,14 +70,13 @@ pub fn poolcc<F: Files, I: Source, O: Sink, E: Sink>(
         → F.contents files.old file ≡ Holds text → I.left input.old ≡ Some left → O.written out.old ≡ Some base
         → (program : ProgramTree) × IsAccepted text program × (n : ℕ) × IsUndefined (reference (typed_of program) left n) }
 
-    // Where the text is accepted and nothing outside fails, the answer is what the machine gives, or a group of functions has too many
-    // nodes in its heap graph, or memory ran out.
+    // Where the text can be compiled and nothing outside fails, the answer is what the machine gives, or memory ran out.
     ensures complete { (file : List ℕ) (limits : SaidLimits) (one_pool : Bool) (steps : ℕ) (text left base : List ℕ) (program : ProgramTree)
         → line_said words.now ≡ Exec file limits one_pool steps
         → FromText source_limit (F.contents files.old file) text (I.left input.old) left (O.written out.old) base
         (Undisturbed (F.faults files.old file) (F.faults files.new file) (I.faults input.old) (I.faults input.new)
         (O.faults out.old) (O.faults out.new) (E.faults err.old) (E.faults err.new)
-        (IsAccepted text program → RunsUnlessHalted text (machine_limits limits) steps left base result (O.written out.new))) }
+        (IsBuildable text program → RunsUnlessMemory text (machine_limits limits) steps left base result (O.written out.new))) }
 
     // Where the text has a fault and nothing outside fails, the answer is the fault's kind and place, or memory ran out.
     ensures lexical { (file : List ℕ) (limits : SaidLimits) (one_pool : Bool) (steps : ℕ) (text left base : List ℕ) (kind : LexKind) (place : Pos)
@@ -86,13 +86,13 @@ pub fn poolcc<F: Files, I: Source, O: Sink, E: Sink>(
         (O.faults out.old) (O.faults out.new) (E.faults err.old) (E.faults err.new)
         (Faults first_place text (fault_of kind place) → (result ≡ Status.OutOfMemory) ⊎ (result ≡ Status.Refused (Refusal.Lex kind place)))) }
 
-    // Where the text is refused and nothing outside fails, the answer is that refusal, or memory ran out.
+    // Where the text is refused, for its heap graphs or before, and nothing outside fails, the answer is that refusal, or memory ran out.
     ensures refused { (file : List ℕ) (limits : SaidLimits) (one_pool : Bool) (steps : ℕ) (text left base : List ℕ) (refusal : Refusal)
         → line_said words.now ≡ Exec file limits one_pool steps
         → FromText source_limit (F.contents files.old file) text (I.left input.old) left (O.written out.old) base
         (Undisturbed (F.faults files.old file) (F.faults files.new file) (I.faults input.old) (I.faults input.new)
         (O.faults out.old) (O.faults out.new) (E.faults err.old) (E.faults err.new)
-        (IsRefused text refusal → (result ≡ Status.OutOfMemory) ⊎ (result ≡ Status.Refused refusal))) }
+        (IsUncompiled text refusal → (result ≡ Status.OutOfMemory) ⊎ (result ≡ Status.Refused refusal))) }
 
     // Where the text of `ref` is accepted and nothing outside fails, the answer, the output and what is left of the input are those
     // of its program with so many units, or memory ran out; where it is refused, the answer is that refusal.
@@ -109,20 +109,35 @@ pub fn poolcc<F: Files, I: Source, O: Sink, E: Sink>(
         (O.faults out.old) (O.faults out.new) (E.faults err.old) (E.faults err.new)
         (IsRefused text refusal → (result ≡ Status.OutOfMemory) ⊎ (result ≡ Status.Refused refusal))) }
 
-    // Where the text of `build` is accepted and nothing outside fails, the bytes of its image are written, or a group of functions has
-    // too many nodes in its heap graph, or memory ran out; where it is refused, the answer is that refusal.
+    // Where the text of `build` can be compiled and nothing outside fails, the bytes of its image are written, or memory ran out; where
+    // it is refused, the answer is that refusal.
     ensures build_complete { (file : List ℕ) (limits : SaidLimits) (one_pool : Bool) (text base : List ℕ) (program : ProgramTree)
         → line_said words.now ≡ Build file limits one_pool
         → FromSource source_limit (F.contents files.old file) text (O.written out.old) base
         (Undisturbed (F.faults files.old file) (F.faults files.new file) (I.faults input.old) (I.faults input.new)
         (O.faults out.old) (O.faults out.new) (E.faults err.old) (E.faults err.new)
-        (IsAccepted text program → IsBuiltUnlessHalted text (machine_limits limits) base result (O.written out.new))) }
+        (IsBuildable text program → IsBuiltUnlessMemory text (machine_limits limits) base result (O.written out.new))) }
     ensures build_refused { (file : List ℕ) (limits : SaidLimits) (one_pool : Bool) (text base : List ℕ) (refusal : Refusal)
         → line_said words.now ≡ Build file limits one_pool
         → FromSource source_limit (F.contents files.old file) text (O.written out.old) base
         (Undisturbed (F.faults files.old file) (F.faults files.new file) (I.faults input.old) (I.faults input.new)
         (O.faults out.old) (O.faults out.new) (E.faults err.old) (E.faults err.new)
-        (IsRefused text refusal → (result ≡ Status.OutOfMemory) ⊎ (result ≡ Status.Refused refusal))) }
+        (IsUncompiled text refusal → (result ≡ Status.OutOfMemory) ⊎ (result ≡ Status.Refused refusal))) }
+
+    // Where the text of `graph` can be compiled and nothing outside fails, the lines of its heap graphs are written, or memory ran out;
+    // where it is refused, the answer is that refusal.
+    ensures graph_complete { (file text base : List ℕ) (program : ProgramTree)
+        → line_said words.now ≡ Graph file
+        → FromSource source_limit (F.contents files.old file) text (O.written out.old) base
+        (Undisturbed (F.faults files.old file) (F.faults files.new file) (I.faults input.old) (I.faults input.new)
+        (O.faults out.old) (O.faults out.new) (E.faults err.old) (E.faults err.new)
+        (IsBuildable text program → AreShownUnlessMemory text base result (O.written out.new))) }
+    ensures graph_refused { (file text base : List ℕ) (refusal : Refusal)
+        → line_said words.now ≡ Graph file
+        → FromSource source_limit (F.contents files.old file) text (O.written out.old) base
+        (Undisturbed (F.faults files.old file) (F.faults files.new file) (I.faults input.old) (I.faults input.new)
+        (O.faults out.old) (O.faults out.new) (E.faults err.old) (E.faults err.new)
+        (IsUncompiled text refusal → (result ≡ Status.OutOfMemory) ⊎ (result ≡ Status.Refused refusal))) }
 
     // Where the bytes of `run` are an image and nothing outside fails, the answer and the output are those of the machine within
     // the steps, or memory ran out; where they are none, the answer is the place of the first byte with which no image goes on.
@@ -188,6 +203,7 @@ fn command<F: Files, I: Source, O: Sink>(
         } => exec(alloc, file, limits_of(limits), steps, files, input, out),
         Line::Run { file, steps } => run_file(alloc, file, steps, files, input, out),
         Line::Ref { file, steps } => ref_file(alloc, file, steps, files, input, out),
+        Line::Graph { file } => graph_file(alloc, file, files, out),
     }
 }
 

@@ -1,6 +1,6 @@
 //! Compiles texts that are about as large as heap graphs may be. A line of the input has a name, a command and the pieces of a text, with tabs
 //! between: `N:TEXT` stands N times, and `#` in it is the number of the repetition, from 0. For each a line of the output tells the exit status
-//! of the command and the line on the error output.
+//! of the command and the line on the error output; for `graph` lines behind it do.
 #![tactic(auto)]
 
 use pcc_outside::{MemFiles, MemSink, MemSource};
@@ -71,9 +71,13 @@ fn answer<W: Write>(
     );
     write!(out, "{name}: {}, ", status.exit_status())?;
     if err.bytes().is_empty() {
-        return writeln!(out, "-");
+        writeln!(out, "-")?;
     }
-    out.write_all(err.bytes())
+    out.write_all(err.bytes())?;
+    if command == "graph" {
+        out.write_all(written.bytes())?;
+    }
+    Ok(())
 }
 
 // Does so with the text of a line.

@@ -1,6 +1,6 @@
 //! Runs command lines of `poolcc`. A line of the input is one without the program's name; behind `<` may stand a line that the program
 //! reads, else it reads nothing. For each a line of the output tells the exit status, the line on the error output, and what was written, in
-//! hexadecimal digits.
+//! hexadecimal digits; for `graph` lines behind it do.
 #![tactic(auto)]
 
 use pcc_outside::{HostFiles, MemSink, MemSource};
@@ -17,7 +17,7 @@ const ROOM: usize = 1 << 20;
 struct Did {
     exit_status: u8,
     err: Vec<u8>,
-    out: String,
+    out: Vec<u8>,
 }
 
 // The words of a command line, with the program's name before them.
@@ -45,7 +45,7 @@ fn command<R: rt::Files>(
     Ok(Did {
         exit_status: status.exit_status(),
         err: Vec::from_slice(alloc, err.bytes())?,
-        out: hex::encode(alloc, out.bytes())?,
+        out: Vec::from_slice(alloc, out.bytes())?,
     })
 }
 
@@ -69,7 +69,11 @@ fn answer<R: rt::Files, W: Write>(
             out.write_all(&[*byte])?;
         }
     }
-    writeln!(out, ", {}", did.out)
+    if line.starts_with("graph ") {
+        writeln!(out, ",")?;
+        return out.write_all(&did.out);
+    }
+    writeln!(out, ", {}", hex::encode(alloc, &did.out)?)
 }
 
 fn main(rt: HostRuntime) -> io::Result<()> {

@@ -62,12 +62,22 @@ returns-in-ref c =
     (sub_is c.args.matches.now name (rows_of found) c.in-Some.ensures.name c.in-Some.ensures.rows)
     (sym (first_value-rows found (codes "file")) ∙ sym c.get_str.ensures ∙ ap (λ (o : Option (Bor Text)). option_map (λ (s : Bor Text). s.now) o) c.in-Some-get_str.is)
 
+pub returns-in-graph : goal.returns-in-graph
+returns-in-graph c =
+    let found = found_of c.in-Some.found.now in
+    let name = c.in-Some.name.now in
+    let file = c.in-Some-get_str.file.now in
+    sym (ap (λ (n : Text). file_line n (rows_of found) file) c.in-graph.is)
+    ∙ with_file (subcommand_rows_of c.args.matches.now) name file (rows_of found)
+    (sub_is c.args.matches.now name (rows_of found) c.in-Some.ensures.name c.in-Some.ensures.rows)
+    (sym (first_value-rows found (codes "file")) ∙ sym c.get_str.ensures ∙ ap (λ (o : Option (Bor Text)). option_map (λ (s : Bor Text). s.now) o) c.in-Some-get_str.is)
+
 pub returns-in_default-name : goal.returns-in_default-name
 returns-in_default-name c =
     let found = found_of c.in-Some.found.now in
     let name = c.in-Some.name.now in
     let file = c.in-Some-get_str.file.now in
-    no_command name (rows_of found) file c.in_default-name.not-build c.in_default-name.not-exec c.in_default-name.not-run c.in_default-name.not-ref
+    no_command name (rows_of found) file c.in_default-name.not-build c.in_default-name.not-exec c.in_default-name.not-run c.in_default-name.not-ref c.in_default-name.not-graph
     ∙ with_file (subcommand_rows_of c.args.matches.now) name file (rows_of found)
     (sub_is c.args.matches.now name (rows_of found) c.in-Some.ensures.name c.in-Some.ensures.rows)
     (sym (first_value-rows found (codes "file")) ∙ sym c.get_str.ensures ∙ ap (λ (o : Option (Bor Text)). option_map (λ (s : Bor Text). s.now) o) c.in-Some-get_str.is)
