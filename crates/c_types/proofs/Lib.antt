@@ -24,6 +24,6 @@ mod ParameterTypes
 mod ReachedItems
 mod DefinedStays
 mod OutsideMade
-mod FunctionScopes
+pub mod FunctionScopes
 mod FunctionMade
 mod ProgramRead

@@ -1,5 +1,5 @@
 -- A program is refused for its graphs by one count, and not where it has graphs.
-use Rattle.std.proofs.Common.{◌≡◌, ℕ, List, [], length, sym, subst}
+use Rattle.std.proofs.Common.{◌≡◌, ℕ, List, [], length, subst}
 use Rattle.c_typed.specs.Typed.{Values, Program}
 use Rattle.tac_ir.specs.Code.{Tac}
 use Rattle.tac_build.specs.ProgramCode.{Code}

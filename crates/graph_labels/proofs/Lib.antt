@@ -1,5 +1,4 @@
 pub mod CalledKnown
 pub mod MarksAdded
-pub mod AroundFunctions
 pub mod ScopesWithin
 pub mod Found

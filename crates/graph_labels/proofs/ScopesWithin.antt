@@ -13,7 +13,7 @@ use Rattle.c_types_state.specs.NameTables.{State, scope_of, no_state}
 use Rattle.c_types_state.specs.Lists.{with_outline}
 use Rattle.c_types.specs.Parts.{behind_block}
 use Rattle.c_types.specs.Outside.{IsOutside}
-use Rattle.graph_labels.proofs.AroundFunctions.{around-function, outside-again}
+use Rattle.c_types.proofs.FunctionScopes.{around-function, outside-again}
 
 -- All but the locals of the innermost block is as there.
 abbrev pub Within : Scope → Scope → Type 0

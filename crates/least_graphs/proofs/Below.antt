@@ -1,6 +1,6 @@
 -- What is closed and the least below a number is so below each smaller one; and a closed family is closed below each number.
-use Rattle.std.proofs.Common.{◌≡◌, ℕ, ◌<◌, ◌≤◌, true, refl, subst, arith, lt-ltb, ltb-true}
-use Rattle.std.specs.Prelude.{nat_lt, Some}
+use Rattle.std.proofs.Common.{◌≡◌, ℕ, ◌≤◌, subst, arith, lt-ltb, ltb-true}
+use Rattle.std.specs.Prelude.{Some}
 use Rattle.std.proofs.lemmas.Option.{same_Some}
 use Rattle.tac_ir.specs.Code.{Function}
 use Rattle.tac_ir.specs.States.{Owner, InStart, InFunction, function_of}

@@ -1,5 +1,5 @@
 -- What calls within a group ask is asked of its completed graph, where the group is closed and those before.
-use Rattle.std.proofs.Common.{◌≡◌, ℕ, ◌<◌, true, cond, List, length, Some, sym, ap, subst, ◌∙◌, lt-ltb}
+use Rattle.std.proofs.Common.{◌≡◌, ℕ, ◌<◌, true, cond, length, Some, sym, ap, subst, ◌∙◌, lt-ltb}
 use Rattle.std.specs.Prelude.{Bool, slice_get}
 use Rattle.tac_ir.specs.Code.{Function, Op}
 use Rattle.tac_ir.specs.States.{InFunction}

@@ -1,6 +1,5 @@
 -- What is closed below a number is so with all flags; and a map to a family with all flags is a map to the family.
-use Rattle.std.proofs.Common.{◌≡◌, ℕ, List, Some, sym, ap, ◌∙◌}
-use Rattle.c_typed.specs.Layouts.{StructDef}
+use Rattle.std.proofs.Common.{ℕ, Some, sym, ap, ◌∙◌}
 use Rattle.tac_ir.specs.States.{Owner, InFunction}
 use Rattle.heap_graph.specs.Graphs.{Target, OfResult, ProgramGraphs}
 use Rattle.heap_graph.specs.Targets.{shifted, edge_at, element_kept}
