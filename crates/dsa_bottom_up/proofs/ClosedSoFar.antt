@@ -1,6 +1,5 @@
 -- The graphs that were made so far are closed below the next number.
-use Rattle.std.proofs.Common.{◌≡◌, ℕ, ◌<◌, ◌∙◌, sym, subst, ltb-true}
-use Rattle.std.specs.Prelude.{length}
+use Rattle.std.proofs.Common.{ℕ, ◌<◌, subst, ltb-true}
 use Rattle.tac_ir.specs.Views.{tac_of}
 use Rattle.heap_graph.specs.Closed.{group_of}
 use Rattle.program_graphs.specs.declared.program.ProgramGraphs.{ProgramGraphs}

@@ -1,9 +1,9 @@
 -- What is kept of the functions of a group, one after another.
-use Rattle.std.proofs.Common.{◌≡◌, ◌↔◌, ◌⊎◌, inl, inr, ℕ, zero, suc, ◌+◌, ◌<◌, ◌≤◌, Bool, true, false, List, [], ◌∷◌, ◌++◌, length, map, All, drop, Contains, Option, Some, None, option_map, Vec, Global, refl, sym, ap, subst, ◌∙◌, arith}
-use Rattle.std.specs.Prelude.{get_or, slice_get, vec_items}
+use Rattle.std.proofs.Common.{◌≡◌, ◌↔◌, ◌⊎◌, inl, inr, ℕ, zero, suc, ◌+◌, ◌<◌, ◌≤◌, Bool, true, false, List, [], ◌∷◌, ◌++◌, length, map, set, replicate, All, drop, Contains, Option, Some, None, option_map, Vec, Global, refl, sym, ap, subst, ◌∙◌, arith}
+use Rattle.std.specs.Prelude.{get_or, slice_get}
 use Rattle.std.specs.Vec.{with_item}
 use Rattle.std.proofs.lemmas.Bool.{false≢true, cases_lt}
-use Rattle.std.proofs.lemmas.List.{length-map, length-set, map-set, at_drop_all}
+use Rattle.std.proofs.lemmas.List.{length-map, length-set, at_drop_all}
 use Rattle.std.proofs.lemmas.Option.{none-some, same_Some, slice_get-get_or, slice_get-map, slice_get_within, get_or_from_slice_get}
 use Rattle.graph_rows.specs.Lists.{Has}
 use Rattle.graph_rows.proofs.Lists.{has_at, at_has}
@@ -35,8 +35,10 @@ use Rattle.program_graphs.specs.declared.program.ProgramGraphs.{ProgramGraphs}
 use Rattle.program_graphs.specs.Shows.{ShowsGraph, ShowsNames}
 use Rattle.reached_nodes.specs.declared.marks.NodeMarks.{NodeMarks}
 use Rattle.reached_nodes.specs.Marks.{is_marked}
+use Rattle.shared_lists.specs.declared.lists.SharedLists.{SharedLists}
+use Rattle.shared_lists.specs.Lists.{rows_in}
 use Rattle.group_crossings.specs.declared.live.LiveTargets.{LiveTargets}
-use Rattle.group_crossings.specs.Before.{Rises, rows_of, has_numbers, is_some_list, is_listed}
+use Rattle.group_crossings.specs.Before.{Rises, is_some_list, is_listed}
 use Rattle.group_crossings.specs.Live.{IsOnce, AddsMembers}
 use Rattle.group_crossings.proofs.LiveRows.{lives_none, lives_more}
 use Rattle.assembled_groups.specs.Making.{IsGrouped, BeginsWith, IsMaking, ListsEscaping, AddsGroup}
@@ -137,22 +139,20 @@ marked_all numbers number marks past is = sym (no_more numbers) ∙ (sym (at_dro
 -- ---- one function
 
 -- a function's row and list, where the others stay
-pub keeps_one : (old : Making) (member : ℕ) (graph : FrozenGraph) (own : FunctionGraph) (numbers : Vec ℕ Global) → member < length old.functions.items → length old.escaping.items ≡ length old.functions.items
-    → ((tac : memory_tac.Tac) (called : ℕ) → ListsEscaping tac called graph own.names numbers.items)
-    → KeepsOne old (record { graphs = old.graphs; functions = with_item old.functions member own; escaping = with_item old.escaping member numbers; live = old.live; start = old.start; start_function = old.start_function }) member graph own
-keeps_one old member graph own numbers within lists listed = record {
+pub keeps_one : (old : Making) (member : ℕ) (graph : FrozenGraph) (own : FunctionGraph) (escaping : SharedLists) (numbers : List ℕ) → member < length old.functions.items → length (rows_in old.escaping) ≡ length old.functions.items
+    → rows_in escaping ≡ set (rows_in old.escaping) member numbers → ((tac : memory_tac.Tac) (called : ℕ) → ListsEscaping tac called graph own.names numbers)
+    → KeepsOne old (record { graphs = old.graphs; functions = with_item old.functions member own; escaping = escaping; live = old.live; start = old.start; start_function = old.start_function }) member graph own
+keeps_one old member graph own escaping numbers within lists is listed = record {
   graphs = refl;
   live = refl;
   size = length-set old.functions.items member own;
   own' = set_same old.functions.items member own within;
   others = λ number other. set_other old.functions.items member number own other;
-  lists = length-set old.escaping.items member numbers;
-  same_lists = λ number other.
-      ap (λ l. slice_get l number) (map-set vec_items old.escaping.items member numbers) ∙ set_other (rows_of old.escaping.items) member number numbers.items other;
+  lists = ap length is ∙ length-set (rows_in old.escaping) member numbers;
+  same_lists = λ number other. ap (λ l. slice_get l number) is ∙ set_other (rows_in old.escaping) member number numbers other;
   listed = λ tac. (
-    numbers.items,
-    ap (λ l. slice_get l member) (map-set vec_items old.escaping.items member numbers)
-        ∙ set_same (rows_of old.escaping.items) member numbers.items (let long = length-map old.escaping.items vec_items in omega (arith, within, lists, long)),
+    numbers,
+    ap (λ l. slice_get l member) is ∙ set_same (rows_in old.escaping) member numbers (omega (arith, within, lists)),
     listed tac member,
   );
 }
@@ -166,10 +166,10 @@ pub record KeepsSome (old new : Making) (members : List FunctionId) (graph : Fro
   pub size : length new.functions.items ≡ length old.functions.items
   pub own' : (place : ℕ) (member : FunctionId) → place < count → slice_get members place ≡ Some member → slice_get new.functions.items member.0 ≡ slice_get functions place
   pub others : (number : ℕ) → ((place : ℕ) (member : FunctionId) → place < count → slice_get members place ≡ Some member → member.0 ≡ number → ⊥) → slice_get new.functions.items number ≡ slice_get old.functions.items number
-  pub lists : length new.escaping.items ≡ length old.escaping.items
-  pub same_lists : (number : ℕ) → ((place : ℕ) (member : FunctionId) → place < count → slice_get members place ≡ Some member → member.0 ≡ number → ⊥) → slice_get (rows_of new.escaping.items) number ≡ slice_get (rows_of old.escaping.items) number
+  pub lists : length (rows_in new.escaping) ≡ length (rows_in old.escaping)
+  pub same_lists : (number : ℕ) → ((place : ℕ) (member : FunctionId) → place < count → slice_get members place ≡ Some member → member.0 ≡ number → ⊥) → slice_get (rows_in new.escaping) number ≡ slice_get (rows_in old.escaping) number
   pub listed : (tac : memory_tac.Tac) (place : ℕ) (member : FunctionId) (own : FunctionGraph) → place < count → slice_get members place ≡ Some member → slice_get functions place ≡ Some own
-      → (numbers : List ℕ) × (slice_get (rows_of new.escaping.items) member.0 ≡ Some numbers) × ListsEscaping tac member.0 graph own.names numbers
+      → (numbers : List ℕ) × (slice_get (rows_in new.escaping) member.0 ≡ Some numbers) × ListsEscaping tac member.0 graph own.names numbers
 
 pub keeps_none : (old : Making) (members : List FunctionId) (graph : FrozenGraph) (functions : List FunctionGraph) → KeepsSome old old members graph functions 0
 keeps_none old members graph functions = record {
@@ -198,7 +198,7 @@ module _ (old mid new : Making) (members : List FunctionId) (graph : FrozenGraph
   ]
 
   listed_more : (tac : memory_tac.Tac) (place : ℕ) (other : FunctionId) (function : FunctionGraph) → place < suc count → slice_get members place ≡ Some other → slice_get functions place ≡ Some function
-      → (numbers : List ℕ) × (slice_get (rows_of new.escaping.items) other.0 ≡ Some numbers) × ListsEscaping tac other.0 graph function.names numbers
+      → (numbers : List ℕ) × (slice_get (rows_in new.escaping) other.0 ≡ Some numbers) × ListsEscaping tac other.0 graph function.names numbers
   listed_more tac place other function less there told = elim (cases_lt place count) [
     | inl lt ↦ let was = some.listed tac place other function lt there told in (was.0, one.same_lists other.0 (earlier place other lt there) ∙ was.1, was.2)
     | inr le ↦
@@ -207,7 +207,7 @@ module _ (old mid new : Making) (members : List FunctionId) (graph : FrozenGraph
         let mine : own ≡ function = same_Some own function (sym is ∙ (ap (λ n. slice_get functions n) same ∙ told)) in
         let now = one.listed tac in (
           now.0,
-          ap (λ (f : FunctionId). slice_get (rows_of new.escaping.items) f.0) (sym its) ∙ now.1,
+          ap (λ (f : FunctionId). slice_get (rows_in new.escaping) f.0) (sym its) ∙ now.1,
           subst (λ (f : FunctionId). ListsEscaping tac f.0 graph function.names now.0) its (subst (λ (f : FunctionGraph). ListsEscaping tac member.0 graph f.names now.0) mine now.2),
         )
   ]
@@ -230,10 +230,10 @@ with_live making live = record { graphs = making.graphs; functions = making.func
 
 -- that is all where there is no other, and those from which something escapes are added
 pub keeps_all : (old new : Making) (live : LiveTargets) (members : List FunctionId) (graph : FrozenGraph) (functions : List FunctionGraph) (count : ℕ) → length functions ≡ length members → length functions ≡ count
-    → AddsMembers (rows_of new.escaping.items) (numbers_of members) new.live live → KeepsSome old new members graph functions count → KeepsMembers old (with_live new live) members graph functions
+    → AddsMembers (rows_in new.escaping) (numbers_of members) new.live live → KeepsSome old new members graph functions count → KeepsMembers old (with_live new live) members graph functions
 keeps_all old new live members graph functions count size all adds some = record {
   graphs = some.graphs;
-  live = subst (λ l. AddsMembers (rows_of new.escaping.items) (numbers_of members) l live) some.live adds;
+  live = subst (λ l. AddsMembers (rows_in new.escaping) (numbers_of members) l live) some.live adds;
   size = some.size;
   own = λ place member at. some.own' place member (less place member at) at;
   others = λ number other. some.others number (λ place member lt. other place member);
@@ -340,7 +340,7 @@ module _ (tac : memory_tac.Tac) (groups : Groups) (number : ℕ) (members : List
       → AreLiveBelow (made_in tac groups (with_graphs mid graphs)) (suc number)
   live_added old mid graphs graph functions below keeps = record {
     live =
-        lives_more tac (rows_of old.escaping.items) (rows_of mid.escaping.items) (numbers_of members) old.live mid.live below.live keeps.live
+        lives_more tac (rows_in old.escaping) (rows_in mid.escaping) (numbers_of members) old.live mid.live below.live keeps.live
         (λ called apart. keeps.same_lists called (λ place member at same. apart (member_has called place member at same)))
         (λ called has. below.below called number (has_group called has) (omega arith)) once;
     below = λ called group of later.
@@ -365,7 +365,7 @@ module _ (tac : memory_tac.Tac) (groups : Groups) (number : ℕ) (members : List
     size = keeps.size;
     own = keeps.own;
     others = keeps.others;
-    lists = length-map mid.escaping.items vec_items ∙ (keeps.lists ∙ sym (length-map old.escaping.items vec_items));
+    lists = keeps.lists;
     same_lists = keeps.same_lists;
     listed = keeps.listed tac;
   }
@@ -398,17 +398,16 @@ module _ (tac : memory_tac.Tac) (groups : Groups) (number : ℕ) (members : List
   begins_still old mid graphs graph functions making keeps pushed =
       begins_before (made_in tac groups old) (made_in tac groups (with_graphs mid graphs)) number members graph functions grouped row making.graphs (adds_group old mid graphs graph functions keeps pushed)
 
--- one function more from which nothing escapes
-pub blank_more : (lists : List (Vec ℕ Global)) (list : Vec ℕ Global) → list.items ≡ [] → ((called : ℕ) → is_listed (rows_of lists) called ≡ false) → (called : ℕ) → is_listed (rows_of (lists ++ list ∷ [])) called ≡ false
-blank_more [] list empty none zero = ap has_numbers empty
-blank_more [] list empty none (suc called) = refl
-blank_more (first ∷ lists) list empty none zero = none zero
-blank_more (first ∷ lists) list empty none (suc called) = blank_more lists list empty (λ number. none (suc number)) called
+-- nothing escapes functions whose lists are empty
+pub none_listed : (count called : ℕ) → is_listed (replicate count []) called ≡ false
+none_listed zero called = refl
+none_listed (suc count) zero = refl
+none_listed (suc count) (suc called) = none_listed count called
 
 -- before all groups nothing escapes any function
 pub live_begins : (tac : memory_tac.Tac) (groups : Groups) (making : Making) → IsEmpty tac making → AreLiveBelow (made_in tac groups making) 0
 live_begins tac groups making empty = record {
-  live = lives_none tac (rows_of making.escaping.items) making.live empty.live empty.none;
+  live = lives_none tac (rows_in making.escaping) making.live empty.live empty.none;
   below = λ called group of from. empty.none called;
 }
 

@@ -6,7 +6,8 @@ use Rattle.frozen_graphs.specs.declared.frozen.FrozenGraph.{FrozenGraph}
 use Rattle.program_graphs.specs.declared.program.FunctionGraph.{FunctionGraph}
 use Rattle.function_groups.specs.declared.group_lists.Groups.{Groups}
 use Rattle.call_targets.specs.ClassLists.{numbers_of}
-use Rattle.group_crossings.specs.Before.{GraphsBefore, rows_of, is_listed, is_live}
+use Rattle.shared_lists.specs.Lists.{rows_in}
+use Rattle.group_crossings.specs.Before.{GraphsBefore, is_listed, is_live}
 use Rattle.group_crossings.specs.Live.{AreNoneLive, AddsMembers, AreLive}
 use Rattle.assembled_groups.specs.Making.{AreAt, ListsEscaping, SameOthers}
 use Rattle.dsa_bottom_up.specs.declared.making.Making.{Making}
@@ -17,7 +18,7 @@ made_in tac groups making = record {
   groups = groups;
   graphs = making.graphs.items;
   functions = making.functions.items;
-  escaping = rows_of making.escaping.items;
+  escaping = rows_in making.escaping;
   live = making.live;
 }
 
@@ -25,8 +26,8 @@ made_in tac groups making = record {
 pub record IsEmpty (tac : memory_tac.Tac) (making : Making) : Type 0 where
   pub graphs : making.graphs.items ≡ []
   pub functions : length making.functions.items ≡ length tac.functions.items
-  pub escaping : length making.escaping.items ≡ length tac.functions.items
-  pub none : (called : ℕ) → is_listed (rows_of making.escaping.items) called ≡ false
+  pub escaping : length (rows_in making.escaping) ≡ length tac.functions.items
+  pub none : (called : ℕ) → is_listed (rows_in making.escaping) called ≡ false
   pub live : AreNoneLive tac making.live
 
 -- Those functions from which something escapes are known by their classes; they are of groups below a number.
@@ -45,18 +46,18 @@ pub record KeepsOne (old new : Making) (member : ℕ) (graph : FrozenGraph) (own
   pub size : length new.functions.items ≡ length old.functions.items
   pub own' : slice_get new.functions.items member ≡ Some own
   pub others : (number : ℕ) → (number ≡ member → ⊥) → slice_get new.functions.items number ≡ slice_get old.functions.items number
-  pub lists : length new.escaping.items ≡ length old.escaping.items
-  pub same_lists : (number : ℕ) → (number ≡ member → ⊥) → slice_get (rows_of new.escaping.items) number ≡ slice_get (rows_of old.escaping.items) number
-  pub listed : (tac : memory_tac.Tac) → (numbers : List ℕ) × (slice_get (rows_of new.escaping.items) member ≡ Some numbers) × ListsEscaping tac member graph own.names numbers
+  pub lists : length (rows_in new.escaping) ≡ length (rows_in old.escaping)
+  pub same_lists : (number : ℕ) → (number ≡ member → ⊥) → slice_get (rows_in new.escaping) number ≡ slice_get (rows_in old.escaping) number
+  pub listed : (tac : memory_tac.Tac) → (numbers : List ℕ) × (slice_get (rows_in new.escaping) member ≡ Some numbers) × ListsEscaping tac member graph own.names numbers
 
 -- so it is for each function of a group, and those from which something escapes are added to their classes
 pub record KeepsMembers (old new : Making) (members : List FunctionId) (graph : FrozenGraph) (functions : List FunctionGraph) : Type 0 where
   pub graphs : new.graphs ≡ old.graphs
-  pub live : AddsMembers (rows_of new.escaping.items) (numbers_of members) old.live new.live
+  pub live : AddsMembers (rows_in new.escaping) (numbers_of members) old.live new.live
   pub size : length new.functions.items ≡ length old.functions.items
   pub own : AreAt new.functions.items members functions
   pub others : SameOthers old.functions.items new.functions.items members
-  pub lists : length new.escaping.items ≡ length old.escaping.items
-  pub same_lists : SameOthers (rows_of old.escaping.items) (rows_of new.escaping.items) members
+  pub lists : length (rows_in new.escaping) ≡ length (rows_in old.escaping)
+  pub same_lists : SameOthers (rows_in old.escaping) (rows_in new.escaping) members
   pub listed : (tac : memory_tac.Tac) (place : ℕ) (member : FunctionId) (own : FunctionGraph) → slice_get members place ≡ Some member → slice_get functions place ≡ Some own
-      → (numbers : List ℕ) × (slice_get (rows_of new.escaping.items) member.0 ≡ Some numbers) × ListsEscaping tac member.0 graph own.names numbers
+      → (numbers : List ℕ) × (slice_get (rows_in new.escaping) member.0 ≡ Some numbers) × ListsEscaping tac member.0 graph own.names numbers

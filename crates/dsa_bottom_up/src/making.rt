@@ -10,6 +10,7 @@ ghost use Rattle.program_graphs.specs.declared.program.ProgramGraphs as memory_p
 ghost use Rattle.program_graphs.specs.Programs.{family_in};
 ghost use Rattle.tac_ir.specs.declared.program.Tac as memory;
 ghost use Rattle.reached_nodes.specs.Edges.{EdgesAreFound};
+ghost use Rattle.shared_lists.specs.Lists.{rows_in};
 ghost use Rattle.group_crossings.specs.Before.{graphs_before};
 ghost use Rattle.assembled_groups.specs.Making.{IsGrouped, BeginsWith, IsMaking, ListsEscaping};
 ghost use Rattle.least_graphs.specs.Making.{AreLeast};
@@ -28,6 +29,7 @@ use indexmap::IndexMap;
 use inner_calls::CalledClasses;
 use program_graphs::{FunctionGraph, ProgramGraphs};
 use reached_nodes::escaping;
+use shared_lists::SharedLists;
 use std::alloc::{AllocError, Global};
 use tac_ir::{FunctionId, Tac};
 
@@ -37,7 +39,7 @@ use tac_ir::{FunctionId, Tac};
 pub(crate) struct Making {
     graphs: Vec<FrozenGraph>,
     functions: Vec<FunctionGraph>,
-    escaping: Vec<Vec<usize>>,
+    escaping: SharedLists,
     live: LiveTargets,
     /// That of `start`, of which nothing is told as long as groups have none.
     start: FrozenGraph,
@@ -51,13 +53,8 @@ impl Making {
         ensures { IfOk result (IsEmpty tac.now) }
     {
         let mut functions = Vec::new(alloc);
-        let mut escaping = Vec::new(alloc);
         for _ in tac.functions.as_slice() {
             match functions.push(blank_function(alloc)) {
-                Ok(()) => {}
-                Err(_) => return Err(AllocError),
-            }
-            match escaping.push(Vec::new(alloc)) {
                 Ok(()) => {}
                 Err(_) => return Err(AllocError),
             }
@@ -65,7 +62,7 @@ impl Making {
         Ok(Making {
             graphs: Vec::new(alloc),
             functions,
-            escaping,
+            escaping: SharedLists::new(alloc, tac.functions.len())?,
             live: LiveTargets::new(alloc, tac, &groups.classes)?,
             start: blank_graph(alloc),
             start_function: blank_function(alloc),
@@ -81,7 +78,7 @@ impl Making {
             groups,
             graphs: self.graphs.as_slice(),
             functions: self.functions.as_slice(),
-            escaping: self.escaping.as_slice(),
+            escaping: &self.escaping,
             live: &self.live,
         }
     }
@@ -133,7 +130,7 @@ impl Making {
         functions: Vec<FunctionGraph>,
     ) -> Result<(), AllocError>
         requires functions { All (λ member. member.0 < length self.old.functions.items) members.now }
-        requires lists { length self.old.escaping.items ≡ length self.old.functions.items }
+        requires lists { length (rows_in self.old.escaping) ≡ length self.old.functions.items }
         requires apart { AreApart members.now }
         requires size { length functions.items ≡ length members.now }
         requires found { EdgesAreFound graph.now }
@@ -142,7 +139,7 @@ impl Making {
         for (place, own) in functions.into_iter().enumerate() {
             self.keep_one(alloc, members[place].0, graph, own)?;
         }
-        self.live.add_members(members, self.escaping.as_slice())
+        self.live.add_members(members, &self.escaping)
     }
 
     /// Keeps what is told of one function.
@@ -154,11 +151,12 @@ impl Making {
         own: FunctionGraph,
     ) -> Result<(), AllocError>
         requires within { member < length self.old.functions.items }
-        requires lists { length self.old.escaping.items ≡ length self.old.functions.items }
+        requires lists { length (rows_in self.old.escaping) ≡ length self.old.functions.items }
         requires found { EdgesAreFound graph.now }
         ensures { OnOk result (KeepsOne self.old self.new member graph.now own) }
     {
-        self.escaping[member] = escaping_numbers(alloc, graph, &own.names)?;
+        let numbers = escaping_numbers(alloc, graph, &own.names)?;
+        self.escaping.set(member, numbers)?;
         self.functions[member] = own;
         Ok(())
     }

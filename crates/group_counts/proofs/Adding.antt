@@ -2,6 +2,7 @@
 use Rattle.std.proofs.Common.{◌≡◌, ℕ, ◌+◌, ◌<◌, ◌≤◌, ◌||◌, Bool, false, List, ◌∷◌, map, drop, length, get_or, refl, sym, ap, subst, ◌∙◌, arith}
 use Rattle.std.proofs.lemmas.List.{drop_more, drop_all}
 use Rattle.heap_graph.specs.Graphs.{Name, OfGlobal, OfLiteral}
+use Rattle.group_crossings.specs.declared.before.Before.{Before}
 use Rattle.group_counts.specs.declared.mentions.Mentions.{Mentions}
 use Rattle.group_counts.specs.declared.tally.Tally.{Tally}
 use Rattle.group_counts.specs.Counting.{total}
@@ -30,27 +31,29 @@ adds_same names other old new same adds = record {
 
 -- ---- with counts
 
-pub counts_nothing : (names : Name → Bool) (tally : Tally) → ((name : Name) → names name ≡ false) → Counts 0 names tally tally
-counts_nothing names tally never = record { count = omega arith; names = adds_nothing names tally.mentions never }
+pub counts_nothing : (before : Before) (names : Name → Bool) (tally : Tally) → ((name : Name) → names name ≡ false) → Counts before 0 names tally tally
+counts_nothing before names tally never = record { count = omega arith; names = λ are. adds_nothing names tally.mentions never; told = λ are. are }
 
-pub counts_both : (more most : ℕ) (first second : Name → Bool) (old mid new : Tally) → Counts more first old mid → Counts most second mid new
-    → Counts (more + most) (λ name. first name || second name) old new
-counts_both more most first second old mid new one two = record {
+pub counts_both : (before : Before) (more most : ℕ) (first second : Name → Bool) (old mid new : Tally) → Counts before more first old mid → Counts before most second mid new
+    → Counts before (more + most) (λ name. first name || second name) old new
+counts_both before more most first second old mid new one two = record {
   count = let a : mid.count ≡ old.count + more = one.count in let b : new.count ≡ mid.count + most = two.count in omega (arith, a, b);
-  names = adds_both first second old.mentions mid.mentions new.mentions one.names two.names;
+  names = λ are. adds_both first second old.mentions mid.mentions new.mentions (one.names are) (two.names (one.told are));
+  told = λ are. two.told (one.told are);
 }
 
-pub counts_same : (more most : ℕ) (names other : Name → Bool) (old new : Tally) → more ≡ most → ((name : Name) → names name ≡ other name) → Counts more names old new → Counts most other old new
-counts_same more most names other old new equal same counts = record {
+pub counts_same : (before : Before) (more most : ℕ) (names other : Name → Bool) (old new : Tally) → more ≡ most → ((name : Name) → names name ≡ other name) → Counts before more names old new → Counts before most other old new
+counts_same before more most names other old new equal same counts = record {
   count = counts.count ∙ ap (λ n. old.count + n) equal;
-  names = adds_same names other old.mentions new.mentions same counts.names;
+  names = λ are. adds_same names other old.mentions new.mentions same (counts.names are);
+  told = counts.told;
 }
 
 -- ---- in a loop: counting what is left counts all
 
-module _ {X Y : Type 0} (f : X → Y) (of : Y → ℕ) (names : Y → Name → Bool) (xs : List X) (start : Tally) where
+module _ {X Y : Type 0} (before : Before) (f : X → Y) (of : Y → ℕ) (names : Y → Name → Bool) (xs : List X) (start : Tally) where
   pub record Left (i : ℕ) (now : Tally) : Type 0 where
-    pub to : (final : Tally) → Counts (total of (map f (drop i xs))) (any_of names (map f (drop i xs))) now final → Counts (total of (map f xs)) (any_of names (map f xs)) start final
+    pub to : (final : Tally) → Counts before (total of (map f (drop i xs))) (any_of names (map f (drop i xs))) now final → Counts before (total of (map f xs)) (any_of names (map f xs)) start final
 
   pub at_start : Left 0 start
   at_start = record { to = λ final counts. counts }
@@ -58,11 +61,11 @@ module _ {X Y : Type 0} (f : X → Y) (of : Y → ℕ) (names : Y → Name → B
   split : (i : ℕ) (d x : X) → x ≡ get_or xs i d → i < length xs → map f (drop i xs) ≡ f x ∷ map f (drop (i + 1) xs)
   split i d x is within = ap (map f) (drop_more xs i d within) ∙ ap (λ y. f y ∷ map f (drop (i + 1) xs)) (sym is)
 
-  pub one_more : (i : ℕ) (d x : X) → x ≡ get_or xs i d → i < length xs → (now mid : Tally) → Counts (of (f x)) (names (f x)) now mid → Left i now → Left (i + 1) mid
+  pub one_more : (i : ℕ) (d x : X) → x ≡ get_or xs i d → i < length xs → (now mid : Tally) → Counts before (of (f x)) (names (f x)) now mid → Left i now → Left (i + 1) mid
   one_more i d x is within now mid counts left = record {
-    to = λ final rest. left.to final (subst (λ l. Counts (total of l) (any_of names l) now final) (sym (split i d x is within))
-        (counts_both (of (f x)) (total of (map f (drop (i + 1) xs))) (names (f x)) (any_of names (map f (drop (i + 1) xs))) now mid final counts rest));
+    to = λ final rest. left.to final (subst (λ l. Counts before (total of l) (any_of names l) now final) (sym (split i d x is within))
+        (counts_both before (of (f x)) (total of (map f (drop (i + 1) xs))) (names (f x)) (any_of names (map f (drop (i + 1) xs))) now mid final counts rest));
   }
 
-  pub ends : (i : ℕ) (now : Tally) → length xs ≤ i → Left i now → Counts (total of (map f xs)) (any_of names (map f xs)) start now
-  ends i now out left = left.to now (subst (λ l. Counts (total of (map f l)) (any_of names (map f l)) now now) (sym (drop_all i xs out)) (counts_nothing (λ name. false) now (λ name. refl)))
+  pub ends : (i : ℕ) (now : Tally) → length xs ≤ i → Left i now → Counts before (total of (map f xs)) (any_of names (map f xs)) start now
+  ends i now out left = left.to now (subst (λ l. Counts before (total of (map f l)) (any_of names (map f l)) now now) (sym (drop_all i xs out)) (counts_nothing before (λ name. false) now (λ name. refl)))

@@ -1,5 +1,6 @@
 pub mod MarkSteps
 pub mod Adding
+pub mod ToldGroups
 pub mod Totals
 pub mod TargetSums
 pub mod Firsts

@@ -10,30 +10,34 @@ use Rattle.tac_ir.specs.Code.{Callee, Op, Tac}
 use Rattle.tac_ir.specs.Views.{op_in}
 use Rattle.heap_graph.specs.Graphs.{Name}
 use Rattle.group_begins.specs.Mentioned.{op_begins}
+use Rattle.group_crossings.specs.declared.before.Before.{Before}
 use Rattle.group_counts.specs.declared.tally.Tally.{Tally}
 use Rattle.group_counts.specs.Counting.{Outside, copies_to, copies_of, call_tells}
 use Rattle.group_counts.specs.Tallies.{Adds, Counts, begins, call_names, op_mentions}
 use Rattle.group_counts.proofs.MarkSteps.{or_false}
 use Rattle.group_counts.proofs.Adding.{adds_both, adds_same}
+use Rattle.group_counts.proofs.ToldGroups.{told_stays}
 
-module _ (tac : Tac) (outside : Outside) (old mid : Tally) (same : mid.count ≡ old.count) where
+module _ (tac : Tac) (outside : Outside) (before : Before) (old mid : Tally) (same : mid.count ≡ old.count) (kept : mid.told ≡ old.told) where
   -- a point that calls
   pub call_counted : (op : Op) (site : ℕ) (callee : Callee) (arguments : List Register) → op ≡ O.Call site callee arguments → Adds (λ name. op_begins (begins name) op) old.mentions mid.mentions
-      → (new : Tally) → Counts (copies_to tac outside (length tac.functions) callee) (call_names tac outside callee) mid new → Counts (copies_of tac outside op) (op_mentions tac outside op) old new
+      → (new : Tally) → Counts before (copies_to tac outside (length tac.functions) callee) (call_names tac outside callee) mid new → Counts before (copies_of tac outside op) (op_mentions tac outside op) old new
   call_counted op site callee arguments is path new counts = record {
     count = counts.count ∙ (ap (λ n. n + copies_to tac outside (length tac.functions) callee) same ∙ ap (λ o. old.count + copies_of tac outside o) (sym is));
-    names = adds_same (λ name. op_begins (begins name) op || call_names tac outside callee name) (op_mentions tac outside op) old.mentions new.mentions
+    names = λ told. adds_same (λ name. op_begins (begins name) op || call_names tac outside callee name) (op_mentions tac outside op) old.mentions new.mentions
         (λ name. ap (λ o. op_begins (begins name) op || call_tells tac outside name o) (sym is))
-        (adds_both (λ name. op_begins (begins name) op) (call_names tac outside callee) old.mentions mid.mentions new.mentions path counts.names);
+        (adds_both (λ name. op_begins (begins name) op) (call_names tac outside callee) old.mentions mid.mentions new.mentions path (counts.names (told_stays before (λ name. op_begins (begins name) op) old mid kept path told)));
+    told = λ told. counts.told (told_stays before (λ name. op_begins (begins name) op) old mid kept path told);
   }
 
   -- one that doesn't
   pub others_counted : (op : Op) → copies_of tac outside op ≡ 0 → ((name : Name) → call_tells tac outside name op ≡ false) → Adds (λ name. op_begins (begins name) op) old.mentions mid.mentions
-      → Counts (copies_of tac outside op) (op_mentions tac outside op) old mid
+      → Counts before (copies_of tac outside op) (op_mentions tac outside op) old mid
   others_counted op none never path = record {
     count = same ∙ (plus_none old.count ∙ ap (λ n. old.count + n) (sym none));
-    names = adds_same (λ name. op_begins (begins name) op) (op_mentions tac outside op) old.mentions mid.mentions
+    names = λ told. adds_same (λ name. op_begins (begins name) op) (op_mentions tac outside op) old.mentions mid.mentions
         (λ name. sym (or_false (op_begins (begins name) op)) ∙ ap (λ t. op_begins (begins name) op || t) (sym (never name))) path;
+    told = λ told. told_stays before (λ name. op_begins (begins name) op) old mid kept path told;
   }
     where
       plus_none : (n : ℕ) → n ≡ n + 0

@@ -1,5 +1,5 @@
 -- A function from which nothing escapes has no copies, and its graph tells of no variable outside functions and no literal.
-use Rattle.std.proofs.Common.{◌≡◌, ℕ, zero, suc, ◌<◌, true, false, List, [], ◌∷◌, length, get_or, Contains, Option, Some, None, refl, sym, ap, subst, ◌∙◌, arith}
+use Rattle.std.proofs.Common.{◌≡◌, ℕ, zero, suc, true, false, List, [], ◌∷◌, length, get_or, Contains, Option, Some, None, refl, sym, ap, subst, ◌∙◌, arith}
 use Rattle.std.specs.Prelude.{slice_get}
 use Rattle.std.proofs.lemmas.Bool.{true≢false}
 use Rattle.std.proofs.lemmas.Option.{same_Some, slice_get_within}
@@ -10,7 +10,7 @@ use Rattle.tac_ir.specs.States.{InFunction}
 use Rattle.frozen_graphs.specs.Frozen.{static_in, own_graph}
 use Rattle.frozen_graphs.specs.declared.frozen.FrozenGraph.{FrozenGraph}
 use Rattle.group_crossings.specs.declared.before.Before.{Before}
-use Rattle.group_crossings.specs.Before.{GraphsBefore, IsReached, graphs_before, has_numbers, is_some_list, is_listed, is_live}
+use Rattle.group_crossings.specs.Before.{IsReached, graphs_before, has_numbers, is_some_list, is_listed, is_live}
 use Rattle.group_counts.specs.Sums.{graph_at, is_told, told_in}
 use Rattle.group_counts.specs.Tallies.{IsKnown, AreQuiet, beyond}
 

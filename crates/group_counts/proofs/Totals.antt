@@ -3,6 +3,7 @@ use Rattle.std.proofs.Common.{◌≡◌, ℕ, ◌+◌, ◌||◌, Bool, false, Li
 use Rattle.tac_ir.specs.Code.{Tac}
 use Rattle.tac_ir.specs.States.{Owner, InStart}
 use Rattle.heap_graph.specs.Graphs.{Name, OfGlobal, OfLiteral}
+use Rattle.group_crossings.specs.declared.before.Before.{Before}
 use Rattle.group_counts.specs.declared.mentions.Mentions.{Mentions}
 use Rattle.group_counts.specs.declared.tally.Tally.{Tally}
 use Rattle.group_counts.specs.Counting as C
@@ -12,6 +13,7 @@ use Rattle.group_counts.specs.Tallies.{Adds, IsNew, Counts, any_of, owner_mentio
 use Rattle.group_counts.specs.FirstValues.{first_names}
 use Rattle.group_counts.proofs.MarkSteps.{or_false, marks_counted}
 use Rattle.group_counts.proofs.Adding.{adds_both}
+use Rattle.group_counts.proofs.ToldGroups.{told_first}
 
 abbrev pub marked_globals : Mentions → ℕ
 marked_globals mentions = count_below (length mentions.globals.items) (is_marked mentions.globals.items)
@@ -22,18 +24,19 @@ marked_literals mentions = count_below (length mentions.literals.items) (is_mark
 added : (own copies globals literals : ℕ) → (own + copies) + (globals + literals) ≡ own + (copies + (globals + literals))
 added own copies globals literals = omega arith
 
-module _ (tac : Tac) (outside : Outside) (own : ℕ) (old new : Tally) (fresh : IsNew tac own old) where
-  pub group_counted : (owners : List Owner) → Counts (total (copies_in tac outside) owners) (any_of (owner_mentions tac outside) owners) old new
+module _ (tac : Tac) (outside : Outside) (before : Before) (own : ℕ) (old new : Tally) (fresh : IsNew tac own old) where
+  pub group_counted : (owners : List Owner) → Counts before (total (copies_in tac outside) owners) (any_of (owner_mentions tac outside) owners) old new
       → new.count + (marked_globals new.mentions + marked_literals new.mentions) ≡ C.group_count tac outside own owners
   group_counted owners counts =
+      let adds = counts.names (told_first before old fresh.told) in
       (λ i. (counts.count ∙ ap (λ n. n + total (copies_in tac outside) owners) fresh.count) i
-      + (marks_counted (length tac.globals) old.mentions.globals.items new.mentions.globals.items (λ number. any_of (owner_mentions tac outside) owners (OfGlobal number)) fresh.names.globals counts.names.globals i
-      + marks_counted (length tac.literals) old.mentions.literals.items new.mentions.literals.items (λ number. any_of (owner_mentions tac outside) owners (OfLiteral number)) fresh.names.literals counts.names.literals i))
+      + (marks_counted (length tac.globals) old.mentions.globals.items new.mentions.globals.items (λ number. any_of (owner_mentions tac outside) owners (OfGlobal number)) fresh.names.globals adds.globals i
+      + marks_counted (length tac.literals) old.mentions.literals.items new.mentions.literals.items (λ number. any_of (owner_mentions tac outside) owners (OfLiteral number)) fresh.names.literals adds.literals i))
       ∙ added own (total (copies_in tac outside) owners) (C.globals_counted tac outside (λ number. false) owners) (C.literals_counted tac outside (λ number. false) owners)
 
-  pub start_counted : (mid : Tally) → mid.count ≡ old.count → Adds (first_names tac 0 tac.globals) old.mentions mid.mentions
-      → Counts (copies_in tac outside InStart) (owner_mentions tac outside InStart) mid new → new.count + (marked_globals new.mentions + marked_literals new.mentions) ≡ C.start_count tac outside own
-  start_counted mid same first counts =
+  pub start_counted : (mid : Tally) → mid.count ≡ old.count → mid.told ≡ old.told → Adds (first_names tac 0 tac.globals) old.mentions mid.mentions
+      → Counts before (copies_in tac outside InStart) (owner_mentions tac outside InStart) mid new → new.count + (marked_globals new.mentions + marked_literals new.mentions) ≡ C.start_count tac outside own
+  start_counted mid same kept first counts =
       (λ i. (counts.count ∙ ap (λ n. n + copies_in tac outside InStart) (same ∙ fresh.count)) i + ((globals ∙ more globals_count (first_global tac) (λ number. OfGlobal number)) i + (literals ∙ more literals_count (first_literal tac) (λ number. OfLiteral number)) i))
       ∙ (added own (copies_in tac outside InStart) (C.globals_counted tac outside (first_global tac) (InStart ∷ [])) (C.literals_counted tac outside (first_literal tac) (InStart ∷ []))
       ∙ ap (λ n. own + (n + (C.globals_counted tac outside (first_global tac) (InStart ∷ []) + C.literals_counted tac outside (first_literal tac) (InStart ∷ [])))) (plus_none (copies_in tac outside InStart)))
@@ -51,7 +54,7 @@ module _ (tac : Tac) (outside : Outside) (own : ℕ) (old new : Tally) (fresh : 
       both name = first_names tac 0 tac.globals name || owner_mentions tac outside InStart name
 
       all : Adds both old.mentions new.mentions
-      all = adds_both (first_names tac 0 tac.globals) (owner_mentions tac outside InStart) old.mentions mid.mentions new.mentions first counts.names
+      all = adds_both (first_names tac 0 tac.globals) (owner_mentions tac outside InStart) old.mentions mid.mentions new.mentions first (counts.names (told_first before mid (ap (λ set. set.keys) kept ∙ fresh.told)))
 
       globals : marked_globals new.mentions ≡ count_below globals_count (λ number. both (OfGlobal number))
       globals = marks_counted globals_count old.mentions.globals.items new.mentions.globals.items (λ number. both (OfGlobal number)) fresh.names.globals all.globals

@@ -1,6 +1,7 @@
 -- Marks of the variables outside functions and the literals that are mentioned, and counts that go on with them.
-use Rattle.std.specs.Prelude.{◌≡◌, ℕ, ◌+◌, ◌<◌, ◌&&◌, Bool, false, if◌then◌else◌, nat_lt, List, length, slice_get, Option, Some}
+use Rattle.std.specs.Prelude.{◌≡◌, ℕ, ◌+◌, ◌<◌, ◌&&◌, Bool, true, false, if◌then◌else◌, nat_lt, nat_eq, List, length, slice_get, Option, Some, None}
 use Rattle.std.specs.List.{list_any}
+use Rattle.indexmap.specs.IndexSet.{contains, IsEmpty}
 use Rattle.tac_ir.specs.Code.{Base, Callee, Op, Tac}
 use Rattle.tac_ir.specs.States.{Owner, function_of, points_of}
 use Rattle.tac_ir.specs.Views.{tac_of}
@@ -8,13 +9,14 @@ use Rattle.heap_graph.specs.Graphs.{Name, OfGlobal, OfLiteral}
 use Rattle.group_begins.specs.Mentioned.{is_global, is_literal}
 use Rattle.group_crossings.specs.declared.before.Before.{Before}
 use Rattle.function_groups.specs.GroupViews.{IsOf}
-use Rattle.group_crossings.specs.Before.{IsReached, graphs_before, rows_of}
+use Rattle.shared_lists.specs.Lists.{rows_in}
+use Rattle.group_crossings.specs.Before.{IsReached, graphs_before}
 use Rattle.group_crossings.specs.Live.{AreLive}
 use Rattle.group_counts.specs.declared.mentions.Mentions.{Mentions}
 use Rattle.group_counts.specs.declared.tally.Tally.{Tally}
 use Rattle.group_counts.specs.Counting.{Outside, any_below, comes_out, mentions}
-use Rattle.group_counts.specs.Sums.{outside_of}
-use Rattle.group_counts.specs.Marks.{AddsMarks, AreUnmarked}
+use Rattle.group_counts.specs.Sums.{told_in, outside_of}
+use Rattle.group_counts.specs.Marks.{is_marked, AddsMarks, AreUnmarked}
 
 -- these variables outside functions and these literals are marked beside those that were
 pub record Adds (mentioned : Name → Bool) (old new : Mentions) : Type 0 where
@@ -24,6 +26,11 @@ pub record Adds (mentioned : Name → Bool) (old new : Mentions) : Type 0 where
 pub record AreNone (tac : Tac) (mentions : Mentions) : Type 0 where
   pub globals : AreUnmarked (length tac.globals) mentions.globals.items
   pub literals : AreUnmarked (length tac.literals) mentions.literals.items
+
+-- each of these names that has a mark is marked
+pub record AreMarked (names : Name → Bool) (mentions : Mentions) : Type 0 where
+  pub globals : (number : ℕ) → number < length mentions.globals.items → names (OfGlobal number) ≡ true → is_marked mentions.globals.items number ≡ true
+  pub literals : (number : ℕ) → number < length mentions.literals.items → names (OfLiteral number) ≡ true → is_marked mentions.literals.items number ≡ true
 
 -- ---- names
 
@@ -37,24 +44,35 @@ begins name = λ base. false
 abbrev pub any_of : {X : Type 0} → (X → Name → Bool) → List X → Name → Bool
 any_of mentions xs name = list_any (λ x. mentions x name) xs
 
+-- the graph of a group tells of it
+abbrev pub group_names : Before → ℕ → Name → Bool
+group_names before group name = told_in (slice_get before.graphs.now group) name
+
 -- ---- counts
 
--- so many nodes more are counted, and these names are mentioned
-pub record Counts (more : ℕ) (mentioned : Name → Bool) (old new : Tally) : Type 0 where
-  pub count : new.count ≡ old.count + more
-  pub names : Adds mentioned old.mentions new.mentions
+-- the names of which the graphs of the groups in `told` tell are marked
+pub record AreTold (before : Before) (tally : Tally) : Type 0 where
+  pub are : (group : ℕ) → contains nat_eq tally.told group ≡ true → AreMarked (group_names before group) tally.mentions
 
--- so many nodes are counted, and nothing is mentioned
+-- So many nodes more are counted; and where the names of the groups in `told` are marked, these names are mentioned, and the names of the groups
+-- that are in `told` then are marked.
+pub record Counts (before : Before) (more : ℕ) (mentioned : Name → Bool) (old new : Tally) : Type 0 where
+  pub count : new.count ≡ old.count + more
+  pub names : AreTold before old → Adds mentioned old.mentions new.mentions
+  pub told : AreTold before old → AreTold before new
+
+-- so many nodes are counted, nothing is mentioned, and no group is in `told`
 pub record IsNew (tac : Tac) (own : ℕ) (tally : Tally) : Type 0 where
   pub count : tally.count ≡ own
   pub names : AreNone tac tally.mentions
+  pub told : IsEmpty tally.told
 
 -- ---- groups
 
 -- The functions of groups that have graphs are known, and so are those from which something escapes.
 pub record IsKnown (before : Before) : Type 0 where
   pub groups : IsOf before.tac.now before.groups.now
-  pub live : AreLive before.tac.now (rows_of before.escaping.now) before.live.now
+  pub live : AreLive before.tac.now (rows_in before.escaping.now) before.live.now
   pub reached : (called group : ℕ) → slice_get before.groups.now.group_of.items called ≡ Some group → group < length before.graphs.now → IsReached (graphs_before before) called
 
 abbrev pub code_of : Before → Tac
@@ -63,6 +81,10 @@ code_of before = tac_of before.tac.now
 -- the functions of all groups but one
 abbrev pub beyond : Before → Option ℕ → Outside
 beyond before group = outside_of (graphs_before before) group
+
+-- the graph of a function's group tells of it
+abbrev pub called_names : Before → ℕ → Name → Bool
+called_names before called = (beyond before None).tells called
 
 -- no node escapes a function that doesn't pass a test, and it tells of no name
 pub record AreQuiet (outside : Outside) (live : ℕ → Bool) : Type 0 where

@@ -6,12 +6,13 @@ ghost use Rattle.graph_memory.specs.Memory.{owner_of};
 ghost use Rattle.call_targets.specs.ClassLists.{numbers_of};
 ghost use Rattle.group_counts.specs.Counting.{total, copies_to, copies_of, copies_in, count_below};
 ghost use Rattle.group_counts.specs.Marks.{is_marked};
-ghost use Rattle.group_counts.specs.Tallies.{IsKnown, code_of, beyond, IsNew, Counts, any_of, copies_from, told_from, call_names, op_mentions, owner_mentions};
+ghost use Rattle.group_counts.specs.Tallies.{IsKnown, code_of, beyond, IsNew, Counts, any_of, copies_from, told_from, call_names, called_names, op_mentions, owner_mentions};
 
 use crate::mentions::Mentions;
 use crate::outside::{escaping, graph_before, is_apart};
 use crate::sums::sum;
 use group_crossings::Before;
+use indexmap::IndexSet;
 use std::alloc::{AllocError, Global};
 use tac_ir::{Callee, FunctionId, Op, Tac};
 
@@ -20,6 +21,8 @@ use tac_ir::{Callee, FunctionId, Op, Tac};
 pub(crate) struct Tally {
     pub(crate) count: u64,
     pub(crate) mentions: Mentions,
+    /// The groups whose graphs tell of nothing that isn't mentioned.
+    told: IndexSet<usize>,
 }
 
 impl Tally {
@@ -30,6 +33,7 @@ impl Tally {
         Ok(Tally {
             count,
             mentions: Mentions::new(alloc, tac)?,
+            told: IndexSet::new(alloc),
         })
     }
 
@@ -49,7 +53,7 @@ impl Tally {
         owner: Option<FunctionId>,
     ) -> Result<(), AllocError>
         requires { IsKnown before }
-        ensures { OnOk result (Counts (copies_in (code_of before.entry) (beyond before.entry group) (owner_of owner)) (owner_mentions (code_of before.entry) (beyond before.entry group) (owner_of owner)) self.old self.new) }
+        ensures { OnOk result (Counts before.entry (copies_in (code_of before.entry) (beyond before.entry group) (owner_of owner)) (owner_mentions (code_of before.entry) (beyond before.entry group) (owner_of owner)) self.old self.new) }
     {
         match owner {
             None => self.add_points(alloc, before, group, before.tac.start.points.as_slice()),
@@ -69,7 +73,7 @@ impl Tally {
         points: &[Op],
     ) -> Result<(), AllocError>
         requires { IsKnown before }
-        ensures { OnOk result (Counts (total (copies_of (code_of before.entry) (beyond before.entry group)) (map (op_in before.entry.tac.now.types) points.now)) (any_of (op_mentions (code_of before.entry) (beyond before.entry group)) (map (op_in before.entry.tac.now.types) points.now)) self.old self.new) }
+        ensures { OnOk result (Counts before.entry (total (copies_of (code_of before.entry) (beyond before.entry group)) (map (op_in before.entry.tac.now.types) points.now)) (any_of (op_mentions (code_of before.entry) (beyond before.entry group)) (map (op_in before.entry.tac.now.types) points.now)) self.old self.new) }
     {
         for op in points {
             self.add_op(alloc, before, group, op)?;
@@ -86,7 +90,7 @@ impl Tally {
         op: &Op,
     ) -> Result<(), AllocError>
         requires { IsKnown before }
-        ensures { OnOk result (Counts (copies_of (code_of before.entry) (beyond before.entry group) (op_in before.entry.tac.now.types op.now)) (op_mentions (code_of before.entry) (beyond before.entry group) (op_in before.entry.tac.now.types op.now)) self.old self.new) }
+        ensures { OnOk result (Counts before.entry (copies_of (code_of before.entry) (beyond before.entry group) (op_in before.entry.tac.now.types op.now)) (op_mentions (code_of before.entry) (beyond before.entry group) (op_in before.entry.tac.now.types op.now)) self.old self.new) }
     {
         self.mentions.add_path(op);
         match op {
@@ -104,7 +108,7 @@ impl Tally {
         callee: Callee,
     ) -> Result<(), AllocError>
         requires { IsKnown before }
-        ensures { OnOk result (Counts (copies_to (code_of before.entry) (beyond before.entry group) (length (code_of before.entry).functions) (callee_in before.entry.tac.now.types callee)) (call_names (code_of before.entry) (beyond before.entry group) (callee_in before.entry.tac.now.types callee)) self.old self.new) }
+        ensures { OnOk result (Counts before.entry (copies_to (code_of before.entry) (beyond before.entry group) (length (code_of before.entry).functions) (callee_in before.entry.tac.now.types callee)) (call_names (code_of before.entry) (beyond before.entry group) (callee_in before.entry.tac.now.types callee)) self.old self.new) }
     {
         let targets = before.live_targets(alloc, callee)?;
         self.add_targets(before, group, targets.as_slice())
@@ -118,7 +122,7 @@ impl Tally {
         targets: &[FunctionId],
     ) -> Result<(), AllocError>
         requires { IsKnown before }
-        ensures { OnOk result (Counts (total (copies_from (code_of before.entry) (beyond before.entry group)) (numbers_of targets.now)) (any_of (told_from (code_of before.entry) (beyond before.entry group)) (numbers_of targets.now)) self.old self.new) }
+        ensures { OnOk result (Counts before.entry (total (copies_from (code_of before.entry) (beyond before.entry group)) (numbers_of targets.now)) (any_of (told_from (code_of before.entry) (beyond before.entry group)) (numbers_of targets.now)) self.old self.new) }
     {
         for target in targets {
             self.add_called(before, group, target.0)?;
@@ -134,14 +138,26 @@ impl Tally {
         called: usize,
     ) -> Result<(), AllocError>
         requires { IsKnown before }
-        ensures { OnOk result (Counts (copies_from (code_of before.entry) (beyond before.entry group) called) (told_from (code_of before.entry) (beyond before.entry group) called) self.old self.new) }
+        ensures { OnOk result (Counts before.entry (copies_from (code_of before.entry) (beyond before.entry group) called) (told_from (code_of before.entry) (beyond before.entry group) called) self.old self.new) }
     {
         if !is_apart(before, group, called) {
             return Ok(());
         }
         self.count = sum(self.count, escaping(before, called) as u64)?;
-        if let Some(graph) = graph_before(before, called) {
-            self.mentions.add_graph(graph);
+        self.add_told(before, called)
+    }
+
+    /// Adds what the graph of a function's group tells of, unless a function of that group was called before.
+    fn add_told(&mut self, before: Before<'_>, called: usize) -> Result<(), AllocError>
+        ensures { OnOk result (Counts before.entry 0 (called_names before.entry called) self.old self.new) }
+    {
+        let Some(group) = before.groups.group_of.get(called) else {
+            return Ok(());
+        };
+        if self.told.insert(*group)? {
+            if let Some(graph) = graph_before(before, called) {
+                self.mentions.add_graph(graph);
+            }
         }
         Ok(())
     }

@@ -11,3 +11,4 @@ pub mod ToldCopies
 pub mod AskedCalls
 pub mod LiveClasses
 pub mod LiveRows
+pub mod KnownJoined

@@ -1,13 +1,12 @@
 -- The classes of functions, by their first functions.
-use Rattle.std.proofs.Common.{◌≡◌, ℕ, zero, suc, ◌<◌, ◌≤◌, ◌⊎◌, List, [], ◌∷◌, ◌++◌, length, set, length-set, length-append, ◌+◌, true, Option, Some, None, inl, inr, refl, sym, ap, subst, ◌∙◌, arith}
+use Rattle.std.proofs.Common.{◌≡◌, ℕ, ◌<◌, ◌≤◌, ◌⊎◌, List, [], ◌∷◌, ◌++◌, length, set, length-set, length-append, ◌+◌, true, Option, Some, None, inl, inr, sym, ap, subst, ◌∙◌, arith}
 use Rattle.std.specs.Prelude.{slice_get}
 use Rattle.std.proofs.lemmas.Bool.{cases_eq}
 use Rattle.std.proofs.lemmas.Option.{none-some, same_Some}
-use Rattle.c_typed.specs.Types.{CType}
 use Rattle.tac_ir.specs.declared.program.Tac as memory_tac
 use Rattle.tac_ir.specs.declared.register.Register.{Register}
 use Rattle.tac_ir.specs.declared.register.Register.TheVariants as R
-use Rattle.tac_ir.specs.Code.{Callee, Through}
+use Rattle.tac_ir.specs.Code.{Through}
 use Rattle.tac_ir.specs.Views.{tac_of}
 use Rattle.call_groups.specs.Targets.{is_target}
 use Rattle.call_targets.specs.declared.class_table.Classes.{Classes}

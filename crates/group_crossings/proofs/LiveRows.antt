@@ -1,19 +1,19 @@
 -- The functions from which something escapes, as groups are added.
-use Rattle.std.proofs.Common.{◌≡◌, ◌↔◌, ℕ, zero, suc, ◌+◌, ◌<◌, ◌≤◌, ◌⊎◌, ◌==◌, ◌&&◌, Bool, true, false, if◌then◌else◌, List, [], ◌∷◌, ◌++◌, length, drop, get_or, add-one, append_assoc, append-nil, Option, Some, None, unwrap_or, option_map, inl, inr, refl, sym, ap, subst, ◌∙◌, arith, eqb-true, eq-eqb}
+use Rattle.std.proofs.Common.{◌≡◌, ℕ, zero, suc, ◌+◌, ◌<◌, ◌⊎◌, ◌==◌, ◌&&◌, Bool, true, false, if◌then◌else◌, List, [], ◌∷◌, ◌++◌, length, drop, get_or, add-one, append_assoc, append-nil, Option, Some, None, unwrap_or, option_map, inl, inr, refl, sym, ap, subst, ◌∙◌, arith, eqb-true, eq-eqb}
 use Rattle.std.specs.Prelude.{slice_get, vec_items}
 use Rattle.std.proofs.lemmas.Bool.{false≢true, true≢false, and_parts, and_from, cases_eq, cases_lt}
-use Rattle.std.proofs.lemmas.Option.{none-some, same_Some, slice_get_past}
+use Rattle.std.proofs.lemmas.Option.{slice_get_past}
 use Rattle.tac_ir.specs.declared.program.Tac as memory_tac
 use Rattle.tac_ir.specs.declared.register.FunctionId.{FunctionId}
 use Rattle.tac_ir.specs.declared.register.Register.{Register}
 use Rattle.c_typed.specs.Types.{CType}
-use Rattle.tac_ir.specs.Code.{Callee, Known, Through}
+use Rattle.tac_ir.specs.Code.{Known, Through}
 use Rattle.tac_ir.specs.Views.{tac_of}
 use Rattle.call_groups.specs.Targets.{is_target}
 use Rattle.call_targets.specs.ClassLists.{numbers_of}
 use Rattle.call_targets.specs.TargetLists.{IsFirstTarget}
 use Rattle.graph_rows.specs.Lists.{Has}
-use Rattle.graph_rows.specs.Rows.{row_of, row_at, with_edge, AreRows, AddsEdge}
+use Rattle.graph_rows.specs.Rows.{row_at, with_edge, AreRows}
 use Rattle.graph_rows.proofs.Lists.{in_front, in_back, in_either, some_at}
 use Rattle.group_crossings.specs.declared.live.LiveTargets.{LiveTargets}
 use Rattle.group_crossings.specs.Before.{GraphsBefore, is_some_list, is_listed, is_live}

@@ -55,6 +55,10 @@ module _ (before : GraphsBefore) (called : ℕ) where
   one_reached a b =
       ap (λ g. own_graph before.tac.types g a.own.names) (one_graph a b) ∙ ap (λ (f : FunctionGraph). own_graph before.tac.types b.graph f.names) (one_own a b)
 
+  -- its graph is that of its group
+  pub graph_there : (reached : IsReached before called) (group : ℕ) (graph : FrozenGraph) → reached.group ≡ group → reached.graph ≡ graph → slice_get before.graphs group ≡ Some graph
+  graph_there reached group graph same its = ap (λ n. slice_get before.graphs n) (sym same) ∙ (reached.graph_is ∙ ap Some its)
+
   -- it is one that can be called where its nodes are copied
   pub is_callee : (reached : IsReached before called) (copies : ℕ → Option ℕ) (first next : ℕ) → AreNumbered (nodes_reached before called reached) reached.numbers copies first next
       → IsCallee (tac_of before.tac) called (graph_reached before called reached) copies

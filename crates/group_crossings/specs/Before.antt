@@ -1,5 +1,5 @@
 -- What is known of the groups before one, while its graph is made.
-use Rattle.std.specs.Prelude.{◌≡◌, ◌↔◌, ℕ, ◌<◌, Bool, true, false, not, List, [], ◌∷◌, Vec, vec_items, length, map, slice_get, Contains, Option, Some, None}
+use Rattle.std.specs.Prelude.{◌≡◌, ◌↔◌, ℕ, ◌<◌, Bool, true, false, not, List, [], ◌∷◌, length, slice_get, Contains, Option, Some, None}
 use Rattle.c_typed.specs.Types.{CType}
 use Rattle.c_typed.specs.Table.{structs_in}
 use Rattle.tac_ir.specs.declared.program.Tac as memory_tac
@@ -19,6 +19,7 @@ use Rattle.program_graphs.specs.Shows.{ShowsGraph, ShowsNames}
 use Rattle.reached_nodes.specs.declared.marks.NodeMarks.{NodeMarks}
 use Rattle.reached_nodes.specs.Marks.{is_marked, AreMarked}
 use Rattle.reached_nodes.specs.Edges.{EdgesAreFound}
+use Rattle.shared_lists.specs.Lists.{rows_in}
 use Rattle.function_groups.specs.declared.group_lists.Groups.{Groups}
 use Rattle.call_copies.specs.Adding.{HaveSlots, AreClosed}
 use Rattle.inner_calls.specs.Members.{is_numbered}
@@ -35,16 +36,13 @@ pub record GraphsBefore : Type 0 where
   pub escaping : List (List ℕ)
   pub live : LiveTargets
 
-abbrev pub rows_of : {A : Type 0} → List (Vec ℕ A) → List (List ℕ)
-rows_of = map vec_items
-
 abbrev pub graphs_before : Before → GraphsBefore
 graphs_before before = record {
   tac = before.tac.now;
   groups = before.groups.now;
   graphs = before.graphs.now;
   functions = before.functions.now;
-  escaping = rows_of before.escaping.now;
+  escaping = rows_in before.escaping.now;
   live = before.live.now;
 }
 

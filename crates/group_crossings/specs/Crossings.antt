@@ -19,13 +19,14 @@ use Rattle.call_copies.specs.declared.copies.Copies.{Copies}
 use Rattle.call_copies.specs.Adding.{AreNumbered}
 use Rattle.call_copies.specs.Copied.{numbers_in, AreCopied}
 use Rattle.call_copies.specs.Telling.{CopiesTold}
+use Rattle.shared_lists.specs.Lists.{rows_in}
 use Rattle.function_groups.specs.GroupViews.{IsOf}
 use Rattle.graph_premises.specs.Standing.{CodeStands}
 use Rattle.group_freezing.specs.Copies.{TellsCopies}
 use Rattle.outer_calls.specs.Crossed.{IsCrossed}
 use Rattle.group_crossings.specs.declared.before.Before.{Before}
 use Rattle.group_crossings.specs.declared.before.Crossings.{Crossings}
-use Rattle.group_crossings.specs.Before.{GraphsBefore, IsReached, rows_of, graph_reached, nodes_reached, is_live, is_out}
+use Rattle.group_crossings.specs.Before.{GraphsBefore, IsReached, graph_reached, nodes_reached, is_live, is_out}
 use Rattle.group_crossings.specs.Live.{AreLive}
 
 -- the functions of which the owners are numbers; none is `start`
@@ -48,7 +49,7 @@ pub record IsKnown (before : Before) : Type 0 where
   pub code : CodeStands (tac_of before.tac.now)
   pub literals : LiteralsStand before.tac.now.types before.tac.now.literals.items
   pub groups : IsOf before.tac.now before.groups.now
-  pub live : AreLive before.tac.now (rows_of before.escaping.now) before.live.now
+  pub live : AreLive before.tac.now (rows_in before.escaping.now) before.live.now
 
 -- ---- one call, to one function
 

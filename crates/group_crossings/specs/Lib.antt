@@ -3,3 +3,4 @@ pub mod Live
 pub mod Crossings
 pub mod CallSteps
 pub mod Asking
+pub mod Joined

@@ -6,6 +6,7 @@ use frozen_graphs::FrozenGraph;
 use function_groups::Groups;
 use indexmap::IndexMap;
 use program_graphs::{Crossing, FunctionGraph};
+use shared_lists::SharedLists;
 use tac_ir::Tac;
 
 /// The graphs of the groups so far, by the numbers of the groups; what they tell of functions, and which nodes escape each function, by the
@@ -16,7 +17,7 @@ pub struct Before<'a> {
     pub groups: &'a Groups,
     pub graphs: &'a [FrozenGraph],
     pub functions: &'a [FunctionGraph],
-    pub escaping: &'a [Vec<usize>],
+    pub escaping: &'a SharedLists,
     pub live: &'a LiveTargets,
 }
 

@@ -13,14 +13,16 @@ ghost use Rattle.group_freezing.specs.Owners.{function_at, IsFunctionOf};
 ghost use Rattle.outer_calls.specs.Crossed.{CallNamed};
 ghost use Rattle.group_crossings.specs.Before.{graphs_before, is_inside, IsReached};
 ghost use Rattle.group_crossings.specs.Crossings.{owners_in, AreReached, AllReached, IsKnown, IsCalledFrom, AreCrossed, NumbersApart};
+ghost use Rattle.group_crossings.specs.Joined.{AreKnownJoined};
 ghost use Rattle.group_crossings.specs.CallSteps.{shown, IsPoint, OwnerNamed, CallOut, OwnStands, HasEntry, TargetCrosses, TargetsCross, PointCrosses, Crosses, OwnerCrosses, AllLead};
 
 use crate::before::{Before, Crossings};
+use crate::joined::JoinedGroups;
 use call_copies::copy_escaping;
 use frozen_graphs::{FrozenGraph, FunctionNames};
 use graph_memory::Graph;
 use indexmap::IndexMap;
-use outer_calls::{Crossed, join_outer};
+use outer_calls::Crossed;
 use program_graphs::Crossing;
 use std::alloc::{AllocError, Global};
 use tac_ir::{Function, FunctionId, Op, Register, Tac};
@@ -55,13 +57,14 @@ impl<'a> Before<'a> {
         ensures leads { IfOk result (λ all. AllLead (graphs_before self.entry) group owners.now all.items (graph_in self.entry.tac.now.types graph.old) (graph_in self.entry.tac.now.types graph.new)) }
     {
         let mut all = Vec::new(alloc);
+        let mut joined = JoinedGroups::new(alloc);
         let mut next = 0;
         for owner in owners {
             let caller = Caller {
                 owner: *owner,
                 group,
             };
-            let own = self.cross_owner(alloc, graph, caller, next)?;
+            let own = self.cross_owner(alloc, graph, &mut joined, caller, next)?;
             next = own.next;
             all.push(own)?;
         }
@@ -73,6 +76,7 @@ impl<'a> Before<'a> {
         self,
         alloc: Global,
         graph: &mut Graph,
+        joined: &mut JoinedGroups,
         caller: Caller,
         first: usize,
     ) -> Result<Crossings, AllocError>
@@ -82,8 +86,10 @@ impl<'a> Before<'a> {
         requires graph { IsGraph self.tac.now.types graph.old }
         requires named { OwnerNamed (tac_of self.tac.now) (owner_of caller.owner) (shown self graph.old) }
         requires free { AreFree (shown self graph.old) first }
+        requires joined { AreKnownJoined (graphs_before self) joined.old (shown self graph.old) }
         ensures graph { OnOk result (IsGraph self.entry.tac.now.types graph.new) }
         ensures crosses { IfOk result (λ own. OwnerCrosses (graphs_before self.entry) caller.group (owner_of caller.owner) first own (shown self.entry graph.old) (shown self.entry graph.new)) }
+        ensures joined { OnOk result (AreKnownJoined (graphs_before self.entry) joined.new (shown self.entry graph.new)) }
     {
         let function = function_of(self.tac, caller.owner);
         let mut own = Crossings {
@@ -91,7 +97,7 @@ impl<'a> Before<'a> {
             next: first,
         };
         for op in function.points.as_slice() {
-            self.cross_op(alloc, graph, &mut own, caller, op)?;
+            self.cross_op(alloc, graph, joined, &mut own, caller, op)?;
         }
         Ok(own)
     }
@@ -101,6 +107,7 @@ impl<'a> Before<'a> {
         self,
         alloc: Global,
         graph: &mut Graph,
+        joined: &mut JoinedGroups,
         own: &mut Crossings,
         caller: Caller,
         op: &Op,
@@ -111,9 +118,11 @@ impl<'a> Before<'a> {
         requires graph { IsGraph self.tac.now.types graph.old }
         requires named { OwnerNamed (tac_of self.tac.now) (owner_of caller.owner) (shown self graph.old) }
         requires stands { OwnStands (graphs_before self) caller.group (owner_of caller.owner) own.old (shown self graph.old) }
+        requires joined { AreKnownJoined (graphs_before self) joined.old (shown self graph.old) }
         ensures graph { OnOk result (IsGraph self.entry.tac.now.types graph.new) }
         ensures crosses { OnOk result (Crosses (graphs_before self.entry) caller.group (owner_of caller.owner)
             (PointCrosses (graphs_before self.entry) caller.group (owner_of caller.owner) (op_in self.entry.tac.now.types op.now)) own.old own.new (shown self.entry graph.old) (shown self.entry graph.new)) }
+        ensures joined { OnOk result (AreKnownJoined (graphs_before self.entry) joined.new (shown self.entry graph.new)) }
     {
         match op {
             Op::Call {
@@ -122,7 +131,9 @@ impl<'a> Before<'a> {
                 arguments,
             } => {
                 let targets = self.live_targets(alloc, *callee)?;
-                self.cross_targets(alloc, graph, own, caller, *site, arguments, &targets)
+                self.cross_targets(
+                    alloc, graph, joined, own, caller, *site, arguments, &targets,
+                )
             }
             _ => Ok(()),
         }
@@ -133,6 +144,7 @@ impl<'a> Before<'a> {
         self,
         alloc: Global,
         graph: &mut Graph,
+        joined: &mut JoinedGroups,
         own: &mut Crossings,
         caller: Caller,
         site: usize,
@@ -144,12 +156,14 @@ impl<'a> Before<'a> {
         requires graph { IsGraph self.tac.now.types graph.old }
         requires named { CallNamed (owner_of caller.owner) site arguments.now (shown self graph.old) }
         requires stands { OwnStands (graphs_before self) caller.group (owner_of caller.owner) own.old (shown self graph.old) }
+        requires joined { AreKnownJoined (graphs_before self) joined.old (shown self graph.old) }
         ensures graph { OnOk result (IsGraph self.entry.tac.now.types graph.new) }
         ensures crosses { OnOk result (Crosses (graphs_before self.entry) caller.group (owner_of caller.owner)
             (TargetsCross (graphs_before self.entry) caller.group (owner_of caller.owner) site arguments.now (numbers_of targets.now)) own.old own.new (shown self.entry graph.old) (shown self.entry graph.new)) }
+        ensures joined { OnOk result (AreKnownJoined (graphs_before self.entry) joined.new (shown self.entry graph.new)) }
     {
         for called in targets {
-            self.cross_one(alloc, graph, own, caller, site, arguments, called.0)?;
+            self.cross_one(alloc, graph, joined, own, caller, site, arguments, called.0)?;
         }
         Ok(())
     }
@@ -159,6 +173,7 @@ impl<'a> Before<'a> {
         self,
         alloc: Global,
         graph: &mut Graph,
+        joined: &mut JoinedGroups,
         own: &mut Crossings,
         caller: Caller,
         site: usize,
@@ -170,15 +185,17 @@ impl<'a> Before<'a> {
         requires graph { IsGraph self.tac.now.types graph.old }
         requires named { CallNamed (owner_of caller.owner) site arguments.now (shown self graph.old) }
         requires stands { OwnStands (graphs_before self) caller.group (owner_of caller.owner) own.old (shown self graph.old) }
+        requires joined { AreKnownJoined (graphs_before self) joined.old (shown self graph.old) }
         ensures graph { OnOk result (IsGraph self.entry.tac.now.types graph.new) }
         ensures crosses { OnOk result (Crosses (graphs_before self.entry) caller.group (owner_of caller.owner)
             (TargetCrosses (graphs_before self.entry) caller.group (owner_of caller.owner) site arguments.now called) own.old own.new (shown self.entry graph.old) (shown self.entry graph.new)) }
+        ensures joined { OnOk result (AreKnownJoined (graphs_before self.entry) joined.new (shown self.entry graph.new)) }
     {
         if self.is_inside(caller.group, called) {
             return Ok(());
         }
         self.copy_called(alloc, graph, own, caller, site, called)?;
-        self.join_called(graph, own, caller, site, arguments, called)
+        self.join_called(alloc, graph, joined, own, caller, site, arguments, called)
     }
 
     /// Copies what escapes a function for a call that has no copies of it yet.
@@ -211,10 +228,12 @@ impl<'a> Before<'a> {
         Ok(())
     }
 
-    /// Joins a call with the copies that it has.
+    /// Joins a call with the copies that it has, and notes the group of the function that is called as joined.
     fn join_called(
         self,
+        alloc: Global,
         graph: &mut Graph,
+        joined: &mut JoinedGroups,
         own: &Crossings,
         caller: Caller,
         site: usize,
@@ -227,9 +246,11 @@ impl<'a> Before<'a> {
         requires graph { IsGraph self.tac.now.types graph.old }
         requires named { CallNamed (owner_of caller.owner) site arguments.now (shown self graph.old) }
         requires stands { OwnStands (graphs_before self) caller.group (owner_of caller.owner) own.now (shown self graph.old) }
+        requires joined { AreKnownJoined (graphs_before self) joined.old (shown self graph.old) }
         ensures graph { OnOk result (IsGraph self.entry.tac.now.types graph.new) }
         ensures crosses { OnOk result (Crosses (graphs_before self.entry) caller.group (owner_of caller.owner)
             (TargetCrosses (graphs_before self.entry) caller.group (owner_of caller.owner) site arguments.now called) own.now own.now (shown self.entry graph.old) (shown self.entry graph.new)) }
+        ensures joined { OnOk result (AreKnownJoined (graphs_before self.entry) joined.new (shown self.entry graph.new)) }
     {
         let Some(copies) = own.copies.get(&Crossing { site, called }) else {
             return Ok(());
@@ -241,7 +262,17 @@ impl<'a> Before<'a> {
             names: self.names_of(called),
             copies,
         };
-        join_outer(crossed, graph, caller.owner, site, arguments)
+        let group = self.group_of(called);
+        joined.join(alloc, graph, crossed, group, caller.owner, site, arguments)?;
+        Ok(())
+    }
+
+    /// The number of the group of a function.
+    fn group_of(self, called: usize) -> usize
+        requires reached { IsReached (graphs_before self) called }
+        ensures { (reached : IsReached (graphs_before self.entry) called) → reached.group ≡ result }
+    {
+        self.groups.group_of[called]
     }
 
     /// The graph of the group of a function.
@@ -265,7 +296,10 @@ impl<'a> Before<'a> {
         requires reached { IsReached (graphs_before self) called }
         ensures { (reached : IsReached (graphs_before self.entry) called) → reached.numbers ≡ result.now }
     {
-        self.escaping[called].as_slice()
+        match self.escaping.get(called) {
+            Some(numbers) => numbers,
+            None => &[],
+        }
     }
 
     /// Whether a function is of the group of this number.

@@ -7,6 +7,7 @@
 mod before;
 mod crossing;
 mod freezing;
+mod joined;
 mod live;
 mod telling;
 

@@ -5,12 +5,14 @@ ghost use Rattle.tac_ir.specs.Views.{callee_in};
 ghost use Rattle.graph_rows.specs.Rows.{AddsEdge};
 ghost use Rattle.call_targets.specs.ClassLists.{AreClasses, numbers_of};
 ghost use Rattle.function_groups.specs.GroupViews.{IsOf};
-ghost use Rattle.group_crossings.specs.Before.{graphs_before, is_listed, rows_of};
+ghost use Rattle.shared_lists.specs.Lists.{rows_in};
+ghost use Rattle.group_crossings.specs.Before.{graphs_before, is_listed};
 ghost use Rattle.group_crossings.specs.Live.{class_in, row_in, TellClasses, AreNoneLive, AddsLive, AddsMembers, AreLive, AreLiveTargets};
 
 use crate::before::Before;
 use call_targets::Classes;
 use graph_rows::rows;
+use shared_lists::SharedLists;
 use std::alloc::{AllocError, Global};
 use tac_ir::{Callee, FunctionId, Tac};
 
@@ -42,9 +44,9 @@ impl LiveTargets {
     pub fn add_members(
         &mut self,
         members: &[FunctionId],
-        escaping: &[Vec<usize>],
+        escaping: &SharedLists,
     ) -> Result<(), AllocError>
-        ensures { OnOk result (AddsMembers (rows_of escaping.now) (numbers_of members.now) self.old self.new) }
+        ensures { OnOk result (AddsMembers (rows_in escaping.now) (numbers_of members.now) self.old self.new) }
     {
         for member in members {
             if is_live(escaping, member.0) {
@@ -92,7 +94,7 @@ impl<'a> Before<'a> {
     /// The functions to which a call may come and from which something escapes.
     pub fn live_targets(self, alloc: Global, callee: Callee) -> Result<Vec<FunctionId>, AllocError>
         requires groups { IsOf self.tac.now self.groups.now }
-        requires live { AreLive self.tac.now (rows_of self.escaping.now) self.live.now }
+        requires live { AreLive self.tac.now (rows_in self.escaping.now) self.live.now }
         ensures { IfOk result (λ made. AreLiveTargets (graphs_before self.entry) (callee_in self.entry.tac.now.types callee) (numbers_of made.items)) }
     {
         match callee {
@@ -112,11 +114,11 @@ impl<'a> Before<'a> {
 }
 
 /// Whether something escapes a function.
-fn is_live(escaping: &[Vec<usize>], called: usize) -> bool
-    ensures { result ≡ is_listed (rows_of escaping.now) called }
+fn is_live(escaping: &SharedLists, called: usize) -> bool
+    ensures { result ≡ is_listed (rows_in escaping.now) called }
 {
     match escaping.get(called) {
-        Some(numbers) => !numbers.as_slice().is_empty(),
+        Some(numbers) => !numbers.is_empty(),
         None => false,
     }
 }

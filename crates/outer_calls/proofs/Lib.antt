@@ -8,3 +8,6 @@ pub mod Closing
 pub mod Completing
 pub mod Escaping
 pub mod Fitting
+pub mod JoinedStatics
+pub mod Representing
+pub mod SeenNodes

@@ -1,6 +1,10 @@
--- The variables outside functions, or the literals, of which the graph of the function that is called tells, one after the other.
-use Rattle.std.proofs.Common.{◌≡◌, ℕ, suc, ◌<◌, ◌≤◌, Bool, true, false, cond, eqb, List, [], ◌∷◌, length, get_or, Option, Some, None, refl, sym, ap, subst, ◌∙◌, arith, eqb-true}
-use Rattle.std.specs.Map.{keys_of, lookup}
+-- The variables outside functions, or the literals, of a list, one after the other.
+use Rattle.std.proofs.Common.{◌≡◌, ℕ, ◌<◌, ◌≤◌, List, length, get_or, Contains, Option, Some, None, refl, sym, subst, ◌∙◌, arith}
+use Rattle.std.specs.Prelude.{nat_eq, IsSome}
+use Rattle.std.proofs.lemmas.Bool.{eqb-true}
+use Rattle.std.proofs.lemmas.List.{get_or_default}
+use Rattle.std.proofs.lemmas.List.Elements.{Contains-get_or}
+use Rattle.std.proofs.lemmas.Map.Views.{Contains-keys_from_lookup}
 use Rattle.std.proofs.lemmas.Option.{none-some}
 use Rattle.indexmap.specs.IndexMap.{IndexMap, keys, get_by}
 use Rattle.heap_graph.specs.declared.graph.Target as memory_target
@@ -10,50 +14,51 @@ use Rattle.heap_graph.specs.Graphs.{Target, Name, Graph}
 use Rattle.frozen_graphs.specs.Frozen.{optional_target, static_in}
 use Rattle.outer_calls.specs.Crossed.{Comes, AllCome}
 use Rattle.outer_calls.specs.Joins.{Joins}
+use Rattle.outer_calls.specs.Listed.{ListedCome}
 use Rattle.outer_calls.proofs.Kept.{Keeps, comes_kept}
 use Rattle.outer_calls.proofs.Joining.{Below, joins_for}
 
 -- the one that stands at a place of the list
 abbrev pub ComesAt : Graph → (ℕ → Option ℕ) → (ℕ → Name) → List ℕ → ℕ → Graph → Type 0
-ComesAt callee copies name numbers place graph = Comes callee copies (name (get_or numbers place 0)) (name (get_or numbers place 0)) graph
+ComesAt callee copies name numbers place graph = place < length numbers → Comes callee copies (name (get_or numbers place 0)) (name (get_or numbers place 0)) graph
 
-pub comes_at_kept : (tac : Tac) (made : AreMade tac.structs) (callee : Graph) (copies : ℕ → Option ℕ) (name : ℕ → Name) (numbers : List ℕ) (place : ℕ) → Keeps tac.structs (ComesAt callee copies name numbers place)
-comes_at_kept tac made callee copies name numbers place = comes_kept tac.structs made callee copies (name (get_or numbers place 0)) (name (get_or numbers place 0))
+module _ (tac : Tac) (made : AreMade tac.structs) (callee : Graph) (copies : ℕ → Option ℕ) (name : ℕ → Name) (numbers : List ℕ) where
+  pub comes_at_kept : (place : ℕ) → Keeps tac.structs (ComesAt callee copies name numbers place)
+  comes_at_kept place old new sound goes comes = λ within. comes_kept tac.structs made callee copies (name (get_or numbers place 0)) (name (get_or numbers place 0)) old new sound goes (comes within)
 
--- a number that is found stands in the list of keys
-module _ (number : ℕ) where
-  pub record IsKey (entries : List (ℕ × memory_target.Target)) : Type 0 where
-    pub place : ℕ
-    pub within : place < length (keys_of entries)
-    pub is : get_or (keys_of entries) place 0 ≡ number
+  pub listed_kept : Keeps tac.structs (ListedCome callee copies name numbers)
+  listed_kept old new sound goes come = λ number among. comes_kept tac.structs made callee copies (name number) (name number) old new sound goes (come number among)
 
-  key_found : (entries : List (ℕ × memory_target.Target)) (value : memory_target.Target) → lookup (λ key. eqb number key) entries ≡ Some value → IsKey entries
-  key_found [] value is = absurd (none-some value is)
-  key_found (first ∷ others) value is = by (eqb number first.0) refl (key_found others value)
-    where
-      by : (test : Bool) → eqb number first.0 ≡ test → (lookup (λ key. eqb number key) others ≡ Some value → IsKey others) → IsKey (first ∷ others)
-      by true same rest = record { place = 0; within = omega arith; is = sym (eqb-true number first.0 same) }
-      by false apart rest =
-          let found = rest (sym (ap (λ test. cond test (Some first.1) (lookup (λ key. eqb number key) others)) apart) ∙ is) in
-          record { place = suc found.place; within = omega (arith, found.within); is = found.is }
+  pub one_joined : (place : ℕ) → place < length numbers → (old new : Graph) → Joins tac callee (Comes callee copies (name (get_or numbers place 0)) (name (get_or numbers place 0))) old new
+      → Joins tac callee (ComesAt callee copies name numbers place) old new
+  one_joined place within old new joins =
+      joins_for tac made callee old new (Comes callee copies (name (get_or numbers place 0)) (name (get_or numbers place 0))) (ComesAt callee copies name numbers place) (λ graph comes. comes within)
+      (λ comes less. comes) joins
 
-module _ {S : Type 0} (map : IndexMap ℕ memory_target.Target S) where
-  found_key : (number : ℕ) (target : Target) → static_in map number ≡ Some target → IsKey number map.entries
-  found_key number target is = by (get_by (λ key. eqb number key) map) refl
-    where
-      by : (found : Option memory_target.Target) → get_by (λ key. eqb number key) map ≡ found → IsKey number map.entries
-      by None none = absurd (none-some target (sym (ap optional_target none) ∙ is))
-      by (Some value) there = key_found number map.entries value there
-
-  -- where each that is listed comes to its copy, all do
-  pub all_listed : (tac : Tac) (made : AreMade tac.structs) (callee : Graph) (copies : ℕ → Option ℕ) (name : ℕ → Name) → ((number : ℕ) → callee.targets (name number) ≡ static_in map number) → (numbers : List ℕ)
-      → numbers ≡ keys map → (count : ℕ) → length numbers ≤ count → (old new : Graph) → Joins tac callee (Below (ComesAt callee copies name numbers) count) old new → Joins tac callee (AllCome callee copies name) old new
-  all_listed tac made callee copies name shows numbers same count out old new joins =
-      joins_for tac made callee old new (Below (ComesAt callee copies name numbers) count) (AllCome callee copies name) (λ graph all place less. all (get_or numbers place 0))
-      (λ below number target is.
-      let key = found_key number target (sym (shows number) ∙ is) in
-      let there : get_or numbers key.place 0 ≡ number = ap (λ xs. get_or xs key.place 0) same ∙ key.is in
-      let long = ap length same in
-      let within = key.within in
-      subst (λ n. Comes callee copies (name n) (name n) new) there (below key.place (omega (arith, within, long, out))) target is)
+  -- where there are no more, all were joined
+  pub list_joined : (count : ℕ) → length numbers ≤ count → (old new : Graph) → Joins tac callee (Below (ComesAt callee copies name numbers) count) old new
+      → Joins tac callee (ListedCome callee copies name numbers) old new
+  list_joined count out old new joins =
+      joins_for tac made callee old new (Below (ComesAt callee copies name numbers) count) (ListedCome callee copies name numbers)
+      (λ graph all place less within. all (get_or numbers place 0) (Contains-get_or numbers place 0 within))
+      (λ below number among.
+      let within = among.1 in
+      let there : get_or numbers among.0 0 ≡ number = get_or_default numbers among.0 0 number within ∙ among.2 in
+      subst (λ n. Comes callee copies (name n) (name n) new) there (below among.0 (omega (arith, within, out)) within))
       joins
+
+-- a number that has a target is among the keys
+key_found : {S : Type 0} (map : IndexMap ℕ memory_target.Target S) (number : ℕ) (target : Target) → static_in map number ≡ Some target → Contains (keys map) number
+key_found map number target is = Contains-keys_from_lookup {eq = nat_eq} eqb-true number map.entries (by (get_by (nat_eq number) map) is)
+  where
+    by : (found : Option memory_target.Target) → optional_target found ≡ Some target → IsSome found
+    by None e = absurd (none-some target e)
+    by (Some value) e = refl
+
+-- where those of a list come to their copies in which all are that have targets, all do
+pub all_listed : {S : Type 0} (map : IndexMap ℕ memory_target.Target S) (tac : Tac) (made : AreMade tac.structs) (callee : Graph) (copies : ℕ → Option ℕ) (name : ℕ → Name)
+    → ((number : ℕ) → callee.targets (name number) ≡ static_in map number) → (numbers : List ℕ) → numbers ≡ keys map → (old new : Graph) → Joins tac callee (ListedCome callee copies name numbers) old new
+    → Joins tac callee (AllCome callee copies name) old new
+all_listed map tac made callee copies name shows numbers same old new joins =
+    joins_for tac made callee old new (ListedCome callee copies name numbers) (AllCome callee copies name) (λ graph all number among. all number)
+    (λ listed number target is. listed number (subst (λ l. Contains l number) (sym same) (key_found map number target (sym (shows number) ∙ is))) target is) joins

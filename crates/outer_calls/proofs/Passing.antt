@@ -23,6 +23,7 @@ use Rattle.heap_graph.specs.Merging.{IsSound}
 use Rattle.heap_graph.specs.Closed.{parameters_of, result_of, type_of, function_type, formal}
 use Rattle.outer_calls.specs.Crossed.{IsImage, Comes, AllCome, IsPassed, ArePassed, IsGiven, IsCrossed}
 use Rattle.outer_calls.specs.Joins.{Joins}
+use Rattle.outer_calls.specs.Listed.{StaticsCome}
 use Rattle.outer_calls.proofs.Kept.{Keeps, passed_kept, are_passed_kept, given_kept, all_come_kept}
 use Rattle.outer_calls.proofs.Joining.{Below, joins_same, joins_then, joins_for}
 
@@ -148,15 +149,21 @@ module _ (tac : Tac) (made : AreMade tac.structs) (callee : Graph) (copies : ℕ
   Literals = AllCome callee copies OfLiteral
 
   -- arguments first, then the result, then variables and literals
+  pub crossed_joined : (one two three four : Graph) → IsSound tac.structs one → IsSound tac.structs two → IsSound tac.structs three → Joins tac callee Passed one two → Joins tac callee Given two three
+      → Joins tac callee (StaticsCome callee copies) three four → Joins tac callee (IsCrossed tac owner site arguments called callee copies) one four
+  crossed_joined one two three four sound second third passed given statics =
+      joins_for tac made callee one four (λ g. Passed g × (Given g × StaticsCome callee copies g)) (IsCrossed tac owner site arguments called callee copies)
+      (λ g its. (its.passed, (its.given, (its.globals, its.literals))))
+      (λ its. record { passed = its.0; given = its.1.0; globals = its.1.1.0; literals = its.1.1.1 })
+      (joins_then tac made callee one two four sound second Passed (λ g. Given g × StaticsCome callee copies g) (λ g. Passed g × (Given g × StaticsCome callee copies g))
+      (are_passed_kept tac.structs made callee copies owner called (parameters_of (function_type tac called)) arguments) (λ g its. its) (λ g a b. (a, b)) passed
+      (joins_then tac made callee two three four second third Given (StaticsCome callee copies) (λ g. Given g × StaticsCome callee copies g)
+      (given_kept tac.structs made callee copies owner site called (function_type tac called)) (λ g its. its) (λ g a b. (a, b)) given statics))
+
+  -- variables first, then literals
   pub all_joined : (one two three four five : Graph) → IsSound tac.structs one → IsSound tac.structs two → IsSound tac.structs three → IsSound tac.structs four → Joins tac callee Passed one two
       → Joins tac callee Given two three → Joins tac callee Globals three four → Joins tac callee Literals four five → Joins tac callee (IsCrossed tac owner site arguments called callee copies) one five
   all_joined one two three four five sound second third fourth passed given globals literals =
-      joins_for tac made callee one five (λ g. Passed g × (Given g × (Globals g × Literals g))) (IsCrossed tac owner site arguments called callee copies)
-      (λ g its. (its.passed, (its.given, (its.globals, its.literals))))
-      (λ its. record { passed = its.0; given = its.1.0; globals = its.1.1.0; literals = its.1.1.1 })
-      (joins_then tac made callee one two five sound second Passed (λ g. Given g × (Globals g × Literals g)) (λ g. Passed g × (Given g × (Globals g × Literals g)))
-      (are_passed_kept tac.structs made callee copies owner called (parameters_of (function_type tac called)) arguments) (λ g its. its) (λ g a b. (a, b)) passed
-      (joins_then tac made callee two three five second third Given (λ g. Globals g × Literals g) (λ g. Given g × (Globals g × Literals g))
-      (given_kept tac.structs made callee copies owner site called (function_type tac called)) (λ g its. its) (λ g a b. (a, b)) given
-      (joins_then tac made callee three four five third fourth Globals Literals (λ g. Globals g × Literals g)
-      (all_come_kept tac.structs made callee copies OfGlobal) (λ g its. its) (λ g a b. (a, b)) globals literals)))
+      crossed_joined one two three five sound second third passed given
+      (joins_then tac made callee three four five third fourth Globals Literals (StaticsCome callee copies)
+      (all_come_kept tac.structs made callee copies OfGlobal) (λ g its. its) (λ g a b. (a, b)) globals literals)

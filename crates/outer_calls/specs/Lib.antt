@@ -2,3 +2,5 @@ pub mod Crossed
 pub mod Joins
 pub mod Shown
 pub mod Placed
+pub mod Statics
+pub mod Listed

@@ -8,8 +8,11 @@ ghost use Rattle.call_copies.specs.Copied.{image};
 ghost use Rattle.call_copies.specs.Steps.{LeadsToSlot};
 ghost use Rattle.outer_calls.specs.Crossed.{IsImage, IsCrossed, IsCopied, CallNamed};
 ghost use Rattle.outer_calls.specs.Joins.{Joins};
+ghost use Rattle.outer_calls.specs.Statics.{AreJoined, Represents};
+ghost use Rattle.frozen_graphs.specs.Frozen.{bare};
 ghost use Rattle.outer_calls.specs.Shown.{code_of, shown, callee_of, copies_of, IsKnown, HasCopies};
 
+use crate::statics::Representatives;
 use call_copies::Copies;
 use frozen_graphs::{FrozenGraph, FunctionNames, is_collapsed};
 use graph_memory::{Graph, Name};
@@ -52,6 +55,33 @@ pub fn join_outer(
     crossed.take_result(graph, owner, site)?;
     crossed.join_globals(graph)?;
     crossed.join_literals(graph)
+}
+
+/// Does the same for a call to a function of a group whose variables and literals are joined with copies already: it is enough to join with
+/// the new copies those that stand for the others.
+pub fn join_again(
+    crossed: Crossed<'_>,
+    graph: &mut Graph,
+    owner: Option<FunctionId>,
+    site: usize,
+    arguments: &[Register],
+    representatives: &Representatives,
+) -> Result<(), AllocError>
+    requires known { IsKnown crossed }
+    requires graph { IsGraph crossed.tac.now.types graph.old }
+    requires copied { HasCopies crossed graph.old }
+    requires names { CallNamed (owner_of owner) site arguments.now (shown crossed graph.old) }
+    requires represents { Represents representatives.now (bare crossed.tac.now.types crossed.callee.now) }
+    requires joined { AreJoined (bare crossed.tac.now.types crossed.callee.now) (shown crossed graph.old) }
+    ensures graph { OnOk result (IsGraph crossed.entry.tac.now.types graph.new) }
+    ensures copied { OnOk result (HasCopies crossed.entry graph.new) }
+    ensures joins { OnOk result (Joins (code_of crossed.entry) (callee_of crossed.entry)
+        (IsCrossed (code_of crossed.entry) (owner_of owner) site arguments.now crossed.entry.called (callee_of crossed.entry) (copies_of crossed.entry))
+        (shown crossed.entry graph.old) (shown crossed.entry graph.new)) }
+{
+    crossed.pass_arguments(graph, owner, arguments)?;
+    crossed.take_result(graph, owner, site)?;
+    crossed.join_representatives(graph, representatives)
 }
 
 impl<'a> Crossed<'a> {

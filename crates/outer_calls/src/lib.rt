@@ -8,4 +8,5 @@ mod arguments;
 mod crossed;
 mod statics;
 
-pub use crossed::{Crossed, join_outer};
+pub use crossed::{Crossed, join_again, join_outer};
+pub use statics::Representatives;

@@ -1,6 +1,5 @@
-use Rattle.std.proofs.Common.{◌≡◌, suc, ◌+◌, Err, length, sym, ap, subst, ◌∙◌, arith}
-use Rattle.std.specs.Prelude.{IsErrAnd, vec_items}
-use Rattle.std.proofs.lemmas.List.{length-map}
+use Rattle.std.proofs.Common.{◌≡◌, suc, ◌+◌, Err, length, sym, ap, subst, arith}
+use Rattle.std.specs.Prelude.{IsErrAnd}
 use Rattle.function_groups.specs.GroupViews.{groups_of}
 use Rattle.assembled_groups.specs.Making.{IsMaking}
 use Rattle.assembled_groups.proofs.Ending.{making_begins}
@@ -16,7 +15,7 @@ loop-number-init c =
     let making = c.in_ok-making.making in
     let empty = c.in_ok-making.ensures in
     let before = made_in c.args.tac.now c.args.groups.now making in
-    none_so_far c.args.tac.now c.args.groups.now c.args.counts.now.functions.items making (making_begins before empty.graphs empty.functions (length-map making.escaping.items vec_items ∙ empty.escaping))
+    none_so_far c.args.tac.now c.args.groups.now c.args.counts.now.functions.items making (making_begins before empty.graphs empty.functions empty.escaping)
     (live_begins c.args.tac.now c.args.groups.now making empty)
 
 pub count_group-requires-clause-making : goal.count_group-requires-clause-making

@@ -19,19 +19,19 @@ pub loop-owner-init : goal.loop-owner-init
 loop-owner-init c =
     let tac = c.args.before.tac.now in
     let outside = outside_of (graphs_before c.args.before) c.args.group in
-    at_start owner_of (copies_in (tac_of tac) outside) (owner_mentions (tac_of tac) outside) c.args.owners.now c.in_ok-tally.tally
+    at_start c.args.before owner_of (copies_in (tac_of tac) outside) (owner_mentions (tac_of tac) outside) c.args.owners.now c.in_ok-tally.tally
 
 pub loop-owner-preserved : goal.loop-owner-preserved
 loop-owner-preserved c =
     let tac = c.args.before.tac.now in
     let outside = outside_of (graphs_before c.args.before) c.args.group in
-    one_more owner_of (copies_in (tac_of tac) outside) (owner_mentions (tac_of tac) outside) c.args.owners.now c.in_ok-tally.tally c.loop-owner.owner-index none _ refl c.loop-owner-test.true
+    one_more c.args.before owner_of (copies_in (tac_of tac) outside) (owner_mentions (tac_of tac) outside) c.args.owners.now c.in_ok-tally.tally c.loop-owner.owner-index none _ refl c.loop-owner-test.true
     c.loop-owner.tally c.add_owner.new.self c.in_ok-add_owner.ensures c.loop-owner.invariant
 
 pub returns : goal.returns
 returns c =
     let tac = c.args.before.tac.now in
     let outside = outside_of (graphs_before c.args.before) c.args.group in
-    let all = ends owner_of (copies_in (tac_of tac) outside) (owner_mentions (tac_of tac) outside) c.args.owners.now c.in_ok-tally.tally c.loop-owner.owner-index c.loop-owner.tally
+    let all = ends c.args.before owner_of (copies_in (tac_of tac) outside) (owner_mentions (tac_of tac) outside) c.args.owners.now c.in_ok-tally.tally c.loop-owner.owner-index c.loop-owner.tally
     c.loop-owner-test.false c.loop-owner.invariant in
-    IfOk-weaker c.total.result _ _ (λ count is. is ∙ group_counted (tac_of tac) outside c.args.own c.in_ok-tally.tally c.loop-owner.tally c.in_ok-tally.ensures (owners_in c.args.owners.now) all) c.total.ensures
+    IfOk-weaker c.total.result _ _ (λ count is. is ∙ group_counted (tac_of tac) outside c.args.before c.args.own c.in_ok-tally.tally c.loop-owner.tally c.in_ok-tally.ensures (owners_in c.args.owners.now) all) c.total.ensures

@@ -10,5 +10,5 @@ use Rattle.group_counts.proofs.groups.group_count.Given as goal
 -- the functions that are left make up all
 abbrev pub invariant-loop-owner : goal.invariant-loop-owner
 invariant-loop-owner l =
-    Left owner_of (copies_in (tac_of l.before.tac.now) (outside_of (graphs_before l.before) l.group)) (owner_mentions (tac_of l.before.tac.now) (outside_of (graphs_before l.before) l.group)) l.owners
+    Left l.before owner_of (copies_in (tac_of l.before.tac.now) (outside_of (graphs_before l.before) l.group)) (owner_mentions (tac_of l.before.tac.now) (outside_of (graphs_before l.before) l.group)) l.owners
     l.initial.tally l.owner-index l.tally

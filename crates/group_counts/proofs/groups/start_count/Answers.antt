@@ -12,8 +12,8 @@ returns c =
     let tac = c.args.before.tac.now in
     let outside = outside_of (graphs_before c.args.before) None in
     let old = c.in_ok-tally.tally in
-    let mid : Tally = record { count = old.count; mentions = c.add_first.new.self } in
+    let mid : Tally = record { count = old.count; mentions = c.add_first.new.self; told = old.told } in
     IfOk-weaker c.total.result _ _
     (λ count is.
-    is ∙ start_counted (tac_of tac) outside c.args.own old c.add_owner.new.self c.in_ok-tally.ensures mid refl c.add_first.ensures c.in_ok-add_owner.ensures)
+    is ∙ start_counted (tac_of tac) outside c.args.before c.args.own old c.add_owner.new.self c.in_ok-tally.ensures mid refl refl c.add_first.ensures c.in_ok-add_owner.ensures)
     c.total.ensures

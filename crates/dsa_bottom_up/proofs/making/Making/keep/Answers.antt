@@ -1,12 +1,9 @@
-use Rattle.std.proofs.Common.{◌≡◌, ◌<◌, ℕ, suc, List, Vec, Global, length, drop, sym, ap, ◌∙◌, subst, arith}
+use Rattle.std.proofs.Common.{◌≡◌, ◌<◌, suc, length, drop, sym, ap, ◌∙◌, subst, arith}
 use Rattle.std.specs.Prelude.{get_or}
 use Rattle.std.proofs.lemmas.Option.{slice_get-get_or}
 use Rattle.std.specs.Iterator.Adapters.{enumerate_count, enumerate_source}
 use Rattle.std.specs.Vec.Iter.{into_iter_items}
-use Rattle.call_targets.specs.ClassLists.{numbers_of}
 use Rattle.std.proofs.lemmas.Result.{on_ok_weaker}
-use Rattle.group_crossings.specs.Before.{rows_of}
-use Rattle.group_crossings.specs.Live.{AddsMembers}
 use Rattle.dsa_bottom_up.specs.Making.{KeepsOne}
 use Rattle.dsa_bottom_up.proofs.Keeping.{KeepsSome, keeps_more, keeps_all, next_of}
 use Rattle.dsa_bottom_up.proofs.making.Making.keep.Goals as goal
@@ -46,5 +43,5 @@ returns c =
     on_ok_weaker c.add_members.result
     (λ adds.
     keeps_all c.args.self.now c.loop-place.self c.add_members.new.self members c.args.graph.now c.args.functions.items (enumerate_count c.loop-place.place-iterator) c.requires.size (omega (arith, left, none))
-    (subst (λ (l : List (Vec ℕ Global)). AddsMembers (rows_of l) (numbers_of members) c.loop-place.self.live c.add_members.new.self) c.as_slice.ensures.value adds) c.loop-place.invariant.some)
+    adds c.loop-place.invariant.some)
     c.add_members.ensures

@@ -1,19 +1,21 @@
-use Rattle.std.proofs.Common.{◌≡◌, ◌∷◌, [], ℕ, List, Vec, Global, false, length, length-append, sym, ap, subst, ◌∙◌, arith}
-use Rattle.group_crossings.specs.Before.{rows_of, is_listed}
-use Rattle.dsa_bottom_up.proofs.Keeping.{blank_more}
+use Rattle.std.proofs.Common.{[], length, ap, ◌∙◌, arith}
+use Rattle.std.proofs.lemmas.List.{length-replicate}
+use Rattle.group_crossings.specs.Before.{is_listed}
+use Rattle.dsa_bottom_up.proofs.Keeping.{none_listed}
 use Rattle.dsa_bottom_up.proofs.making.Making.new.Goals as goal
 
-pub loop-preserved : goal.loop-preserved
-loop-preserved c =
+pub returns : goal.returns
+returns c =
     let before = c.loop.invariant in
-    let functions = before.functions in
-    let escaping = before.escaping in
-    let first = length-append c.loop.functions.items (c.blank_function.result ∷ []) in
-    let second = length-append c.loop.escaping.items (c.new.result ∷ []) in
+    let most = c.loop.auto.index-end in
+    let past = c.loop-test.false in
+    let many = ap length c.as_slice-items.ensures.value in
+    let len = c.len.ensures in
+    let own = c.args.tac.now.functions.ok.0 in
     record {
-      functions = ap length c.in-Ok.ensures.items ∙ omega (arith, first, functions);
-      escaping = ap length c.in-Ok-push.ensures.items ∙ omega (arith, second, escaping);
-      none = λ called.
-          subst (λ (l : List (Vec ℕ Global)). is_listed (rows_of l) called ≡ false) (sym c.in-Ok-push.ensures.items)
-          (blank_more c.loop.escaping.items c.new.result c.new.ensures.items before.none called);
+      graphs = c.new.ensures.items;
+      functions = omega (arith, before, most, past, many);
+      escaping = ap length c.in_ok-new.ensures ∙ (length-replicate c.len.result [] ∙ omega (arith, len, own));
+      none = λ called. ap (λ l. is_listed l called) c.in_ok-new.ensures ∙ none_listed c.len.result called;
+      live = c.in_ok-new-2.ensures;
     }

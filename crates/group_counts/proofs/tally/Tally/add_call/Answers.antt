@@ -24,9 +24,9 @@ returns c =
     let quiet = are_quiet c.args.before c.requires c.args.group in
     IfOk-weaker c.add_targets.result _ _
     (λ _ counts.
-    counts_same (total (copies_from (tac_of tac) outside) functions) (copies_to (tac_of tac) outside (length (tac_of tac).functions) callee) (any_of (told_from (tac_of tac) outside) functions)
+    counts_same c.args.before (total (copies_from (tac_of tac) outside) functions) (copies_to (tac_of tac) outside (length (tac_of tac).functions) callee) (any_of (told_from (tac_of tac) outside) functions)
     (call_names (tac_of tac) outside callee) c.args.self.now c.add_targets.new.self (copies_counted (tac_of tac) outside callee live quiet functions are)
     (names_told (tac_of tac) outside callee live quiet functions are)
-    (subst (λ (l : List FunctionId). Counts (total (copies_from (tac_of tac) outside) (numbers_of l)) (any_of (told_from (tac_of tac) outside) (numbers_of l)) c.args.self.now c.add_targets.new.self)
+    (subst (λ (l : List FunctionId). Counts c.args.before (total (copies_from (tac_of tac) outside) (numbers_of l)) (any_of (told_from (tac_of tac) outside) (numbers_of l)) c.args.self.now c.add_targets.new.self)
     c.as_slice.ensures.value counts))
     c.add_targets.ensures

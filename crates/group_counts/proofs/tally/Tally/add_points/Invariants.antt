@@ -9,5 +9,5 @@ use Rattle.group_counts.proofs.tally.Tally.add_points.Given as goal
 -- the points that are left make up all
 abbrev pub invariant-loop-op : goal.invariant-loop-op
 invariant-loop-op l =
-    Left (op_in l.before.tac.now.types) (copies_of (tac_of l.before.tac.now) (outside_of (graphs_before l.before) l.group)) (op_mentions (tac_of l.before.tac.now) (outside_of (graphs_before l.before) l.group)) l.points
+    Left l.before (op_in l.before.tac.now.types) (copies_of (tac_of l.before.tac.now) (outside_of (graphs_before l.before) l.group)) (op_mentions (tac_of l.before.tac.now) (outside_of (graphs_before l.before) l.group)) l.points
     l.initial.self l.op-index l.self

@@ -14,18 +14,18 @@ pub loop-target-init : goal.loop-target-init
 loop-target-init c =
     let tac = c.args.before.tac.now in
     let outside = outside_of (graphs_before c.args.before) c.args.group in
-    at_start (λ target. target.0) (copies_from (tac_of tac) outside) (told_from (tac_of tac) outside) c.args.targets.now c.args.self.now
+    at_start c.args.before (λ target. target.0) (copies_from (tac_of tac) outside) (told_from (tac_of tac) outside) c.args.targets.now c.args.self.now
 
 pub loop-target-preserved : goal.loop-target-preserved
 loop-target-preserved c =
     let tac = c.args.before.tac.now in
     let outside = outside_of (graphs_before c.args.before) c.args.group in
-    one_more (λ target. target.0) (copies_from (tac_of tac) outside) (told_from (tac_of tac) outside) c.args.targets.now c.args.self.now c.loop-target.target-index none _ refl c.loop-target-test.true
+    one_more c.args.before (λ target. target.0) (copies_from (tac_of tac) outside) (told_from (tac_of tac) outside) c.args.targets.now c.args.self.now c.loop-target.target-index none _ refl c.loop-target-test.true
     c.loop-target.self c.add_called.new.self c.in_ok-add_called.ensures c.loop-target.invariant
 
 pub returns : goal.returns
 returns c =
     let tac = c.args.before.tac.now in
     let outside = outside_of (graphs_before c.args.before) c.args.group in
-    ends (λ target. target.0) (copies_from (tac_of tac) outside) (told_from (tac_of tac) outside) c.args.targets.now c.args.self.now c.loop-target.target-index c.loop-target.self
+    ends c.args.before (λ target. target.0) (copies_from (tac_of tac) outside) (told_from (tac_of tac) outside) c.args.targets.now c.args.self.now c.loop-target.target-index c.loop-target.self
     c.loop-target-test.false c.loop-target.invariant

@@ -8,5 +8,5 @@ use Rattle.group_counts.proofs.tally.Tally.add_targets.Given as goal
 -- the functions that are left make up all
 abbrev pub invariant-loop-target : goal.invariant-loop-target
 invariant-loop-target l =
-    Left (λ target. target.0) (copies_from (tac_of l.before.tac.now) (outside_of (graphs_before l.before) l.group)) (told_from (tac_of l.before.tac.now) (outside_of (graphs_before l.before) l.group)) l.targets
+    Left l.before (λ target. target.0) (copies_from (tac_of l.before.tac.now) (outside_of (graphs_before l.before) l.group)) (told_from (tac_of l.before.tac.now) (outside_of (graphs_before l.before) l.group)) l.targets
     l.initial.self l.target-index l.self

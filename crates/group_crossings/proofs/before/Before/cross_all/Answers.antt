@@ -5,12 +5,14 @@ use Rattle.group_crossings.specs.Before.{graphs_before}
 use Rattle.group_crossings.specs.Crossings.{owners_in}
 use Rattle.group_crossings.specs.CallSteps.{shown}
 use Rattle.group_crossings.proofs.Collected.{owner_named, none_so_far, more_so_far, all_crossed}
+use Rattle.group_crossings.proofs.KnownJoined.{none_known}
 use Rattle.group_crossings.proofs.before.Before.cross_all.Goals as goal
 
 pub loop-owner-init : goal.loop-owner-init
 loop-owner-init c = record {
   graph = c.requires.graph;
   so_far = none_so_far (graphs_before c.args.self) c.requires.known.code.made c.args.group c.args.owners.now _ (shown c.args.self c.args.graph.now) c.new-all.ensures.items c.requires.graph.sound c.requires.copies;
+  joined = none_known (graphs_before c.args.self) c.new-joined.result (shown c.args.self c.args.graph.now) c.new-joined.ensures;
 }
 
 pub cross_owner-requires-clause-reached : goal.cross_owner-requires-clause-reached
@@ -33,6 +35,9 @@ cross_owner-requires-clause-named c =
 pub cross_owner-requires-clause-free : goal.cross_owner-requires-clause-free
 cross_owner-requires-clause-free c = c.loop-owner.invariant.so_far.free
 
+pub cross_owner-requires-clause-joined : goal.cross_owner-requires-clause-joined
+cross_owner-requires-clause-joined c = c.loop-owner.invariant.joined
+
 pub loop-owner-preserved : goal.loop-owner-preserved
 loop-owner-preserved c =
     let self = c.args.self in
@@ -45,6 +50,7 @@ loop-owner-preserved c =
       so_far = more_so_far (graphs_before self) c.requires.known.code.made c.args.group owners c.loop-owner.all.items i c.loop-owner.next (shown self c.args.graph.now) (shown self c.loop-owner.graph)
           (shown self c.cross_owner.new.graph) c.requires.graph.sound so_far.graph.sound so_far.so_far (get_or owners i None) (slice_get-get_or owners i None c.loop-owner-test.true) c.in_ok-own.own its.crosses
           c.push.new.self.items c.in_ok-push.ensures.items;
+      joined = its.joined;
     }
 
 pub returns-clause-graph : goal.returns-clause-graph

@@ -1,6 +1,7 @@
 use Rattle.graph_memory.specs.Memory.{IsGraph}
 use Rattle.group_crossings.specs.Before.{graphs_before}
 use Rattle.group_crossings.specs.CallSteps.{shown}
+use Rattle.group_crossings.specs.Joined.{AreKnownJoined}
 use Rattle.group_crossings.proofs.Collected.{SoFar}
 use Rattle.group_crossings.proofs.before.Before.cross_all.Given as goal
 
@@ -9,4 +10,5 @@ abbrev pub invariant-loop-owner : goal.invariant-loop-owner
 invariant-loop-owner l = record {
   graph : IsGraph l.self.tac.now.types l.graph;
   so_far : SoFar (graphs_before l.self) l.group l.owners l.all.items l.owner-index l.next (shown l.self l.fn.graph) (shown l.self l.graph);
+  joined : AreKnownJoined (graphs_before l.self) l.joined (shown l.self l.graph);
 }

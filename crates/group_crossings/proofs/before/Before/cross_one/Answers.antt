@@ -6,6 +6,7 @@ use Rattle.graph_points.proofs.NamedSteps.{on_ok}
 use Rattle.group_crossings.specs.Before.{graphs_before, is_out}
 use Rattle.group_crossings.specs.CallSteps.{shown, TargetCrosses}
 use Rattle.group_crossings.proofs.Naming.{call_named_kept}
+use Rattle.group_crossings.proofs.KnownJoined.{known_kept}
 use Rattle.group_crossings.proofs.Stepping.{crosses_same, one_crosses}
 use Rattle.group_crossings.proofs.before.Before.cross_one.Goals as goal
 
@@ -16,6 +17,9 @@ returns-then-is_inside-clause-crosses c =
     let owner = owner_of c.args.caller.owner in
     crosses_same before c.requires.known.code.made group owner (TargetCrosses before group owner c.args.site c.args.arguments.now c.args.called) c.args.own.now (shown c.args.self c.args.graph.now) c.requires.graph.sound c.requires.stands
     (λ out. absurd (false≢true (sym (ap not (sym c.is_inside.ensures ∙ c.if-is_inside.true)) ∙ out)))
+
+pub returns-then-is_inside-clause-joined : goal.returns-then-is_inside-clause-joined
+returns-then-is_inside-clause-joined c = c.requires.joined
 
 pub copy_called-requires-clause-called : goal.copy_called-requires-clause-called
 copy_called-requires-clause-called c = (c.requires.out (ap not (sym c.is_inside.ensures ∙ c.if-is_inside.false))).0
@@ -37,6 +41,15 @@ join_called-requires-clause-named c =
 
 pub join_called-requires-clause-stands : goal.join_called-requires-clause-stands
 join_called-requires-clause-stands c = c.in_ok-copy_called.ensures.crosses.stands
+
+pub join_called-requires-clause-joined : goal.join_called-requires-clause-joined
+join_called-requires-clause-joined c =
+    let self = c.args.self in
+    known_kept (graphs_before self) c.requires.known.code.made c.args.joined.now (shown self c.args.graph.now) (shown self c.copy_called.new.graph) c.requires.graph.sound c.in_ok-copy_called.ensures.crosses.goes
+    c.requires.joined
+
+pub returns-clause-joined : goal.returns-clause-joined
+returns-clause-joined c = c.join_called.ensures.joined
 
 pub returns-clause-crosses : goal.returns-clause-crosses
 returns-clause-crosses c =

@@ -79,3 +79,12 @@ returns-in_ok-targets-in-Call-clause-crosses c =
     (call_done before made group owner site callee arguments (numbers_of c.in_ok-targets-in-Call.targets.items) are own after old new
     (subst (λ (l : List FunctionId). Crosses before group owner (TargetsCross before group owner site arguments (numbers_of l)) own after old new) c.deref-in-Call.ensures.value
     (subst (λ (l : List Register). Crosses before group owner (TargetsCross before group owner site l (numbers_of c.deref-in-Call.result.now)) own after old new) c.deref.ensures.value its))))
+
+pub returns-in_default-clause-joined : goal.returns-in_default-clause-joined
+returns-in_default-clause-joined c = c.requires.joined
+
+pub cross_targets-requires-clause-joined : goal.cross_targets-requires-clause-joined
+cross_targets-requires-clause-joined c = c.requires.joined
+
+pub returns-in_ok-targets-in-Call-clause-joined : goal.returns-in_ok-targets-in-Call-clause-joined
+returns-in_ok-targets-in-Call-clause-joined c = c.cross_targets.ensures.joined

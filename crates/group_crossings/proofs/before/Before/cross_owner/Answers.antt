@@ -26,6 +26,7 @@ loop-op-init c =
       named = c.requires.named;
       crosses = crosses_none before c.requires.known.code.made group owner (PointCrosses before group owner) (map (op_in self.tac.now.types) c.as_slice-op-items.result.now) begin graph c.requires.graph.sound
           (no_entries before c.requires.known.code.made group owner begin graph c.new.ensures.empty c.requires.free);
+      joined = c.requires.joined;
     }
 
 pub cross_op-requires-clause-point : goal.cross_op-requires-clause-point
@@ -52,6 +53,9 @@ cross_op-requires-clause-named c = c.loop-op.invariant.named
 pub cross_op-requires-clause-stands : goal.cross_op-requires-clause-stands
 cross_op-requires-clause-stands c = c.loop-op.invariant.crosses.stands
 
+pub cross_op-requires-clause-joined : goal.cross_op-requires-clause-joined
+cross_op-requires-clause-joined c = c.loop-op.invariant.joined
+
 pub loop-op-preserved : goal.loop-op-preserved
 loop-op-preserved c =
     let self = c.args.self in
@@ -74,6 +78,7 @@ loop-op-preserved c =
       named = owner_named_kept (tac_of self.tac.now) made graph next so_far.graph.sound its.crosses.goes owner so_far.named;
       crosses = crosses_next before made group owner (PointCrosses before group owner) (map (op_in table) ops) (point_kept before made group owner) (point_back before made group owner) begin c.loop-op.own
           c.cross_op.new.own (shown self c.args.graph.now) graph next c.requires.graph.sound so_far.graph.sound i (op_in table op) at so_far.crosses its.crosses;
+      joined = its.joined;
     }
 
 pub returns-clause-graph : goal.returns-clause-graph
@@ -98,3 +103,6 @@ returns-clause-crosses c =
     (points_done before made group owner (function_in table function) (function_there self.tac.now c.args.caller.owner function c.function_of-function.ensures) begin c.loop-op.own start graph c.loop-op.op-index
     (omega (arith, long, same, c.loop-op-test.false))
     (subst (λ (l : List memory_op.Op). Crosses before group owner (Below (AtEach (PointCrosses before group owner) (map (op_in table) l)) c.loop-op.op-index) begin c.loop-op.own start graph) value c.loop-op.invariant.crosses))
+
+pub returns-clause-joined : goal.returns-clause-joined
+returns-clause-joined c = c.loop-op.invariant.joined

@@ -3,6 +3,7 @@ use Rattle.tac_ir.specs.Views.{op_in, tac_of}
 use Rattle.graph_memory.specs.Memory.{owner_of, IsGraph}
 use Rattle.group_crossings.specs.Before.{graphs_before}
 use Rattle.group_crossings.specs.CallSteps.{shown, OwnerNamed, PointCrosses, Crosses}
+use Rattle.group_crossings.specs.Joined.{AreKnownJoined}
 use Rattle.group_crossings.proofs.Stepping.{Below, AtEach}
 use Rattle.group_crossings.proofs.before.Before.cross_owner.Given as goal
 
@@ -13,4 +14,5 @@ invariant-loop-op l = record {
   named : OwnerNamed (tac_of l.self.tac.now) (owner_of l.caller.owner) (shown l.self l.graph);
   crosses : Crosses (graphs_before l.self) l.caller.group (owner_of l.caller.owner)
       (Below (AtEach (PointCrosses (graphs_before l.self) l.caller.group (owner_of l.caller.owner)) (map (op_in l.self.tac.now.types) l.op-items)) l.op-index) l.initial.own l.own (shown l.self l.fn.graph) (shown l.self l.graph);
+  joined : AreKnownJoined (graphs_before l.self) l.joined (shown l.self l.graph);
 }

@@ -21,6 +21,7 @@ loop-called-init c =
       named = c.requires.named;
       crosses = crosses_none before c.requires.known.code.made group owner (TargetCrosses before group owner c.args.site c.args.arguments.now) (numbers_of c.args.targets.now) c.args.own.now (shown c.args.self c.args.graph.now)
           c.requires.graph.sound c.requires.stands;
+      joined = c.requires.joined;
     }
 
 pub cross_one-requires-clause-out : goal.cross_one-requires-clause-out
@@ -38,6 +39,9 @@ cross_one-requires-clause-named c = c.loop-called.invariant.named
 
 pub cross_one-requires-clause-stands : goal.cross_one-requires-clause-stands
 cross_one-requires-clause-stands c = c.loop-called.invariant.crosses.stands
+
+pub cross_one-requires-clause-joined : goal.cross_one-requires-clause-joined
+cross_one-requires-clause-joined c = c.loop-called.invariant.joined
 
 pub loop-called-preserved : goal.loop-called-preserved
 loop-called-preserved c =
@@ -61,6 +65,7 @@ loop-called-preserved c =
       named = call_named_kept (tac_of self.tac.now) made graph next so_far.graph.sound its.crosses.goes owner site arguments so_far.named;
       crosses = crosses_next before made group owner (TargetCrosses before group owner site arguments) (numbers_of targets) (target_kept before made group owner site arguments) (target_back before made group owner site arguments)
           c.args.own.now c.loop-called.own c.cross_one.new.own start graph next c.requires.graph.sound so_far.graph.sound i n (number_at targets i c.loop-called-test.true) so_far.crosses its.crosses;
+      joined = its.joined;
     }
 
 pub returns-clause-graph : goal.returns-clause-graph
@@ -72,3 +77,6 @@ returns-clause-crosses c =
     let long = length-map targets (λ (f : FunctionId). f.0) in
     targets_done (graphs_before c.args.self) c.requires.known.code.made c.args.caller.group (owner_of c.args.caller.owner) c.args.site c.args.arguments.now (numbers_of targets) c.args.own.now c.loop-called.own
     (shown c.args.self c.args.graph.now) (shown c.args.self c.loop-called.graph) c.loop-called.called-index (omega (arith, long, c.loop-called-test.false)) c.loop-called.invariant.crosses
+
+pub returns-clause-joined : goal.returns-clause-joined
+returns-clause-joined c = c.loop-called.invariant.joined

@@ -3,6 +3,7 @@ use Rattle.call_targets.specs.ClassLists.{numbers_of}
 use Rattle.outer_calls.specs.Crossed.{CallNamed}
 use Rattle.group_crossings.specs.Before.{graphs_before}
 use Rattle.group_crossings.specs.CallSteps.{shown, TargetCrosses, Crosses}
+use Rattle.group_crossings.specs.Joined.{AreKnownJoined}
 use Rattle.group_crossings.proofs.Stepping.{Below, AtEach}
 use Rattle.group_crossings.proofs.before.Before.cross_targets.Given as goal
 
@@ -13,4 +14,5 @@ invariant-loop-called l = record {
   named : CallNamed (owner_of l.caller.owner) l.site l.arguments (shown l.self l.graph);
   crosses : Crosses (graphs_before l.self) l.caller.group (owner_of l.caller.owner)
       (Below (AtEach (TargetCrosses (graphs_before l.self) l.caller.group (owner_of l.caller.owner) l.site l.arguments) (numbers_of l.targets)) l.called-index) l.fn.own l.own (shown l.self l.fn.graph) (shown l.self l.graph);
+  joined : AreKnownJoined (graphs_before l.self) l.joined (shown l.self l.graph);
 }

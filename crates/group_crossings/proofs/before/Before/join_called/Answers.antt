@@ -7,13 +7,14 @@ use Rattle.frozen_graphs.specs.Frozen.{bare, own_graph}
 use Rattle.frozen_graphs.specs.declared.frozen.FunctionNames.{FunctionNames}
 use Rattle.frozen_graphs.specs.declared.frozen.FrozenGraph.{FrozenGraph}
 use Rattle.graph_memory.specs.Memory.{owner_of}
-use Rattle.graph_points.proofs.NamedSteps.{on_ok}
 use Rattle.call_copies.specs.declared.copies.Copies.{Copies}
 use Rattle.call_copies.specs.Copied.{numbers_in, AreCopied}
 use Rattle.outer_calls.specs.Crossed.{IsCallee}
 use Rattle.group_crossings.specs.Before.{graphs_before, graph_reached, nodes_reached}
 use Rattle.group_crossings.specs.CallSteps.{shown}
-use Rattle.group_crossings.proofs.Reached.{is_callee}
+use Rattle.outer_calls.proofs.JoinedStatics.{are_joined}
+use Rattle.group_crossings.proofs.Reached.{graph_there, is_callee}
+use Rattle.group_crossings.proofs.KnownJoined.{known_there, known_more}
 use Rattle.group_crossings.proofs.Entering.{found_either_way, found_copies, crosses_joined}
 use Rattle.group_crossings.proofs.before.Before.join_called.Goals as goal
 
@@ -22,8 +23,8 @@ returns-in_default-clause-crosses c =
     let entry = c.requires.entry in
     absurd (none-some entry.copies (sym (ap option_copied c.in_default.is) ∙ (c.get.ensures.value ∙ (found_either_way c.args.own.now.copies c.args.site c.args.called ∙ entry.is))))
 
-pub join_outer-requires-clause-known : goal.join_outer-requires-clause-known
-join_outer-requires-clause-known c =
+pub join-requires-clause-known : goal.join-requires-clause-known
+join-requires-clause-known c =
     let self = c.args.self in
     let before = graphs_before self in
     let table = self.tac.now.types in
@@ -43,8 +44,8 @@ join_outer-requires-clause-known c =
           (is_callee before called reached (numbers_in entry.copies) entry.stand.first entry.stand.next entry.stand.numbered));
     }
 
-pub join_outer-requires-clause-copied : goal.join_outer-requires-clause-copied
-join_outer-requires-clause-copied c =
+pub join-requires-clause-copied : goal.join-requires-clause-copied
+join-requires-clause-copied c =
     let self = c.args.self in
     let before = graphs_before self in
     let table = self.tac.now.types in
@@ -55,6 +56,17 @@ join_outer-requires-clause-copied c =
     let same = found_copies c.args.own.now c.args.site called entry.copies c.get.result c.in-Some.copies c.get.ensures.value c.in-Some.is entry.is in
     subst (λ (g : FrozenGraph). AreCopied (structs_in table) graph (bare table g) (numbers_in c.in-Some.copies.now)) (c.graph_of.ensures reached)
     (subst (λ (k : Copies). AreCopied (structs_in table) graph (nodes_reached before called reached) (numbers_in k)) same entry.stand.copied)
+
+pub join-requires-clause-joined : goal.join-requires-clause-joined
+join-requires-clause-joined c =
+    let self = c.args.self in
+    let before = graphs_before self in
+    let reached = c.requires.entry.stand.reached in
+    known_there before c.args.joined.now (shown self c.args.graph.now) c.requires.joined c.group_of-group.result c.graph_of.result.now
+    (graph_there before c.args.called reached c.group_of-group.result c.graph_of.result.now (c.group_of-group.ensures reached) (c.graph_of.ensures reached))
+
+pub returns-in_default-clause-joined : goal.returns-in_default-clause-joined
+returns-in_default-clause-joined c = c.requires.joined
 
 pub returns-clause-crosses : goal.returns-clause-crosses
 returns-clause-crosses c =
@@ -67,7 +79,18 @@ returns-clause-crosses c =
     let same = found_copies c.args.own.now c.args.site called entry.copies c.get.result c.in-Some.copies c.get.ensures.value c.in-Some.is entry.is in
     let callee : graph_reached before called reached ≡ own_graph table c.graph_of.result.now c.names_of.result.now =
     ap (λ (g : FrozenGraph). own_graph table g reached.own.names) (c.graph_of.ensures reached) ∙ ap (λ (n : FunctionNames). own_graph table c.graph_of.result.now n) (c.names_of.ensures reached) in
-    on_ok c.join_outer.result c.join_outer.ensures.joins
-    (λ its.
     crosses_joined before c.requires.known.code.made c.args.caller.group (owner_of c.args.caller.owner) c.args.site c.args.arguments.now called c.requires.called c.args.own.now (shown self c.args.graph.now)
-    (shown self c.join_outer.new.graph) c.requires.graph.sound c.requires.stands entry (own_graph table c.graph_of.result.now c.names_of.result.now) (numbers_in c.in-Some.copies.now) callee (ap numbers_in same) its)
+    (shown self c.join.new.graph) c.requires.graph.sound c.requires.stands entry (own_graph table c.graph_of.result.now c.names_of.result.now) (numbers_in c.in-Some.copies.now) callee (ap numbers_in same) c.in_ok-join.ensures.joins
+
+pub returns-clause-joined : goal.returns-clause-joined
+returns-clause-joined c =
+    let self = c.args.self in
+    let before = graphs_before self in
+    let reached = c.requires.entry.stand.reached in
+    let frozen = c.graph_of.result.now in
+    let new = shown self c.join.new.graph in
+    let joins = c.in_ok-join.ensures.joins in
+    known_more before c.requires.known.code.made c.group_of-group.result frozen
+    (graph_there before c.args.called reached c.group_of-group.result frozen (c.group_of-group.ensures reached) (c.graph_of.ensures reached)) c.args.joined.now c.join.new.self (shown self c.args.graph.now) new
+    c.requires.graph.sound joins.goes c.requires.joined c.in_ok-join.ensures.adds
+    (are_joined (tac_of self.tac.now) (owner_of c.args.caller.owner) c.args.site c.args.arguments.now c.args.called self.tac.now.types frozen c.names_of.result.now (numbers_in c.in-Some.copies.now) new joins.joined)

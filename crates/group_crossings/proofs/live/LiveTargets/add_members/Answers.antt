@@ -2,18 +2,18 @@ use Rattle.std.proofs.Common.{get_or, refl, sym, subst, ◌∙◌, arith}
 use Rattle.std.proofs.lemmas.List.{length-map, drop_all}
 use Rattle.tac_ir.specs.declared.register.FunctionId.{FunctionId}
 use Rattle.call_targets.specs.ClassLists.{numbers_of}
-use Rattle.group_crossings.specs.Before.{rows_of}
+use Rattle.shared_lists.specs.Lists.{rows_in}
 use Rattle.group_crossings.specs.Live.{AddsLive}
 use Rattle.group_crossings.proofs.LiveRows.{adds_none, adds_one, adds_no, adds_all, next_number}
 use Rattle.group_crossings.proofs.live.LiveTargets.add_members.Goals.{then-is_live+in_ok-add, else-is_live}
 use Rattle.group_crossings.proofs.live.LiveTargets.add_members.Goals as goal
 
 pub loop-member-init : goal.loop-member-init
-loop-member-init c = adds_none (rows_of c.args.escaping.now) (numbers_of c.args.members.now) _ refl c.args.self.now
+loop-member-init c = adds_none (rows_in c.args.escaping.now) (numbers_of c.args.members.now) _ refl c.args.self.now
 
 pub loop-member-preserved : goal.loop-member-preserved
 loop-member-preserved c =
-    let escaping = rows_of c.args.escaping.now in
+    let escaping = rows_in c.args.escaping.now in
     let members = c.args.members.now in
     let i = c.loop-member.member-index in
     let called = (get_or members i (record { 0 = 0 })).0 in
@@ -28,4 +28,4 @@ pub returns : goal.returns
 returns c =
     let members = c.args.members.now in
     let long = length-map members (λ (f : FunctionId). f.0) in
-    adds_all (rows_of c.args.escaping.now) (numbers_of members) c.args.self.now c.loop-member.self _ (drop_all c.loop-member.member-index (numbers_of members) (omega (arith, long, c.loop-member-test.false))) c.loop-member.invariant
+    adds_all (rows_in c.args.escaping.now) (numbers_of members) c.args.self.now c.loop-member.self _ (drop_all c.loop-member.member-index (numbers_of members) (omega (arith, long, c.loop-member-test.false))) c.loop-member.invariant

@@ -1,47 +1,13 @@
 use Rattle.std.proofs.Common.{refl, ◌∙◌}
 use Rattle.heap_graph.specs.Graphs.{OfGlobal}
-use Rattle.frozen_graphs.specs.Frozen.{bare}
-use Rattle.call_copies.proofs.Carried.{copies_kept}
+use Rattle.graph_points.proofs.NamedSteps.{on_ok}
 use Rattle.outer_calls.specs.Shown.{code_of, shown, callee_of, copies_of}
-use Rattle.outer_calls.proofs.Joining.{joins_none, joins_more}
-use Rattle.outer_calls.proofs.Listing.{ComesAt, comes_at_kept, all_listed}
+use Rattle.outer_calls.proofs.Listing.{all_listed}
 use Rattle.outer_calls.proofs.crossed.Crossed.join_globals.Goals as goal
-
-pub loop-number-init : goal.loop-number-init
-loop-number-init c =
-    let own = c.args.self in
-    record {
-      graph = c.requires.graph;
-      joins = joins_none (code_of own) c.requires.known.code.made (callee_of own) (ComesAt (callee_of own) (copies_of own) OfGlobal c.as_slice-number-items.result.now) (shown own c.args.graph.now) c.requires.graph.sound;
-    }
-
-pub join_global-requires-clause-graph : goal.join_global-requires-clause-graph
-join_global-requires-clause-graph c = c.loop-number.invariant.graph
-
-pub join_global-requires-clause-copied : goal.join_global-requires-clause-copied
-join_global-requires-clause-copied c =
-    let own = c.args.self in
-    copies_kept (code_of own).structs c.requires.known.code.made (shown own c.args.graph.now) (shown own c.loop-number.graph) (bare own.tac.now.types own.callee.now) (copies_of own) c.requires.graph.sound
-    c.loop-number.invariant.joins.goes c.requires.copied
-
-pub loop-number-preserved : goal.loop-number-preserved
-loop-number-preserved c =
-    let own = c.args.self in
-    let tac = code_of own in
-    let made = c.requires.known.code.made in
-    let items = c.as_slice-number-items.result.now in
-    let its = c.in_ok-join_global.ensures in
-    record {
-      graph = its.graph;
-      joins = joins_more tac made (callee_of own) (ComesAt (callee_of own) (copies_of own) OfGlobal items) (comes_at_kept tac made (callee_of own) (copies_of own) OfGlobal items) (shown own c.args.graph.now)
-          (shown own c.loop-number.graph) (shown own c.join_global.new.graph) c.requires.graph.sound c.loop-number.invariant.graph.sound c.loop-number.number-index c.loop-number.invariant.joins its.joins;
-    }
-
-pub returns-clause-graph : goal.returns-clause-graph
-returns-clause-graph c = c.loop-number.invariant.graph
 
 pub returns-clause-joins : goal.returns-clause-joins
 returns-clause-joins c =
     let own = c.args.self in
-    all_listed own.callee.now.globals (code_of own) c.requires.known.code.made (callee_of own) (copies_of own) OfGlobal (λ number. refl) c.as_slice-number-items.result.now
-    (c.as_slice-number-items.ensures ∙ c.keys.ensures.rest) c.loop-number.number-index c.loop-number-test.false (shown own c.args.graph.now) (shown own c.loop-number.graph) c.loop-number.invariant.joins
+    on_ok c.join_listed_globals.result c.join_listed_globals.ensures.joins
+    (λ listed. all_listed own.callee.now.globals (code_of own) c.requires.known.code.made (callee_of own) (copies_of own) OfGlobal (λ number. refl) c.as_slice.result.now
+    (c.as_slice.ensures ∙ c.keys.ensures.rest) (shown own c.args.graph.now) (shown own c.join_listed_globals.new.graph) listed)
