@@ -1,6 +1,6 @@
 // Escapes (C17 6.4.4.4).
 
-ghost use Rattle.std.specs.Prelude.{◌≡◌, ◌≤◌, length, Ok, Err, IfSome};
+ghost use Rattle.std.specs.Prelude.{◌≡◌, ◌≤◌, length};
 ghost use Rattle.std.specs.List.{prefix_len};
 ghost use Rattle.c_lexer.specs.Classes.{is_octal_digit, is_hexadecimal_digit};
 ghost use Rattle.c_lexer.specs.Constants.{simple_escape, octal_byte, hexadecimal_byte, hexadecimal_digit, escape_value, escape_width, escape_byte};

@@ -1,6 +1,6 @@
 // The tokens of a text, from left to right.
 
-ghost use Rattle.std.specs.Prelude.{◌≡◌, ◌+◌, ◌++◌, ◌^◌, ◌<◌, ◌≤◌, List, length, IfOk, IfErr, OnOk};
+ghost use Rattle.std.specs.Prelude.{◌≡◌, ◌+◌, ◌++◌, ◌^◌, ◌<◌, List, length, IfOk, IfErr, OnOk};
 ghost use Rattle.text_place.specs.Places.{first_place, place_behind};
 ghost use Rattle.c_token.specs.Leaves.{Leaf, leaves_of};
 ghost use Rattle.c_lexer.specs.Tokens.{Divides, Faults, StandFrom, IsFoundUnlessMemory, UnlessMemory, line_behind, token_at, width_of};

@@ -1,18 +1,16 @@
 // What stands outside functions (C17 6.9): declarations, structs with their members, and functions.
 
 ghost use Rattle.std.specs.Prelude.{◌<◌, ◌≤◌, [], ◌∷◌, true, length, map, IfOk, IfSome};
-ghost use Rattle.grammar_table.specs.Table.{Node};
-ghost use Rattle.grammar_table.specs.Runs.{Whole, Parts};
+ghost use Rattle.grammar_table.specs.Runs.{Whole};
 ghost use Rattle.c_grammar.specs.declared.words.Words.TheVariants.{NoWord};
 ghost use Rattle.c_grammar.specs.Forms as forms;
 ghost use Rattle.c_token.specs.Leaves.{leaves_of};
-ghost use Rattle.c_syntax.specs.Views.{base_tree, declarator_tree, item_tree, member_tree};
+ghost use Rattle.c_syntax.specs.Views.{base_tree, item_tree, member_tree};
 ghost use Rattle.c_reader_tokens.specs.Shapes as shapes;
-ghost use Rattle.c_reader_tokens.specs.Lists.{folds};
-ghost use Rattle.c_reader_tokens.specs.Rows.{GivesPart, GivesElement, GivesForm, GivesMore, TellsRow, Tells};
+ghost use Rattle.c_reader_tokens.specs.Rows.{GivesPart, GivesForm, GivesMore, TellsRow, Tells};
 ghost use Rattle.c_reader_tokens.specs.Steps.{EndsWords};
 ghost use Rattle.c_reader.specs.ItemForms.{item_form, items_form, tail_form, after_form, members_opt_form, members_form, member_more_form};
-ghost use Rattle.c_reader.specs.ItemLists.{item_before, member_before, member_declarator_before, member_declarators_in, member_declarators_from, members_in, members_from, struct_from, after_of, after_in, body_in};
+ghost use Rattle.c_reader.specs.ItemLists.{item_before, member_before, member_declarator_before, member_declarators_in, member_declarators_from, members_in, members_from, struct_from, after_in, body_in};
 
 use c_grammar::{Kind, Words};
 use c_reader_expressions::{read_declarator, read_simple};

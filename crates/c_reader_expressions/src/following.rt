@@ -1,9 +1,7 @@
 // What goes on behind an expression and has no expression of its own.
 
-ghost use Rattle.std.specs.Prelude.{◌≡◌, ◌+◌, ◌<◌, ◌≤◌, ℕ, length, IfOk};
+ghost use Rattle.std.specs.Prelude.{◌+◌, ◌<◌, ℕ, length, IfOk};
 ghost use Rattle.c_grammar.specs.Forms as forms;
-ghost use Rattle.c_token.specs.Leaves.{leaves_of};
-ghost use Rattle.c_syntax.specs.Views.{expr_tree};
 ghost use Rattle.c_reader_expressions.specs.Steps.{ExtendsOperand};
 
 use crate::operand::{Operand, boxed};

@@ -1,15 +1,12 @@
 // What stands before or behind an operand: a token, an expression, and perhaps a token behind that.
 
 ghost use Rattle.std.specs.Prelude.{◌≡◌, ℕ, ◌+◌, ◌<◌, ◌≤◌, max, List, [], length, IfOk, IfErr};
-ghost use Rattle.grammar_table.specs.Table.{Symbol};
-ghost use Rattle.grammar_table.specs.Runs.{Parts};
 ghost use Rattle.c_grammar.specs.Forms as forms;
 ghost use Rattle.c_token.specs.Leaves.{leaves_of};
 ghost use Rattle.c_syntax.specs.Trees as trees;
 ghost use Rattle.c_syntax.specs.Views.{expr_tree, type_tree};
 ghost use Rattle.c_syntax.specs.Views as views;
 ghost use Rattle.c_reader_tokens.specs.Choices.{wrapped_form, joined_form, level_of_joined};
-ghost use Rattle.c_reader_tokens.specs.Readings.{Fails};
 ghost use Rattle.c_reader_expressions.specs.Steps.{expr_in, operand_tree};
 ghost use Rattle.c_reader_expressions.specs.Terms.{frame_symbols, wrapped_tree, joined_tree, chosen_tree, called_tree, Closes, FailsToClose};
 

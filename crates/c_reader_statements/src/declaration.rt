@@ -1,16 +1,14 @@
 // Declarations and initializers (C17 6.7, 6.7.9).
 
-ghost use Rattle.std.specs.Prelude.{◌<◌, ◌≤◌, [], ◌∷◌, length, map, option_map, IfOk};
-ghost use Rattle.grammar_table.specs.Table.{Node};
-ghost use Rattle.grammar_table.specs.Runs.{Whole, Parts};
+ghost use Rattle.std.specs.Prelude.{◌<◌, ◌≤◌, [], ◌∷◌, length, option_map, IfOk};
+ghost use Rattle.grammar_table.specs.Runs.{Whole};
 ghost use Rattle.c_grammar.specs.Forms as forms;
 ghost use Rattle.c_token.specs.Leaves.{leaves_of};
-ghost use Rattle.c_syntax.specs.Views.{init_tree, init_declarator_tree, declaration_tree};
+ghost use Rattle.c_syntax.specs.Views.{init_tree, declaration_tree};
 ghost use Rattle.c_syntax.specs.Trees as trees;
 ghost use Rattle.c_reader_tokens.specs.Shapes.{init_of, inits_of, first_value_of, declarators_of, declaration_of};
 ghost use Rattle.c_reader_tokens.specs.Rows.{GivesPart, GivesElement, GivesForm, GivesMore, TellsRow, Tells};
 ghost use Rattle.c_reader_statements.specs.RowForms.{init_form, init_more_form, init_next_form, first_value_form, declarators_form};
-ghost use Rattle.c_reader_tokens.specs.Lists.{folds};
 ghost use Rattle.c_reader_statements.specs.Lists.{init_before, inits_behind, inits_in, inits_from, declarator_before, declarators_in, declarators_from};
 
 use c_grammar::Kind;

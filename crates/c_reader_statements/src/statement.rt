@@ -1,16 +1,14 @@
 // Statements and blocks (C17 6.8).
 
-ghost use Rattle.std.specs.Prelude.{◌≡◌, ◌<◌, ◌≤◌, length, option_map, IfOk, IfErr};
-ghost use Rattle.grammar_table.specs.Table.{Node};
-ghost use Rattle.grammar_table.specs.Runs.{Whole, Parts};
+ghost use Rattle.std.specs.Prelude.{◌≡◌, ◌<◌, ◌≤◌, length, option_map, IfOk};
+ghost use Rattle.grammar_table.specs.Runs.{Whole};
 ghost use Rattle.c_grammar.specs.Chooses as chooses;
 ghost use Rattle.c_grammar.specs.Forms as forms;
 ghost use Rattle.c_token.specs.Leaves.{leaves_of};
 ghost use Rattle.c_syntax.specs.Views.{stmt_tree, for_tree, value_tree};
 ghost use Rattle.c_syntax.specs.Trees as trees;
 ghost use Rattle.c_reader_tokens.specs.Shapes as shapes;
-ghost use Rattle.c_reader_tokens.specs.Lists.{folds};
-ghost use Rattle.c_reader_tokens.specs.Rows.{GivesPart, GivesElement, GivesForm, GivesMore, GivesRow, TellsRow, Tells};
+ghost use Rattle.c_reader_tokens.specs.Rows.{GivesPart, GivesForm, GivesMore, GivesRow, TellsRow, Tells};
 ghost use Rattle.c_reader_statements.specs.StmtForms.{stmt_form, block_form, else_form, for_form, optional_form, switch_form, return_form};
 ghost use Rattle.c_reader_expressions.specs.Steps.{expr_in};
 ghost use Rattle.c_reader_statements.specs.StmtLists.{stmt_in, block_before, switch_before, block_in, switch_in};

@@ -1,8 +1,7 @@
 // Names and literals.
 
-ghost use Rattle.std.specs.Prelude.{◌≡◌, ◌<◌, length, IfOk, IfErr};
-ghost use Rattle.c_token.specs.Leaves.{leaf_of, leaves_of};
-ghost use Rattle.c_reader_tokens.specs.Shapes.{bytes_of};
+ghost use Rattle.std.specs.Prelude.{◌≡◌, ◌<◌, length, IfOk};
+ghost use Rattle.c_token.specs.Leaves.{leaves_of};
 ghost use Rattle.c_reader_tokens.specs.Steps.{first_bytes, GivesName};
 
 use crate::syntax_err::SyntaxErr;

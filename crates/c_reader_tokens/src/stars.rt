@@ -1,6 +1,6 @@
 // The stars of a declarator (C17 6.7.6.1).
 
-ghost use Rattle.std.specs.Prelude.{◌≡◌, ℕ, ◌+◌, ◌≤◌, length, IfOk};
+ghost use Rattle.std.specs.Prelude.{ℕ, ◌+◌, ◌≤◌, length, IfOk};
 ghost use Rattle.c_grammar.specs.Forms as forms;
 ghost use Rattle.c_token.specs.Leaves.{leaves_of};
 ghost use Rattle.c_reader_tokens.specs.Shapes.{stars_of, stars_after};

@@ -3,7 +3,6 @@
 ghost use Rattle.std.specs.Prelude.{◌≡◌, ◌+◌, ◌<◌, ◌≤◌, max, [], length, false, IfOk, IfErr, OnErr};
 ghost use Rattle.grammar_table.specs.Runs.{fits_first};
 ghost use Rattle.c_token.specs.Leaves.{leaves_of};
-ghost use Rattle.c_syntax.specs.Views.{name_tree};
 ghost use Rattle.c_reader_tokens.specs.Grammar.{grammar};
 ghost use Rattle.c_reader_tokens.specs.Shapes.{place_of};
 ghost use Rattle.c_reader_tokens.specs.Readings.{Begins, Passes};

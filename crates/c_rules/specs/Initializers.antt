@@ -6,7 +6,7 @@ use Rattle.c_syntax.specs.Trees.{ExprTree, InitTree, InitsTree}
 use Rattle.c_rules.specs.declared.rule.TypeRule.TheVariants as T
 use Rattle.c_rules.specs.declared.violation.Violation.{Violation}
 use Rattle.c_typed.specs.Types
-use Rattle.c_typed.specs.Types.{CType, Void, Integer, Pointer, Array, Struct, Function}
+use Rattle.c_typed.specs.Types.{CType, Pointer, Array, Struct, Function}
 use Rattle.c_typed.specs.Layouts.{MemberDef, members_by_tag}
 use Rattle.c_rules.specs.Names.{Scope}
 use Rattle.c_rules.specs.Known.{Checked, Known, require, given, at, unless, as_value, give, Address, NoAddress, Outside}

@@ -15,7 +15,7 @@ use Rattle.c_typed.specs.Values.{Static}
 use Rattle.c_typed.specs.declared.typed.LibraryFunction.{LibraryFunction}
 use Rattle.c_typed.specs.Typed.{Value, Object, Designator, NullPointer, Grouped, Read, Decay, FunctionValue, GroupedObject, GroupedFunction}
 use Rattle.c_typed.specs.Types
-use Rattle.c_typed.specs.Types.{CType, CTypes, Void, Integer, Pointer, Array, Struct, Function, decayed, is_struct}
+use Rattle.c_typed.specs.Types.{CType, Array, decayed, is_struct}
 
 -- ---- violations
 

@@ -19,12 +19,12 @@ use Rattle.c_syntax.specs.Trees.{NameTree}
 use Rattle.c_rules.specs.declared.rule.TypeRule.TheVariants as T
 use Rattle.c_rules.specs.declared.violation.Violation.{Violation}
 use Rattle.c_typed.specs.Types
-use Rattle.c_typed.specs.Types.{CType, CTypes, Void, Integer, Pointer, Array, Struct, Function, NoTypes, MoreTypes}
+use Rattle.c_typed.specs.Types.{CType, CTypes, Void, Integer, Pointer, Struct, Function, NoTypes, MoreTypes}
 use Rattle.c_typed.specs.Layouts.{MemberDef, is_complete, layout_of, members_by_tag}
 use Rattle.c_rules.specs.Names.{Scope, Meaning, NoMeaning, Local, Outer, Library, meaning_of}
 use Rattle.c_typed.specs.Names.{contains}
 use Rattle.c_rules.specs.Known
-use Rattle.c_rules.specs.Known.{Checked, Known, TypedExpr, OfValue, OfObject, OfFunction, OfLibrary, value_in, value_of_typed, give, unknown, refuse, also, require, with_known, given, given_two, given_three, at, unless, as_value, value_of_type, object_at, integer_value, Address, NoAddress, NullAddress, FunctionAddress}
+use Rattle.c_rules.specs.Known.{Checked, Known, TypedExpr, OfObject, OfFunction, OfLibrary, value_in, value_of_typed, give, unknown, refuse, also, require, with_known, given, given_two, at, unless, as_value, value_of_type, object_at, integer_value, Address, NoAddress, NullAddress, FunctionAddress}
 use Rattle.c_rules.specs.declared.constness.Constness.{Constness}
 use Rattle.c_rules.specs.declared.constness.Constness.TheVariants.{NotConstant, Constant}
 use Rattle.c_typed.specs.Values as values
@@ -32,7 +32,7 @@ use Rattle.c_typed.specs.Typed as typed
 use Rattle.c_typed.specs.declared.typed.LibraryFunction.TheVariants as L
 use Rattle.c_typed.specs.declared.typed.Stepping.{Stepping}
 use Rattle.c_typed.specs.declared.typed.Stepping.TheVariants as S
-use Rattle.c_typed.specs.Typed.{Value, Object, Designator, Values}
+use Rattle.c_typed.specs.Typed.{Value, Object, Values}
 use Rattle.c_rules.specs.Constants
 
 -- ---- conversions

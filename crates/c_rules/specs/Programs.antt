@@ -6,7 +6,7 @@ use Rattle.c_syntax.specs.Trees.{NameTree, WordsTree, SimpleTree, ExprTree, Argu
 use Rattle.c_rules.specs.declared.rule.TypeRule.TheVariants as T
 use Rattle.c_rules.specs.declared.violation.Violation.{Violation}
 use Rattle.c_typed.specs.Types
-use Rattle.c_typed.specs.Types.{CType, Void, Integer, Struct, Function, NoTypes, same_type}
+use Rattle.c_typed.specs.Types.{CType, Struct, Function, NoTypes, same_type}
 use Rattle.c_typed.specs.Layouts.{MemberDef, is_complete, members_by_tag}
 use Rattle.c_rules.specs.Names.{Scope, FileName, file_name, is_library, with_local, in_function, with_file_name}
 use Rattle.c_typed.specs.Names.{contains}

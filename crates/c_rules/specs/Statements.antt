@@ -6,11 +6,11 @@ use Rattle.c_num.specs.declared.IntType.{IntType}
 use Rattle.c_num.specs.Types.{promoted}
 use Rattle.c_num.specs.Conversion.{convert_to}
 use Rattle.c_syntax.specs.Trees
-use Rattle.c_syntax.specs.Trees.{NameTree, ExprTree, InitTree, DeclaratorTree, InitDeclaratorTree, DeclarationTree, ForTree, StmtTree, BlockTree, SwitchTree}
+use Rattle.c_syntax.specs.Trees.{NameTree, ExprTree, InitTree, InitDeclaratorTree, DeclarationTree, ForTree, StmtTree, BlockTree, SwitchTree}
 use Rattle.c_rules.specs.declared.rule.TypeRule.TheVariants as T
 use Rattle.c_rules.specs.declared.violation.Violation.{Violation}
 use Rattle.c_typed.specs.Types
-use Rattle.c_typed.specs.Types.{CType, Void, Integer}
+use Rattle.c_typed.specs.Types.{CType, Integer}
 use Rattle.c_typed.specs.Layouts.{is_complete}
 use Rattle.c_rules.specs.Names.{Scope, entered, with_local, is_local_here, is_library}
 use Rattle.c_rules.specs.Known.{Checked, Known, require, given, at, unless, as_value, give}

@@ -2,7 +2,6 @@
 
 ghost use Rattle.std.specs.Prelude.{◌≡◌};
 ghost use Rattle.c_rules.specs.Known.{is_before, rule_number};
-ghost use Rattle.c_typed.specs.Places.{is_same_place};
 
 use crate::rule::TypeRule;
 use text_place::Pos;

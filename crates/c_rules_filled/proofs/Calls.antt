@@ -8,7 +8,7 @@ use Rattle.c_rules.specs.declared.rule.TypeRule.TheVariants as T
 use Rattle.c_typed.specs.Types.{CType, CTypes, Pointer, Function, NoTypes, MoreTypes, is_array, decayed}
 use Rattle.c_typed.specs.Layouts.{StructDef}
 use Rattle.c_typed.specs.Typed as typed
-use Rattle.c_typed.specs.Typed.{Value, Values, Designator}
+use Rattle.c_typed.specs.Typed.{Value, Values}
 use Rattle.c_well_typed.specs.Sizes.{makes, all_make, designator_makes, fills}
 use Rattle.c_rules.specs.Names.{Scope, Meaning, NoMeaning, Local, Outer, Library, meaning_of}
 use Rattle.c_rules.specs.Known.{Checked, Known, TypedExpr, OfValue, OfObject, OfFunction, OfLibrary, with_known, give, value_of_typed}

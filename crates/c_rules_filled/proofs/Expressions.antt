@@ -2,7 +2,7 @@
 use Rattle.std.proofs.Common.{◌≡◌, true, List, length, Option, Some, None, refl}
 use Rattle.text_place.specs.declared.place.Pos.{Pos}
 use Rattle.c_syntax.specs.Trees
-use Rattle.c_syntax.specs.Trees.{ExprTree, ArgumentsTree, TypeTree}
+use Rattle.c_syntax.specs.Trees.{ExprTree, ArgumentsTree}
 use Rattle.c_typed.specs.Types.{CType}
 use Rattle.c_typed.specs.Layouts.{StructDef}
 use Rattle.c_typed.specs.declared.typed.Stepping.TheVariants as S
@@ -10,7 +10,7 @@ use Rattle.c_well_typed.specs.Sizes.{makes, fills}
 use Rattle.c_rules.specs.Names.{Scope}
 use Rattle.c_rules.specs.Known.{Checked, Known, as_value}
 use Rattle.c_rules.specs.Operators
-use Rattle.c_rules.specs.Operators.{as_condition, as_integer, converted}
+use Rattle.c_rules.specs.Operators.{as_condition}
 use Rattle.c_rules.specs.Expressions.{place_of, expr, argument_values, type_named, type_place, library_called}
 use Rattle.c_rules.specs.Elaborated.{known_value, condition_test, value_of, unused, test_of, known_as, value_as}
 use Rattle.c_rules_filled.specs.Knows.{IfKnown, Knows, Every}

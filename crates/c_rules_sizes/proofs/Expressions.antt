@@ -9,7 +9,7 @@ use Rattle.c_sizes.specs.TypedNodes.{value_nodes}
 use Rattle.c_rules.specs.Names.{Scope}
 use Rattle.c_rules.specs.Known.{Known, Checked, as_value, grouped, give}
 use Rattle.c_rules.specs.Operators
-use Rattle.c_rules.specs.Operators.{Condition, as_condition, dropped}
+use Rattle.c_rules.specs.Operators.{Condition, as_condition}
 use Rattle.c_rules.specs.Expressions.{expr, argument_values, place_of, library_called, type_named, type_place}
 use Rattle.c_rules.specs.Elaborated.{known_value, condition_test, value_of, unused, test_of, known_as, value_as}
 use Rattle.c_rules_sizes.proofs.Holding.{Holds, given_holds, given_two_holds, given_three_holds}

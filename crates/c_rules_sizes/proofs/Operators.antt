@@ -27,7 +27,7 @@ use Rattle.c_rules.specs.declared.constness.Constness.{Constness}
 use Rattle.c_rules.specs.declared.constness.Constness.TheVariants.{Constant}
 use Rattle.c_rules.specs.Constants
 use Rattle.c_rules.specs.Operators
-use Rattle.c_rules.specs.Operators.{Condition, fits, converted, unconverted_value, dropped, condition_of, is_scalar, as_scalar, as_integer, of_type, outer_name, name_as, named, is_pointer_to_complete, element, indexed, dereferenced, address_in, address_of, moved_pointer, add_number, member_at, member_in, member_of, object_in, object_member, pointer_member, is_modifiable, modifiable_rule, step_value, stepped, with_plus, with_minus, with_complement, logical_not, prefixed, size_of, cast_to, arithmetic, shifted, both_integers, sum, pointer_difference, difference, compared, ordered, pointers_agree, agreed_pointer, target_of, equated, operand_kind, operand, combined, binary, integer_choice, choice, operator_of, moves_pointers, compound_object, assigned_object, assigned_value, compound_integer, compound_value, assignment, assigned}
+use Rattle.c_rules.specs.Operators.{Condition, fits, condition_of, is_scalar, as_scalar, as_integer, of_type, outer_name, name_as, named, is_pointer_to_complete, element, indexed, dereferenced, address_in, address_of, add_number, member_at, member_in, member_of, object_in, object_member, pointer_member, is_modifiable, modifiable_rule, step_value, stepped, with_plus, with_minus, with_complement, logical_not, prefixed, size_of, cast_to, arithmetic, shifted, both_integers, sum, difference, compared, ordered, pointers_agree, agreed_pointer, target_of, equated, operand_kind, operand, combined, binary, choice, operator_of, moves_pointers, compound_object, assigned_object, assigned_value, compound_integer, compound_value, assignment, assigned}
 use Rattle.c_rules_sizes.proofs.Holding.{Holds, either_holds, require_holds, given_holds, given_two_holds}
 use Rattle.c_rules_sizes.proofs.Operands.{weight, Within, TestWithin, in_value, value_within, scalar_within, integer_within, operand_within, converted_within, unconverted_within, test_within, dropped_nodes, object_in_nodes}
 

@@ -4,7 +4,7 @@ use Rattle.std.proofs.lemmas.Bool.{true≢false, false≢true, and_parts}
 use Rattle.std.proofs.lemmas.Option.{none-some, same_Some}
 use Rattle.text_place.specs.declared.place.Pos.{Pos}
 use Rattle.c_syntax.specs.Trees
-use Rattle.c_syntax.specs.Trees.{NameTree, WordsTree, OptionalTree, DeclaratorTree, DirectTree, SuffixesTree, LengthTree, ParametersTree}
+use Rattle.c_syntax.specs.Trees.{NameTree, WordsTree, OptionalTree, DeclaratorTree, DirectTree, SuffixesTree, ParametersTree}
 use Rattle.c_typed.specs.Types.{CType, CTypes, Void, Integer, Pointer, Array, Struct, Function, NoTypes, MoreTypes, is_array, is_function, is_struct}
 use Rattle.c_rules.specs.declared.rule.TypeRule.TheVariants as T
 use Rattle.c_typed.specs.Layouts.{StructDef, is_complete}

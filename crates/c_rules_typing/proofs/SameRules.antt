@@ -6,7 +6,7 @@ use Rattle.c_syntax.specs.declared.operator.BinaryOperator.{BinaryOperator}
 use Rattle.c_syntax.specs.declared.operator.BinaryOperator.TheVariants as O
 use Rattle.c_syntax.specs.declared.operator.PrefixOperator.{PrefixOperator}
 use Rattle.c_syntax.specs.declared.operator.PrefixOperator.TheVariants as P
-use Rattle.c_syntax.specs.Trees.{NameTree, SimpleTree, WordsTree}
+use Rattle.c_syntax.specs.Trees.{NameTree, SimpleTree}
 use Rattle.c_syntax.specs.Trees
 use Rattle.c_typed.specs.Types.{CType, Void, Integer, Pointer, Array, Struct, Function}
 use Rattle.c_typed.specs.declared.typed.Stepping.{Stepping}
@@ -15,7 +15,7 @@ use Rattle.c_typed.specs.Typed.{Object}
 use Rattle.c_rules.specs.Names.{Scope, FileName, Meaning, NoMeaning, Local, Outer, Library}
 use Rattle.c_rules.specs.Known.{Checked, Known, Address, given, given_two, given_three, with_known, as_value, value_rule, give}
 use Rattle.c_rules.specs.Operators
-use Rattle.c_rules.specs.Operators.{Condition, OperandKind, AnInteger, AnyValue, AScalar}
+use Rattle.c_rules.specs.Operators.{OperandKind, AnInteger, AnyValue, AScalar}
 use Rattle.c_rules.specs.Expressions.{simple_type}
 use Rattle.c_rules_typing.proofs.Nothing.{both_none, given_part}
 

@@ -1,9 +1,8 @@
 // Declarations in blocks (C17 6.7).
 
-ghost use Rattle.std.specs.Prelude.{◌≡◌, IfOk, OnOk, option_map};
+ghost use Rattle.std.specs.Prelude.{IfOk, OnOk, option_map};
 ghost use Rattle.c_syntax.specs.Views.{name_tree, init_declarator_tree, declaration_tree};
 ghost use Rattle.c_typed.specs.Table.{Stands};
-ghost use Rattle.c_typed.specs.Kept.{IsObject};
 ghost use Rattle.c_types_state.specs.Finding.{AllStand};
 ghost use Rattle.c_types_state.specs.NameTables.{scope_of};
 ghost use Rattle.c_types_expressions.specs.Derived.{element_rule, IsElement};

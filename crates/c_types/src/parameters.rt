@@ -4,7 +4,6 @@ ghost use Rattle.std.specs.Prelude.{◌≡◌, IfOk, OnOk, length};
 ghost use Rattle.c_syntax.specs.Views.{declarator_tree, suffixes_of, parameters_of};
 ghost use Rattle.c_rules.specs.Expressions as expressions;
 ghost use Rattle.c_rules.specs.Programs as rules;
-ghost use Rattle.c_rules.specs.Names.{in_function};
 ghost use Rattle.c_types_state.specs.NameTables.{scope_of};
 ghost use Rattle.c_types.specs.Outside.{IsOutside, AllKnown};
 ghost use Rattle.c_types.specs.Checked.{CoversEntered, MakesTypes, MakesParameter, DeclaresParameters};

@@ -13,7 +13,7 @@ use Rattle.c_typed.specs.Views.{values_in, ValuesStand}
 use Rattle.c_typed.proofs.Grown.{stays, list_stays, grows_trans}
 use Rattle.c_typed.proofs.TypedStays.{value_stays}
 use Rattle.c_rules.specs.declared.violation.Violation.{Violation}
-use Rattle.c_rules.specs.Known.{Checked, give, unknown, with_known, given, given_two}
+use Rattle.c_rules.specs.Known.{Checked, give, with_known, given, given_two}
 use Rattle.c_rules.specs.Operators.{ArgumentValue, as_many, passed, passed_rule, unconverted, unconverted_argument}
 use Rattle.c_types_state.specs.NameTables.{State}
 use Rattle.c_rules.specs.Known as known

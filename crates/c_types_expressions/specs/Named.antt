@@ -2,7 +2,7 @@
 use Rattle.std.specs.Prelude.{if◌then◌else◌, List, [], ◌∷◌, ◌++◌, Option, Some, None}
 use Rattle.text_place.specs.declared.place.Pos.{Pos}
 use Rattle.c_syntax.specs.Trees
-use Rattle.c_syntax.specs.Trees.{NameTree, WordsTree, ExprTree, ArgumentsTree, TypeTree, OptionalTree, DeclaratorTree, DirectTree, SuffixesTree, LengthTree, ParametersTree}
+use Rattle.c_syntax.specs.Trees.{WordsTree, ExprTree, ArgumentsTree, TypeTree, OptionalTree, DeclaratorTree, DirectTree, SuffixesTree, LengthTree, ParametersTree}
 use Rattle.c_typed.specs.Types.{CType}
 use Rattle.c_rules.specs.Names.{Scope}
 use Rattle.c_rules.specs.Known.{given}

@@ -1,6 +1,6 @@
 // The names of types, and declarators (C17 6.7.6, 6.7.7).
 
-ghost use Rattle.std.specs.Prelude.{◌≡◌, ◌∷◌, [], IfOk, OnOk};
+ghost use Rattle.std.specs.Prelude.{◌∷◌, [], IfOk, OnOk};
 ghost use Rattle.c_syntax.specs.Views.{expr_tree, type_tree, optional_of, declarator_tree, suffixes_of, parameters_of};
 ghost use Rattle.c_typed.specs.Table.{Stands};
 ghost use Rattle.c_types_state.specs.Checkers.{names_of};

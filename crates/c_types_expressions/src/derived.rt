@@ -5,7 +5,7 @@ ghost use Rattle.c_syntax.specs.Views.{name_tree};
 ghost use Rattle.c_typed.specs.Types as T;
 ghost use Rattle.c_typed.specs.Table.{Stands, type_in, ListStands, types_in};
 ghost use Rattle.c_typed.specs.Kept.{IsObject};
-ghost use Rattle.c_rules.specs.Known.{with_known, give, unknown};
+ghost use Rattle.c_rules.specs.Known.{with_known, give};
 ghost use Rattle.c_types_state.specs.Checkers.{names_of};
 ghost use Rattle.c_rules.specs.Expressions as rules;
 ghost use Rattle.c_types_state.specs.Finding.{Finds, IsType, IsTypes, AllStand, each_in};

@@ -11,7 +11,7 @@ use Rattle.c_well_typed.specs.Sizes.{makes, is_small}
 use Rattle.c_rules.specs.Names.{Scope}
 use Rattle.c_rules.specs.Known.{Checked, Known, as_value}
 use Rattle.c_rules.specs.Operators
-use Rattle.c_rules.specs.Operators.{as_condition, as_integer, converted}
+use Rattle.c_rules.specs.Operators.{as_condition}
 use Rattle.c_rules.specs.Expressions.{place_of, expr, argument_values, type_named, type_place, library_called, optional_type, words_type, Required}
 use Rattle.c_rules.specs.Elaborated.{literals_in, literals_in_arguments, literals_in_type, known_value, condition_test, value_of, unused, test_of, known_as, value_as}
 use Rattle.c_types_expressions.specs.Named.{NamedType, named_at, named_in, named_in_arguments, named_in_type, named_in_optional}

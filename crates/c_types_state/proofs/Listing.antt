@@ -18,7 +18,7 @@ use Rattle.c_syntax.specs.declared.declaration.Member as memory_member
 use Rattle.c_syntax.specs.declared.declaration.Item.{Item}
 use Rattle.c_syntax.specs.declared.declaration.Item.TheVariants as P
 use Rattle.c_syntax.specs.Trees
-use Rattle.c_syntax.specs.Trees.{NameTree, DeclaratorTree, MemberTree, InitDeclaratorTree, BaseTree, ItemTree}
+use Rattle.c_syntax.specs.Trees.{NameTree}
 use Rattle.c_syntax.specs.Views.{type_tree, direct_tree, words_tree, optional_of, arguments_of, suffixes_of, inits_of, expr_tree, init_tree, declarator_tree, member_tree, init_declarator_tree, base_tree, item_tree}
 use Rattle.c_syntax.proofs.SyntaxRows.{type_tree-name, direct_tree-nested}
 use Rattle.c_typed.specs.Names.{contains}

@@ -7,7 +7,7 @@ ghost use Rattle.c_typed.specs.Layouts.{is_complete, layout_of};
 ghost use Rattle.c_typed.specs.Table.{structs_in, Stands, type_in, ListStands, types_in, KnownStands, known_in, TagStands, tag_in};
 ghost use Rattle.c_typed.specs.Table.{members_of, IsMember, IsMemberType, HasShape, IsSplit, AreComplete, member_entries, completed};
 ghost use Rattle.c_rules.specs.Known.{give, unless};
-ghost use Rattle.c_rules.specs.Names.{Scope, LocalName, declares_tag, is_local_here, meaning_of, with_local, with_file_name, file_name, entered, locals_in};
+ghost use Rattle.c_rules.specs.Names.{LocalName, declares_tag, is_local_here, meaning_of, with_local, with_file_name, file_name, entered};
 ghost use Rattle.c_typed.specs.Names.{contains};
 ghost use Rattle.c_types_state.specs.NameTables.{no_state, with_tag, with_once, meaning_in, MeaningStands, file_row, IsFileEntry, scope_of, ScopeGrows};
 ghost use Rattle.c_types_state.specs.Finding.{lesser, noted, Finds, IsType, IsTypes};

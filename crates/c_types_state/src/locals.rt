@@ -1,6 +1,6 @@
 // The locals in scope.
 
-ghost use Rattle.std.specs.Prelude.{◌≡◌, ◌↔◌, ◌∷◌, IsTrue, ◌<◌, ◌≤◌, ◌++◌, List, [], IfSome, IfOk, OnOk, OnErr, length, drop};
+ghost use Rattle.std.specs.Prelude.{◌≡◌, ◌↔◌, ◌∷◌, IsTrue, ◌<◌, ◌≤◌, ◌++◌, List, [], OnOk, OnErr, length, drop};
 ghost use Rattle.c_types_state.specs.NameTables.{LocalEntry, all_locals, no_locals, local_number, local_type, has_entry};
 
 use c_typed::CType;

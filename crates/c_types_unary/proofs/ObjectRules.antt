@@ -21,7 +21,7 @@ use Rattle.c_types_state.specs.declared.known.Address as memory_address
 use Rattle.c_types_state.specs.declared.known.Known as memory_known
 use Rattle.c_rules.specs.Known.{Known, give, value_of_type}
 use Rattle.c_rules.specs.Operators as rules
-use Rattle.c_rules.specs.Operators.{modifiable_rule, is_modifiable, address_of, step_value}
+use Rattle.c_rules.specs.Operators.{address_of, step_value}
 use Rattle.c_types_state.specs.NameTables.{State}
 use Rattle.c_types_state.specs.Finding.{lesser, Finds, IsExpr, IsType, IsOption, expr_in, TypedStands, typed_in, AddressStands, address_in}
 use Rattle.c_types_state.proofs.Findings.{finds-refuse-lesser, address_stays}

@@ -5,7 +5,7 @@ use Rattle.text_place.specs.declared.place.Pos.{Pos}
 use Rattle.c_num.specs.declared.IntType.TheVariants as I
 use Rattle.c_typed.specs.Types.{CType, Pointer, Struct, Function, NoTypes, MoreTypes, int}
 use Rattle.c_typed.specs.Typed as T
-use Rattle.c_typed.specs.Typed.{Value, Block, FunctionDef, Program}
+use Rattle.c_typed.specs.Typed.{Value, FunctionDef, Program}
 use Rattle.c_well_typed.specs.Expressions.{type_of}
 use Rattle.c_well_typed.specs.Programs.{is_well_typed}
 

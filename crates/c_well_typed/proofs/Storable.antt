@@ -4,7 +4,7 @@ use Rattle.std.proofs.lemmas.Bool.{and_parts, and_from}
 use Rattle.c_typed.specs.Types.{CType, literal_type}
 use Rattle.c_typed.specs.Typed as T
 use Rattle.c_typed.specs.Typed.{Value, Object, Designator, Values, Stmt, Block, SwitchItems, LocalDef, ForStart, GlobalDef, LiteralDef, FunctionDef, Program}
-use Rattle.c_well_typed.specs.Sizes.{makes, all_make, object_makes, designator_makes, any_makes, local_makes, locals_make, start_makes, stmt_makes, block_makes, items_make, functions_make, globals_make, literals_make, program_makes, is_small, fills, is_storable, HasSmallTypes, IsFilled, HasStorableTypes}
+use Rattle.c_well_typed.specs.Sizes.{makes, all_make, object_makes, designator_makes, any_makes, local_makes, locals_make, start_makes, stmt_makes, block_makes, items_make, functions_make, globals_make, literals_make, program_makes, is_small, fills, HasSmallTypes, IsFilled, HasStorableTypes}
 
 module _ (one other : CType → Bool) where
   abbrev both : CType → Bool

@@ -1,6 +1,6 @@
 // Copies of nodes and of their edges.
 
-ghost use Rattle.std.specs.Prelude.{◌≡◌, IfOk, OnOk};
+ghost use Rattle.std.specs.Prelude.{IfOk, OnOk};
 ghost use Rattle.c_typed.specs.Table.{structs_in};
 ghost use Rattle.heap_graph.specs.Structures.{AreMade};
 ghost use Rattle.heap_graph.specs.Merging.{IsSound};

@@ -8,7 +8,7 @@ ghost use Rattle.heap_graph.specs.Structures.{AreMade};
 ghost use Rattle.graph_memory.specs.Memory.{graph_in, IsGraph};
 ghost use Rattle.frozen_graphs.specs.Frozen.{edge_of, bare};
 ghost use Rattle.reached_nodes.specs.Edges.{EdgesAreFound};
-ghost use Rattle.call_copies.specs.Copied.{numbers_in, image, NodesCopied, EdgeCopied, NodeLinked};
+ghost use Rattle.call_copies.specs.Copied.{numbers_in, image, NodesCopied, NodeLinked};
 ghost use Rattle.call_copies.specs.Adding.{AreClosed, AreNumbered};
 ghost use Rattle.call_copies.specs.Steps.{LeadsToSlot, EdgesAdded, LinksOne};
 

@@ -1,6 +1,5 @@
 // What is told of copies once all types are known.
 
-ghost use Rattle.std.specs.Prelude.{◌≡◌};
 ghost use Rattle.c_typed.specs.Table.{structs_in};
 ghost use Rattle.heap_graph.specs.Structures.{AreMade};
 ghost use Rattle.graph_memory.specs.Memory.{graph_in, IsGraph};

@@ -1,7 +1,7 @@
 // Calls within a group of functions, and out of it.
 
 ghost use Rattle.std.specs.Prelude.{◌≡◌, ℕ, ◌&&◌, Option};
-ghost use Rattle.c_typed.specs.Table.{Interned, type_in};
+ghost use Rattle.c_typed.specs.Table.{type_in};
 ghost use Rattle.tac_ir.specs.declared.register.Local.TheVariants as L;
 ghost use Rattle.tac_ir.specs.declared.register.Register.TheVariants as R;
 ghost use Rattle.tac_ir.specs.States.{Owner};

@@ -1,6 +1,6 @@
 // Where targets of the graph of a function that is called are in the caller's graph.
 
-ghost use Rattle.std.specs.Prelude.{◌≡◌, ◌<◌, ◌^◌, IfSome};
+ghost use Rattle.std.specs.Prelude.{◌≡◌, ◌<◌};
 ghost use Rattle.c_typed.specs.Table.{Interned};
 ghost use Rattle.frozen_graphs.specs.Frozen.{optional_target, static_in, bare};
 ghost use Rattle.frozen_graphs.specs.Reached.{optional_reached};

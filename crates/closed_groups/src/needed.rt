@@ -1,12 +1,9 @@
 // Nodes that functions need.
 
-ghost use Rattle.std.specs.Prelude.{◌≡◌, ◌<◌, ◌↔◌, true, false, length, map, All, IfOk, OnOk};
-ghost use Rattle.tac_ir.specs.States.{Owner, InFunction};
-ghost use Rattle.tac_ir.specs.Views.{op_in, tac_of};
+ghost use Rattle.std.specs.Prelude.{◌<◌, true, false, length, map, All, OnOk};
+ghost use Rattle.tac_ir.specs.States.{Owner};
+ghost use Rattle.tac_ir.specs.Views.{op_in};
 ghost use Rattle.call_targets.specs.ClassLists.{numbers_of};
-ghost use Rattle.heap_graph.specs.Closed.{same_group};
-ghost use Rattle.frozen_graphs.specs.Frozen.{bare};
-ghost use Rattle.reached_nodes.specs.Complete.{AreAllMarked};
 ghost use Rattle.reached_nodes.specs.Marks.{Adds};
 ghost use Rattle.closed_functions.specs.Programs.{family_of, IsMember};
 ghost use Rattle.closed_functions.specs.Fits.{OpFits, AllFit, IsFit};

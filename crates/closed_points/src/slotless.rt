@@ -1,7 +1,7 @@
 // Parts without slots: arrays of what has no size. They lie in arrays alone.
 
 ghost use Rattle.std.specs.Prelude.{◌≡◌, true, List};
-ghost use Rattle.c_typed.specs.Table.{Stands, structs_in, type_in};
+ghost use Rattle.c_typed.specs.Table.{structs_in, type_in};
 ghost use Rattle.c_well_typed.specs.Sizes.{are_filled};
 ghost use Rattle.heap_graph.specs.Graphs as G;
 ghost use Rattle.heap_graph.specs.Memory.{element_in};

@@ -9,7 +9,7 @@ use Rattle.c_typed.specs.declared.typed.LibraryFunction.{LibraryFunction}
 use Rattle.c_typed.specs.declared.typed.LibraryFunction.TheVariants as L
 use Rattle.c_typed.specs.Types.{CType, Void, Array, literal_type}
 use Rattle.c_typed.specs.Typed as T
-use Rattle.c_typed.specs.Typed.{Program, Value, Values, Object, Designator, GlobalDef, LiteralDef}
+use Rattle.c_typed.specs.Typed.{Program, Value, Values, Object, Designator}
 use Rattle.tac_ir.specs.declared.register.Register.{Register}
 use Rattle.tac_ir.specs.declared.register.Register.TheVariants as R
 use Rattle.tac_ir.specs.Code.{Constant, Held, Convert, Complement, Not, Arithmetic, Compare, AtLocal, AtGlobal, AtLiteral, Member, Path, Callee, Known, Through, Op}

@@ -10,7 +10,7 @@ use Rattle.c_typed.specs.Types.{CType, Void, Integer, Pointer, Array, Struct, Fu
 use Rattle.tac_ir.specs.declared.register.Local.{Local}
 use Rattle.tac_ir.specs.declared.register.Register.{Register}
 use Rattle.tac_ir.specs.declared.register.Register.TheVariants as R
-use Rattle.tac_ir.specs.Code.{Tree, Constant, Held, Pointed, Indexed, Path, Element, Callee, Known, Through, IntegerOperand, PointerOperand, Op}
+use Rattle.tac_ir.specs.Code.{Tree, Constant, Held, Indexed, Path, Element, Callee, Known, Through, IntegerOperand, PointerOperand, Op}
 use Rattle.tac_ir.specs.Code as O
 use Rattle.tac_build.specs.Homes.{Home}
 use Rattle.tac_build.specs.Spots.{Spot, behind, with_temporary, temporary, Lowered, AsInteger, AsPointer, AsObject, AsNothing, Mode, Kept, Dropped, Behind, Row}

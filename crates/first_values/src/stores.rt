@@ -1,7 +1,7 @@
 // First values that are stored into a variable.
 
 ghost use Rattle.std.specs.Prelude.{◌≡◌, ◌<◌, true, length, OnOk};
-ghost use Rattle.c_typed.specs.DefinitionViews.{static_of, scalar_of, held_of, LiteralsStand};
+ghost use Rattle.c_typed.specs.DefinitionViews.{scalar_of, held_of, LiteralsStand};
 ghost use Rattle.c_typed.specs.Values as first;
 ghost use Rattle.tac_ir.specs.Code.{AtGlobal};
 ghost use Rattle.tac_ir.specs.States.{InStart};

@@ -1,6 +1,6 @@
 // The first values of all variables outside functions.
 
-ghost use Rattle.std.specs.Prelude.{◌≡◌, ◌<◌, length, map, OnOk};
+ghost use Rattle.std.specs.Prelude.{◌≡◌, ◌<◌, length, OnOk};
 ghost use Rattle.std.specs.List.{AllByRecursion};
 ghost use Rattle.c_typed.specs.DefinitionViews.{first_of, all_first, LiteralsStand};
 ghost use Rattle.tac_ir.specs.Views.{tac_of};

@@ -1,8 +1,8 @@
 // Graphs of certain nodes.
 
-ghost use Rattle.std.specs.Prelude.{◌≡◌, IfOk};
+ghost use Rattle.std.specs.Prelude.{IfOk};
 ghost use Rattle.c_typed.specs.Table.{Interned};
-ghost use Rattle.heap_graph.specs.Graphs.{node_at, OfGlobal, OfLiteral};
+ghost use Rattle.heap_graph.specs.Graphs.{node_at};
 ghost use Rattle.graph_memory.specs.Memory.{graph_in, IsGraph};
 ghost use Rattle.frozen_graphs.specs.Frozen.{optional_node};
 ghost use Rattle.graph_freezing.specs.Freezing.{Freezes, FreezesAll, TellsGraph};

@@ -1,7 +1,7 @@
 -- What the things of a program are called in the text of its graphs.
 use Rattle.std.specs.Prelude.{ℕ, zero, suc, Bool, true, false, if◌then◌else◌, List, [], ◌∷◌, ◌++◌, map, Option, Some, None}
 use Rattle.c_syntax.specs.Trees
-use Rattle.c_syntax.specs.Trees.{NameTree, OptionalTree, ParametersTree, DeclaratorTree, BlockTree, ItemTree, ProgramTree}
+use Rattle.c_syntax.specs.Trees.{NameTree, ParametersTree, DeclaratorTree, BlockTree, ItemTree, ProgramTree}
 use Rattle.c_rules.specs.Names.{Scope}
 use Rattle.c_rules.specs.Expressions.{declared_name, optional_name, is_void_alone}
 use Rattle.c_rules.specs.Programs.{entered_function, own_parameters, item, outermost}

@@ -1,8 +1,8 @@
 // What of a text has labels.
 
-ghost use Rattle.std.specs.Prelude.{◌≡◌, ◌++◌, ◌≤◌, [], ◌∷◌, map, length, List, OnOk};
+ghost use Rattle.std.specs.Prelude.{◌≡◌, ◌++◌, ◌≤◌, [], ◌∷◌, length, List, OnOk};
 ghost use Rattle.c_rules.specs.Names.{LocalName, entered};
-ghost use Rattle.c_types_state.specs.NameTables.{scope_of, no_state};
+ghost use Rattle.c_types_state.specs.NameTables.{no_state};
 ghost use Rattle.graph_labels.specs.Adding.{mark_of, scope_at, Adds};
 
 use c_types_expressions::Pass;

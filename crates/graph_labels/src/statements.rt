@@ -1,7 +1,7 @@
 // What of statements has labels.
 
-ghost use Rattle.std.specs.Prelude.{◌≡◌, ◌++◌, OnOk, map, option_map};
-ghost use Rattle.c_syntax.specs.Views.{name_tree, words_tree, declarator_tree, init_tree, init_declarator_tree, declaration_tree, value_tree, for_tree, stmt_tree, block_of, switch_of};
+ghost use Rattle.std.specs.Prelude.{◌≡◌, ◌++◌, OnOk, option_map};
+ghost use Rattle.c_syntax.specs.Views.{name_tree, words_tree, init_tree, init_declarator_tree, declaration_tree, value_tree, for_tree, stmt_tree, block_of, switch_of};
 ghost use Rattle.c_rules.specs.Names.{entered};
 ghost use Rattle.c_rules.specs.Expressions as expressions;
 ghost use Rattle.c_rules.specs.Statements as rules;

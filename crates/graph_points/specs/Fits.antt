@@ -6,7 +6,7 @@ use Rattle.c_typed.specs.Layouts.{StructDef, is_complete}
 use Rattle.tac_ir.specs.declared.register.Register.{Register}
 use Rattle.tac_ir.specs.declared.register.Register.TheVariants as R
 use Rattle.tac_ir.specs.Code as O
-use Rattle.tac_ir.specs.Code.{Base, AtLocal, AtGlobal, AtLiteral, Pointed, Indexed, Step, Member, Element, Path, Operand, IntegerOperand, PointerOperand, Op, Tac}
+use Rattle.tac_ir.specs.Code.{Base, Pointed, Indexed, Step, Member, Element, Path, Operand, IntegerOperand, PointerOperand, Op, Tac}
 use Rattle.tac_ir.specs.States.{Owner}
 use Rattle.heap_graph.specs.Graphs.{OfResult, Graph}
 use Rattle.heap_graph.specs.Parts.{slots_of, has_part}

@@ -3,7 +3,7 @@
 ghost use Rattle.std.specs.Prelude.{◌≡◌, ◌<◌, false, true, IfOk, OnOk, option_map};
 ghost use Rattle.c_typed.specs.Layouts as L;
 ghost use Rattle.tac_ir.specs.Code as C;
-ghost use Rattle.tac_ir.specs.Views.{base_in, path_in, scalar_in, operand_of};
+ghost use Rattle.tac_ir.specs.Views.{base_in, path_in, scalar_in};
 ghost use Rattle.heap_graph.specs.Memory.{target_of};
 ghost use Rattle.heap_graph.specs.Parts as P;
 ghost use Rattle.heap_graph.specs.Points as Q;

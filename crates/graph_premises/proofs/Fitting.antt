@@ -9,7 +9,7 @@ use Rattle.c_typed.specs.Layouts.{is_complete}
 use Rattle.tac_ir.specs.declared.register.Register.{Register}
 use Rattle.tac_ir.specs.declared.register.Register.TheVariants as R
 use Rattle.tac_ir.specs.Code as O
-use Rattle.tac_ir.specs.Code.{Base, AtLocal, AtGlobal, AtLiteral, Pointed, Indexed, Path, Operand, IntegerOperand, PointerOperand, Function, Op, Tac}
+use Rattle.tac_ir.specs.Code.{Base, AtLocal, AtGlobal, AtLiteral, Pointed, Indexed, Path, IntegerOperand, PointerOperand, Function, Op, Tac}
 use Rattle.tac_ir.specs.Objects.{own_type, global_type, literal_object}
 use Rattle.tac_ir.specs.States.{Owner, function_of, objects_of}
 use Rattle.heap_graph.specs.Graphs.{OfObject, OfGlobal, OfLiteral, Graph}

@@ -4,7 +4,7 @@ use Rattle.c_typed.specs.Types.{literal_type}
 use Rattle.c_typed.specs.Typed.{GlobalDef, LiteralDef}
 use Rattle.tac_ir.specs.declared.register.Local.{Local}
 use Rattle.tac_ir.specs.declared.register.Register.{Register}
-use Rattle.tac_ir.specs.Code.{Base, AtGlobal, AtLiteral, Path, Function, Op, Tac}
+use Rattle.tac_ir.specs.Code.{Base, AtGlobal, AtLiteral, Function, Op, Tac}
 use Rattle.tac_ir.specs.Code as O
 use Rattle.tac_ir.specs.Layouts.{Inner}
 use Rattle.tac_ir.specs.Objects.{own_type}

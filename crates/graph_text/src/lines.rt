@@ -1,7 +1,6 @@
 // The lines of names and of nodes.
 
 ghost use Rattle.std.specs.Prelude.{◌≡◌, ◌++◌, OnOk};
-ghost use Rattle.heap_graph.specs.Memory.{target_of};
 ghost use Rattle.node_order.specs.Orders.{number_of, by_slot, EdgesAscend, SlotsAscend};
 ghost use Rattle.graph_text.specs.Texts.{target_text, name_text, own_text, name_line, name_lines, edge_text, edges_text, node_line, node_lines};
 

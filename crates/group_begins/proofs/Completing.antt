@@ -10,7 +10,7 @@ use Rattle.c_typed.specs.Typed.{GlobalDef, LiteralDef}
 use Rattle.tac_ir.specs.declared.register.Local.{Local}
 use Rattle.tac_ir.specs.declared.register.Local.TheVariants as L
 use Rattle.tac_ir.specs.Code as O
-use Rattle.tac_ir.specs.Code.{Base, AtLocal, AtGlobal, AtLiteral, Pointed, Indexed, Path, LocalObject, Function, Op}
+use Rattle.tac_ir.specs.Code.{Base, AtLocal, AtGlobal, AtLiteral, Pointed, Indexed, LocalObject, Function, Op}
 use Rattle.tac_ir.specs.Layouts.{Inner}
 use Rattle.tac_ir.specs.Objects.{whole, own_type}
 use Rattle.tac_ir.specs.Values.{same_local}

@@ -12,7 +12,7 @@ use Rattle.tac_ir.specs.declared.register.Local.TheVariants.{Parameter}
 use Rattle.tac_ir.specs.declared.register.Register.{Register}
 use Rattle.tac_ir.specs.declared.register.Register.TheVariants as R
 use Rattle.tac_ir.specs.Code as O
-use Rattle.tac_ir.specs.Code.{Base, AtLocal, AtGlobal, AtLiteral, Pointed, Indexed, Path, LocalObject, Function, Op, Tac}
+use Rattle.tac_ir.specs.Code.{Base, AtLocal, AtGlobal, AtLiteral, Pointed, Indexed, LocalObject, Function, Op, Tac}
 use Rattle.tac_ir.specs.Values.{same_local}
 use Rattle.tac_ir.specs.Layouts.{Inner}
 use Rattle.tac_ir.specs.Objects.{whole, own_type, global_type, literal_object}

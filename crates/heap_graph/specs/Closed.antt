@@ -12,7 +12,7 @@ use Rattle.tac_ir.specs.declared.register.Register.{Register}
 use Rattle.tac_ir.specs.declared.register.Register.TheVariants as R
 use Rattle.tac_ir.specs.declared.register.Local.TheVariants as L
 use Rattle.tac_ir.specs.Code as O
-use Rattle.tac_ir.specs.Code.{AtGlobal, AtLiteral, Base, Path, Callee, Known, Through, Op, LocalObject, Tac}
+use Rattle.tac_ir.specs.Code.{AtGlobal, AtLiteral, Base, Callee, Through, Op, LocalObject, Tac}
 use Rattle.tac_ir.specs.Values.{same_local}
 use Rattle.tac_ir.specs.First.{named_global, placed_literal}
 use Rattle.tac_ir.specs.States.{Owner, InStart, InFunction, function_of}

@@ -11,7 +11,7 @@ use Rattle.tac_ir.specs.Trees.{same_register, no_registers, computes}
 use Rattle.tac_ir.specs.Layouts.{Inner, size_of}
 use Rattle.tac_ir.specs.Objects.{own_type, global_type, literal_object}
 use Rattle.tac_ir.specs.States.{Owner, function_of, points_of, objects_of}
-use Rattle.heap_graph.specs.Graphs.{Target, Missing, OfType, Collapsed, Node, OfRegister, OfResult, OfObject, OfGlobal, OfLiteral, Graph}
+use Rattle.heap_graph.specs.Graphs.{Target, OfType, OfRegister, OfResult, OfObject, OfGlobal, OfLiteral, Graph}
 use Rattle.heap_graph.specs.Graphs as G
 use Rattle.heap_graph.specs.Targets.{same_target, has_target, at_target, edge_at, points_to, implies, Part, member_part, element_part}
 

@@ -1,6 +1,6 @@
 // An image from its bytes.
 
-ghost use Rattle.std.specs.Prelude.{◌≡◌, ℕ, ◌≤◌, length, IfOk, IfErr};
+ghost use Rattle.std.specs.Prelude.{ℕ, ◌≤◌, length, IfOk, IfErr};
 ghost use Rattle.image_form.specs.Form.{Form, form_of, contents_bytes, image_bytes, IsContents, IsImage, ImageOf};
 ghost use Rattle.image_form.specs.Faults.{IsBad};
 ghost use Rattle.image_form.specs.Reading.{IsDecoded, IsFirst, first_bytes_of, IsContentsOf, contents_of, IsHeader, opening_bytes, IsDecodedUnlessMemory};

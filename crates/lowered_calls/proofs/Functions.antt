@@ -6,7 +6,7 @@ use Rattle.c_typed.specs.Types.{CType}
 use Rattle.c_typed.specs.Typed.{Block, FunctionDef, Program}
 use Rattle.tac_ir.specs.declared.program.Counts.{Counts}
 use Rattle.tac_ir.specs.declared.register.Register.TheVariants as R
-use Rattle.tac_ir.specs.Code.{Constant, Held, AtLocal, IntegerOperand, Known, Op, Tac}
+use Rattle.tac_ir.specs.Code.{Held, AtLocal, Known, Op, Tac}
 use Rattle.tac_ir.specs.Code as O
 use Rattle.tac_ir.specs.States.{Owner, InStart, InFunction, function_of}
 use Rattle.tac_build.specs.Homes.{Home, Scope, takes_block}

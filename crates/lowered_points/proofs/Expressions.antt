@@ -19,7 +19,7 @@ use Rattle.c_well_typed.specs.Sizes.{makes, all_make, object_makes, designator_m
 use Rattle.c_well_typed.proofs.Splitting.{given_parts, unless_parts, two_parts, same_parts, first_parts}
 use Rattle.tac_ir.specs.declared.register.Register.{Register}
 use Rattle.tac_ir.specs.declared.register.Register.TheVariants as R
-use Rattle.tac_ir.specs.Code.{Base, AtLocal, AtGlobal, AtLiteral, Pointed, Member, Path, Callee, Known, Through, Tac}
+use Rattle.tac_ir.specs.Code.{AtLocal, AtGlobal, AtLiteral, Pointed, Member, Path, Callee, Tac}
 use Rattle.tac_ir.specs.Code as O
 use Rattle.tac_ir.specs.First.{named_global, placed_literal}
 use Rattle.tac_ir.specs.Objects.{own_type, whole}

@@ -17,7 +17,7 @@ use Rattle.tac_ir.specs.declared.program.Counts.{Counts}
 use Rattle.tac_ir.specs.declared.register.Local.{Local}
 use Rattle.tac_ir.specs.declared.register.Local.TheVariants as L
 use Rattle.tac_ir.specs.declared.register.Register.TheVariants as R
-use Rattle.tac_ir.specs.Code.{Constant, Held, AtLocal, Operand, IntegerOperand, PointerOperand, Known, LocalObject, Op, Tree, Tac}
+use Rattle.tac_ir.specs.Code.{AtLocal, IntegerOperand, LocalObject, Op, Tree, Tac}
 use Rattle.tac_ir.specs.Code as O
 use Rattle.tac_ir.specs.Values.{same_local}
 use Rattle.tac_ir.specs.Objects.{own_type, whole}

@@ -3,7 +3,7 @@ use Rattle.std.proofs.Common.{◌≡◌, ℕ, suc, ◌+◌, ◌<◌, ◌^◌, Bo
 use Rattle.std.specs.Option.{is_some, option_copied, option_map, MatchOption}
 use Rattle.std.proofs.lemmas.Option.{slice_get-map}
 use Rattle.run_theory.specs.Runs as runs
-use Rattle.run_theory.specs.Runs.{Trace, output_of, Final, Move, To, Halt}
+use Rattle.run_theory.specs.Runs.{Trace, output_of, Final, Move, To}
 use Rattle.run_theory.specs.Moves.{then_move, moves}
 use Rattle.image_form.specs.declared.image.Function.{Function}
 use Rattle.image_form.specs.Form.{function_of}

@@ -1,7 +1,7 @@
 -- What a run of the machine answers.
 use Rattle.std.specs.Prelude.{◌≡◌, ℕ, suc, ◌≤◌, List, Option, Some, None}
 use Rattle.run_theory.specs.Runs as runs
-use Rattle.run_theory.specs.Runs.{Trace, Move, To, Halt, Final}
+use Rattle.run_theory.specs.Runs.{Trace, To, Halt, Final}
 use Rattle.run_theory.specs.Moves.{moves}
 use Rattle.image_form.specs.declared.image.MachineLimits.{MachineLimits}
 use Rattle.pool_isa.specs.Machine.{Code, Activation, Heap, History, State, act}

@@ -3,10 +3,9 @@
 ghost use Rattle.std.specs.Prelude.{◌≡◌, ◌≢◌, suc, ◌+◌, ◌-◌, ◌%◌, ◌^◌, ◌<◌, ◌≤◌, [], ◌∷◌, length, take, drop, reverse, Some, None};
 ghost use Rattle.std.specs.Bool.{OnTrue, OnFalse};
 ghost use Rattle.std.specs.Prelude.{true, IfOk, IfSome, OnOk, OnErr, IsTrue, ◌↔◌, MatchOption, if◌then◌else◌};
-ghost use Rattle.byteorder.specs.Endian.{little_bytes};
 ghost use Rattle.pcc_outside.specs.Outside.{Rose};
 ghost use Rattle.image_form.specs.Form.{IsKind};
-ghost use Rattle.pool_isa.specs.Machine.{advanced, covers, site_of, spliced, next_start, with_new_pool};
+ghost use Rattle.pool_isa.specs.Machine.{advanced, covers, site_of, next_start, with_new_pool};
 ghost use Rattle.machine.specs.Heaps.{heap_of};
 ghost use Rattle.machine.specs.Promises.{entry_of, frame_number, with_frame_word};
 

@@ -1,12 +1,11 @@
 // The memory of the machine beside the frames: globals and pools.
 
-ghost use Rattle.std.specs.Prelude.{◌≡◌, suc, ◌+◌, ◌^◌, ◌<◌, ◌≤◌, ◌-◌, true, length, Some, None, Err, IfOk, IfSome, OnOk, OnErr, MatchBool, if◌then◌else◌};
-ghost use Rattle.byteorder.specs.Endian.{little_bytes};
+ghost use Rattle.std.specs.Prelude.{◌≡◌, suc, ◌^◌, ◌<◌, ◌≤◌, ◌-◌, true, length, Some, None, Err, IfOk, IfSome, OnOk, OnErr, MatchBool, if◌then◌else◌};
 ghost use Rattle.std.specs.Bool.{OnFalse};
 ghost use Rattle.slab_space.specs.PoolSteps.{index_exhausted, heap_exhausted};
 ghost use Rattle.slab_space.specs.Pools.{lives_of, alloc_step, free_step};
 ghost use Rattle.image_form.specs.Form.{IsKind};
-ghost use Rattle.pool_isa.specs.Machine.{in_globals, globals_start, heap_word, with_heap_word, spliced, with_new_pool, without_pool};
+ghost use Rattle.pool_isa.specs.Machine.{in_globals, globals_start, heap_word, with_heap_word, with_new_pool, without_pool};
 ghost use Rattle.machine.specs.Heaps.{heap_of, PlacesAt, FreesTo};
 ghost use Rattle.machine.specs.Promises.{heap_within, Writes};
 

@@ -1,7 +1,5 @@
 // What a machine has counted of its pools.
 
-ghost use Rattle.std.specs.Prelude.{◌≡◌};
-
 use crate::ends::RunEnd;
 use pool_isa::PoolCounts;
 use pool_runtime::PoolKind;

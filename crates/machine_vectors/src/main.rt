@@ -4,7 +4,6 @@
 //! another no input and 1,000,000 steps.
 #![tactic(auto)]
 
-ghost use Rattle.std.specs.Prelude.{◌≤◌};
 ghost use Rattle.image_form.specs.Form.{form_of, IsImage};
 
 use image_form::{Image, ImageErr, from_bytes};

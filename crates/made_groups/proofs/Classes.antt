@@ -1,19 +1,18 @@
 -- Functions of a class share formals and results.
-use Rattle.std.proofs.Common.{◌≡◌, ℕ, Bool, true, false, ◌&&◌, List, Option, Some, None, refl, sym, ap, subst, ◌∙◌}
+use Rattle.std.proofs.Common.{◌≡◌, ℕ, Bool, true, false, List, Option, Some, None, refl, sym, ap, ◌∙◌}
 use Rattle.std.specs.Prelude.{slice_get}
 use Rattle.std.proofs.lemmas.Bool.{false≢true, and_parts}
-use Rattle.c_typed.specs.Types.{CType, same_type}
+use Rattle.c_typed.specs.Types.{CType}
 use Rattle.c_typed.proofs.Same.{same_type-true}
 use Rattle.tac_ir.specs.declared.register.Register.{Register}
-use Rattle.tac_ir.specs.Code.{Callee, Through, Function}
+use Rattle.tac_ir.specs.Code.{Through, Function}
 use Rattle.tac_ir.specs.States.{Owner, InFunction}
 use Rattle.call_groups.specs.Targets.{is_target, is_taken, has_type}
 use Rattle.heap_graph.specs.Graphs.{Name, OfCopy, Graph}
 use Rattle.heap_graph.specs.Targets.{has_target}
-use Rattle.heap_graph.specs.Closed.{Family, graph_of, function_type, type_of, is_name, AreOne}
+use Rattle.heap_graph.specs.Closed.{Family, graph_of, function_type, type_of, is_name}
 use Rattle.group_begins.specs.Mentioned.{is_among}
 use Rattle.group_begins.proofs.Closing.{only_close}
-use Rattle.inner_calls.specs.Joined.{IsCalled, AreShared}
 use Rattle.inner_calls.proofs.Closing.{none_beyond, one_closed}
 use Rattle.made_groups.specs.Made.{IsGroup, AreClassesOne, IsMade}
 use Rattle.made_groups.proofs.Points.{shows}

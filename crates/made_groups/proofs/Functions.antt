@@ -1,7 +1,6 @@
 -- The functions of a group are closed.
-use Rattle.std.proofs.Common.{◌≡◌, ℕ, Bool, true, false, List, Some, refl, sym, ap, subst, ◌∙◌}
+use Rattle.std.proofs.Common.{◌≡◌, ℕ, Bool, true, false, List, Some, refl, sym, ap, ◌∙◌}
 use Rattle.std.specs.Prelude.{slice_get, if◌then◌else◌}
-use Rattle.std.specs.List.{AllByRecursion}
 use Rattle.std.proofs.lemmas.Bool.{false≢true}
 use Rattle.tac_ir.specs.declared.register.Register.{Register}
 use Rattle.tac_ir.specs.Code as O
@@ -9,7 +8,7 @@ use Rattle.tac_ir.specs.Code.{Callee, Known, Through, Function}
 use Rattle.tac_ir.specs.States.{Owner, InStart, InFunction, function_of}
 use Rattle.call_groups.specs.Targets.{is_target}
 use Rattle.heap_graph.specs.Graphs.{Graph}
-use Rattle.heap_graph.specs.Closed.{Family, graph_of, same_group, inner_call, outer_call, call_of, FunctionClosed}
+use Rattle.heap_graph.specs.Closed.{Family, same_group, inner_call, outer_call, call_of, FunctionClosed}
 use Rattle.closed_functions.specs.Asked.{ClassAsked, CallAsked, OpAsked}
 use Rattle.closed_functions.specs.Code.{CodeClosed}
 use Rattle.closed_functions.proofs.Whole.{each_at, asked_from, whole_closed}

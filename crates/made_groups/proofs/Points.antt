@@ -1,13 +1,12 @@
 -- What the points and the names of a function ask of a graph that was made.
-use Rattle.std.proofs.Common.{◌≡◌, ℕ, zero, suc, Bool, true, false, ◌||◌, List, [], ◌∷◌, Some, refl, sym, ap, subst, ◌∙◌}
+use Rattle.std.proofs.Common.{◌≡◌, ℕ, zero, suc, Bool, true, false, ◌||◌, List, [], ◌∷◌, Some, refl, sym, ap, subst}
 use Rattle.std.specs.Prelude.{slice_get}
 use Rattle.std.specs.List.{AllByRecursion}
 use Rattle.std.proofs.lemmas.Bool.{false≢true, and_parts, and_from}
 use Rattle.tac_ir.specs.Code.{Function, Op}
 use Rattle.tac_ir.specs.States.{Owner, InFunction, function_of, points_of}
 use Rattle.heap_graph.specs.Escaping.{same_owner}
-use Rattle.heap_graph.specs.Graphs.{Flags, Node, Graph}
-use Rattle.heap_graph.specs.Targets.{flags_kept, marks_kept}
+use Rattle.heap_graph.specs.Graphs.{Graph}
 use Rattle.heap_graph.specs.Points.{point_closed}
 use Rattle.heap_graph.specs.Closed.{Family, graph_of, parameters_of, formals_closed, locals_closed, globals_closed, literals_closed}
 use Rattle.heap_graph.proofs.StepsCompose.{flags_itself}
@@ -18,7 +17,6 @@ use Rattle.group_begins.specs.Mentioned.{is_among}
 use Rattle.group_begins.specs.Told.{FunctionTold}
 use Rattle.group_begins.specs.Shown.{Shows}
 use Rattle.group_begins.proofs.Closing.{locals_close, formals_close, globals_close, literals_close, mentions_close}
-use Rattle.group_rounds.specs.Rounds.{points_at}
 use Rattle.group_rounds.proofs.Closing.{group_kept}
 use Rattle.made_groups.specs.Made.{IsGroup, IsMade}
 

@@ -4,7 +4,7 @@ use Rattle.c_typed.specs.Types.{CType}
 use Rattle.tac_ir.specs.declared.register.Register.{Register}
 use Rattle.tac_ir.specs.Code as O
 use Rattle.tac_ir.specs.Code.{Callee, Through, Function}
-use Rattle.tac_ir.specs.States.{Owner, InStart, InFunction, function_of}
+use Rattle.tac_ir.specs.States.{Owner, InFunction, function_of}
 use Rattle.call_groups.specs.Targets.{is_target}
 use Rattle.heap_graph.specs.Graphs.{Graph}
 use Rattle.heap_graph.specs.Closed.{Family, graph_of, group_of, same_group, outer_call, IsEmbedding, AreOne}

@@ -1,5 +1,5 @@
 //! The commands of `poolcc`, as `clap` knows them.
-ghost use Rattle.std.specs.Prelude.{◌≡◌, ◌∷◌, [], IfOk, codes};
+ghost use Rattle.std.specs.Prelude.{◌≡◌, ◌∷◌, [], IfOk};
 ghost use Rattle.clap.specs.Words.{app_of, new_app, with_rule};
 ghost use Rattle.pcc_words.specs.Line.{Index, OnePool, Slabs, Steps, build_choices, flag_name};
 ghost use Rattle.pcc_words.specs.Clap.{IsLocal, app, file_rule, flag_rule, leaf, number_rule, setting_rule};

@@ -6,7 +6,7 @@ use Rattle.c_typed.specs.Types.{CType}
 use Rattle.tac_ir.specs.declared.register.Register.{Register}
 use Rattle.tac_ir.specs.declared.register.Register.TheVariants as R
 use Rattle.tac_ir.specs.Code as O
-use Rattle.tac_ir.specs.Code.{Tree, Path, Operand, PointerOperand, Op, Tac}
+use Rattle.tac_ir.specs.Code.{Tree, Path, Operand, Op, Tac}
 use Rattle.tac_ir.specs.States.{Owner}
 use Rattle.heap_graph.specs.Graphs.{Target, Node, Graph, node_at}
 use Rattle.heap_graph.specs.Targets.{same_target, at_target, edge_at, points_to, implies}

@@ -15,7 +15,7 @@ use Rattle.tac_ir.specs.Calls.{greatest_depth, after_next}
 use Rattle.tac_ir.specs.Costs.{operand_cost}
 use Rattle.pool_isa.specs.Machine.{binary_word, compared_word, fits_pool, number_of, input_word}
 use Rattle.c_num.specs.declared.BinOp.TheVariants as B
-use Rattle.pool_ir.specs.Code.{Slot, Base, AtFrame, AtGlobals, Pointed, Indexed, Step, Member, Element, Path, Callee, Known, Through, Op, Action, FrameLayout, Function, PoolCode}
+use Rattle.pool_ir.specs.Code.{Slot, Base, Indexed, Step, Member, Element, Path, Callee, Known, Through, Op, Action, Function, PoolCode}
 use Rattle.pool_ir.specs.Code as O
 use Rattle.pool_ir.specs.Words.{Words, no_words, with_word, truth_word, is_zero_word, word_in, operand_word, moved_by, moved_back}
 use Rattle.pool_ir.specs.States.{PoolEvent, Same, Placed, Activation, State, function_of, points_of, trap, emit, acts, go_to, go_on, write}

@@ -1,5 +1,5 @@
 -- The plain code that code in memory stands for.
-use Rattle.std.specs.Prelude.{ℕ, List, map, Option}
+use Rattle.std.specs.Prelude.{ℕ, List, map}
 use Rattle.tac_ir.specs.Views.{tree_of, operand_of, optional_operand}
 use Rattle.pool_ir.specs.declared.number.Descriptor.{Descriptor}
 use Rattle.pool_ir.specs.declared.path.Slot as memory_slot

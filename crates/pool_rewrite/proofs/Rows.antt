@@ -14,7 +14,7 @@ use Rattle.tac_ir.specs.declared.register.Register.TheVariants as R
 use Rattle.tac_ir.specs.Events.{TacEvent, seen}
 use Rattle.tac_ir.specs.Calls.{greatest_depth}
 use Rattle.tac_ir.specs.First.{tac_run}
-use Rattle.tac_ir.specs.Code.{Tree, Constant, Held, Arithmetic, AtLocal, AtGlobal, Pointed, Member, Path, IntegerOperand, PointerOperand, Known, Op, Function, Tac}
+use Rattle.tac_ir.specs.Code.{Constant, Held, Arithmetic, AtLocal, AtGlobal, Pointed, Member, Path, IntegerOperand, Known, Function, Tac}
 use Rattle.tac_ir.specs.Code as O
 use Rattle.pool_ir.specs.States.{PoolEvent, same}
 use Rattle.pool_ir.specs.Meaning.{pool_run}

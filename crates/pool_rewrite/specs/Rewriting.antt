@@ -11,7 +11,7 @@ use Rattle.tac_ir.specs.Values.{Object, OfGlobal, OfLiteral, Value, Number, Code
 use Rattle.tac_ir.specs.Layouts.{size_of, leaf_at, Inner, member_of}
 use Rattle.tac_ir.specs.Objects.{own_type}
 use Rattle.tac_ir.specs.First.{offset_in, constant_of}
-use Rattle.tac_ir.specs.Code.{Tree, Path, Callee, Function, Tac, LocalObject}
+use Rattle.tac_ir.specs.Code.{Path, Callee, Function, Tac, LocalObject}
 use Rattle.tac_ir.specs.Code as T
 use Rattle.pool_isa.specs.Machine.{globals_start, spliced}
 use Rattle.pool_ir.specs.Code as O

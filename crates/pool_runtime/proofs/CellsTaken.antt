@@ -3,7 +3,7 @@ use Rattle.std.proofs.Common.{◌≡◌, ℕ, suc, ◌+◌, ◌-◌, ◌*◌, �
 use Rattle.std.specs.Prelude.{if◌then◌else◌, slice_index, slice_index_or}
 use Rattle.std.proofs.lemmas.List.{get_or-set_same, get_or-set_other, length-set}
 use Rattle.raw_slab.specs.Words.{zeros, word_at}
-use Rattle.slab_space.specs.Pool.{cells_per_run, with_next, with_freed, live_cells, live_from}
+use Rattle.slab_space.specs.Pool.{cells_per_run, with_next, with_freed, live_cells}
 use Rattle.slab_space.specs.Pool as seen
 use Rattle.pool_runtime.specs.declared.cells.Cells.{Cells}
 use Rattle.pool_runtime.specs.Bytes.{range, SameAt}

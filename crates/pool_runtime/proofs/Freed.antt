@@ -9,7 +9,7 @@ use Rattle.raw_slab.specs.Words.{with_word}
 use Rattle.raw_slab.proofs.WordsWritten.{length-with_word}
 use Rattle.slab_space.specs.Runs.{need, free_count, IsHeldRun}
 use Rattle.slab_space.specs.Space.{Space}
-use Rattle.slab_space.specs.Pool.{cells_per_run, made_in, number_at, with_freed, is_live, live_in}
+use Rattle.slab_space.specs.Pool.{cells_per_run, made_in, number_at, with_freed, is_live}
 use Rattle.slab_space.specs.Pool as seen
 use Rattle.slab_space.specs.PoolSteps.{PoolInSlabs, freed_among}
 use Rattle.pool_runtime.specs.declared.cells.Cells.{Cells}

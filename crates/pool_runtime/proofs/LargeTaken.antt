@@ -10,7 +10,7 @@ use Rattle.std.proofs.lemmas.List.Sums.{sum_by-cons}
 use Rattle.raw_slab.specs.Words.{zeros}
 use Rattle.slab_space.specs.Runs.{need, with_run, lowest_run, IsLowestRun}
 use Rattle.slab_space.specs.Space.{Space, IsZero, with_taken}
-use Rattle.slab_space.specs.Pool.{slab_address, with_large, with_peak, live_in, classes_of}
+use Rattle.slab_space.specs.Pool.{with_large, with_peak, live_in, classes_of}
 use Rattle.slab_space.specs.Pool as seen
 use Rattle.slab_space.specs.PoolSteps.{placed, placed_large}
 use Rattle.slab_space.proofs.LowestRun.{lowest_run_found, free_from_found}

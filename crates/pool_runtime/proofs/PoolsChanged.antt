@@ -10,7 +10,6 @@ use Rattle.std.proofs.lemmas.Map.Lookups.{exact_unsigned}
 use Rattle.std.proofs.lemmas.Map.Entries.{sum_by-insert_entry}
 use Rattle.std.proofs.lemmas.Bool.{cases_eq, false_from_ne_true}
 use Rattle.slab_space.specs.declared.kind.PoolKind.{PoolKind}
-use Rattle.slab_space.specs.Pool.{new_pool}
 use Rattle.slab_space.specs.Pool as one
 use Rattle.slab_space.specs.Pools as all
 use Rattle.pool_runtime.specs.declared.pool.Pool.{Pool}

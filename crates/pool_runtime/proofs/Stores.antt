@@ -6,7 +6,7 @@ use Rattle.std.proofs.lemmas.Bool.{false_from_ne_true}
 use Rattle.std.proofs.lemmas.Option.{same_Some}
 use Rattle.raw_slab.specs.Words.{with_word}
 use Rattle.raw_slab.proofs.WordsWritten.{length-with_word}
-use Rattle.slab_space.specs.Pool.{Object, cells_per_run, cell_address, live_from, live_cells, live_in, slabs_in, large_object, objects_in}
+use Rattle.slab_space.specs.Pool.{Object, live_cells, large_object}
 use Rattle.slab_space.specs.Pool as seen
 use Rattle.slab_space.specs.PoolSteps.{covers, written, written_from, written_cells, written_large, written_in}
 use Rattle.pool_runtime.specs.declared.cells.Cells.{Cells}

@@ -1,11 +1,11 @@
 // A pool: its cells, by class, and its large objects.
 
 ghost use Rattle.std.specs.Prelude.{◌≡◌, ◌+◌, ◌≤◌, ◌<◌, ◌^◌, ℕ, List, [], length, map, max, true, nat_le, position, slice_index_or, IfOk, IfSome, OnOk, Some};
-ghost use Rattle.slab_space.specs.Runs.{need as slabs_needed, free_count, lowest_run};
+ghost use Rattle.slab_space.specs.Runs.{free_count};
 ghost use Rattle.slab_space.specs.Pool.{IsKind, has_room as is_room, class_for as class_of, address_in, numbered, no_cells};
 ghost use Rattle.pool_runtime.specs.Changes.{Added};
 ghost use Rattle.pool_runtime.specs.Given.{AreGivable, given_all, runs_of, class_runs};
-ghost use Rattle.slab_space.specs.PoolSteps.{at_limit, placed, placed_cell, placed_in, placed_in_class, placed_large, freed_in};
+ghost use Rattle.slab_space.specs.PoolSteps.{at_limit};
 
 use crate::cells::Cells;
 use crate::memory::{START, need, place_of};

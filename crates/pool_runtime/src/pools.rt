@@ -1,4 +1,4 @@
-ghost use Rattle.std.specs.Prelude.{◌≡◌, ◌+◌, ◌^◌, ◌<◌, ◌≤◌, ◌↔◌, true, false, if◌then◌else◌, length, is_some, IfOk, IfSome, OnOk, OnErr, Ok, Err, Some, None};
+ghost use Rattle.std.specs.Prelude.{◌≡◌, ◌+◌, ◌^◌, ◌<◌, ◌≤◌, ◌↔◌, true, false, if◌then◌else◌, length, IfOk, IfSome, OnOk, OnErr, Ok, Err, Some, None};
 ghost use Rattle.slab_space.specs.Pool.{IsKind};
 ghost use Rattle.slab_space.specs.PoolSteps.{placed, index_exhausted, heap_exhausted};
 ghost use Rattle.pool_runtime.specs.Tables.{IsSpace};

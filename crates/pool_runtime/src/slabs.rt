@@ -1,7 +1,6 @@
 // The slabs of a space, and what the runs of them were taken for.
 
 ghost use Rattle.std.specs.Prelude.{◌≡◌, ◌*◌, ◌≤◌, ◌↔◌, [], Some, slice_get, replicate, IfOk, OnOk, OnErr, None};
-ghost use Rattle.raw_slab.specs.Words.{zeros};
 ghost use Rattle.slab_space.specs.Runs.{Full, IsLowestRun};
 ghost use Rattle.slab_space.specs.Space.{IsZero, with_taken};
 

@@ -13,12 +13,12 @@ use Rattle.slab_exhaustion.specs.Needs.{needs, after_alloc}
 use Rattle.slab_exhaustion.proofs.Exhausted.{exhaustion_tells_needs}
 use Rattle.tac_ir.specs.declared.register.Register.TheVariants as R
 use Rattle.tac_ir.specs.Values as V
-use Rattle.tac_ir.specs.Values.{OfHeap, OfGlobal, OfLiteral, OfActivation, same_object, Value, NoAddress, Address, Content, Untyped, Typed}
+use Rattle.tac_ir.specs.Values.{OfHeap, OfGlobal, OfLiteral, OfActivation, same_object, Value, NoAddress, Address, Content, Untyped}
 use Rattle.tac_ir.specs.Events.{TacEvent, Made, Crossed}
 use Rattle.tac_ir.specs.Objects.{is_there, extent_of, held_at}
 use Rattle.tac_ir.specs.Trees.{computes}
 use Rattle.tac_ir.specs.States as T
-use Rattle.tac_ir.specs.States.{given, unless_lost}
+use Rattle.tac_ir.specs.States.{unless_lost}
 use Rattle.tac_ir.specs.Calls.{natural_of, allocate}
 use Rattle.tac_ir.specs.Code.{Tree, Tac}
 use Rattle.tac_ir.specs.Code as O
@@ -26,7 +26,7 @@ use Rattle.pool_isa.specs.Machine.{fits_pool, number_of}
 use Rattle.pool_ir.specs.Code.{PoolCode}
 use Rattle.pool_ir.specs.Words.{word_in}
 use Rattle.pool_ir.specs.States as P
-use Rattle.pool_ir.specs.States.{PoolEvent, Same}
+use Rattle.pool_ir.specs.States.{Same}
 use Rattle.pool_ir.specs.Memory.{slot_size}
 use Rattle.pool_ir.specs.Meaning as M
 use Rattle.pool_rewrite.specs.Plan.{Plan}

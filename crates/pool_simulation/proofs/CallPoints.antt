@@ -13,7 +13,7 @@ use Rattle.tac_ir.specs.declared.register.Local.TheVariants as L
 use Rattle.tac_ir.specs.declared.register.Register.{Register}
 use Rattle.tac_ir.specs.declared.register.Register.TheVariants as R
 use Rattle.tac_ir.specs.Values as V
-use Rattle.tac_ir.specs.Values.{OfHeap, OfGlobal, OfLiteral, OfActivation, same_local, same_object, Value, Number, NoAddress, Code, Address, Content, Typed, Objects}
+use Rattle.tac_ir.specs.Values.{OfHeap, OfGlobal, OfLiteral, OfActivation, same_local, same_object, Value, Number, NoAddress, Code, Address, Typed, Objects}
 use Rattle.tac_ir.specs.Events.{Entered}
 use Rattle.tac_ir.specs.Layouts.{Inner}
 use Rattle.tac_ir.specs.Objects.{Surroundings, is_there, extent_of, held_at, whole, own_type}
@@ -30,7 +30,6 @@ use Rattle.pool_ir.specs.Code.{FrameLayout}
 use Rattle.pool_ir.specs.Frames.{objects_start}
 use Rattle.pool_ir.specs.Words.{Words}
 use Rattle.pool_ir.specs.States as P
-use Rattle.pool_ir.specs.States.{Same}
 use Rattle.pool_ir.specs.Meaning as M
 use Rattle.pool_ir.specs.Memory.{activations_of}
 use Rattle.pool_rewrite.specs.Plan.{Plan}

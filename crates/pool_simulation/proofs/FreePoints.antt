@@ -17,7 +17,6 @@ use Rattle.tac_ir.specs.Events.{TacEvent, Released}
 use Rattle.tac_ir.specs.Layouts.{size_of, leaf_at}
 use Rattle.tac_ir.specs.Objects.{is_there, extent_of, held_at}
 use Rattle.tac_ir.specs.States as T
-use Rattle.tac_ir.specs.States.{given, unless_lost}
 use Rattle.tac_ir.specs.Calls.{free}
 use Rattle.tac_ir.specs.Code.{Tac}
 use Rattle.tac_ir.specs.Code as O

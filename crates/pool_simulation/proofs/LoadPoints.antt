@@ -5,7 +5,7 @@ use Rattle.run_theory.specs.Runs.{Move, To, Halt, IsWrong}
 use Rattle.c_typed.specs.Types.{CType}
 use Rattle.tac_ir.specs.declared.register.Register.{Register}
 use Rattle.tac_ir.specs.Values as V
-use Rattle.tac_ir.specs.Values.{OfHeap, OfGlobal, OfLiteral, OfActivation, Value, Content}
+use Rattle.tac_ir.specs.Values.{OfHeap, OfGlobal, OfLiteral, OfActivation, Value}
 use Rattle.tac_ir.specs.Events.{TacEvent, ReadFrom, WroteTo}
 use Rattle.tac_ir.specs.Objects.{is_there, extent_of, fits, stands_at, held_at, Reached, leads}
 use Rattle.tac_ir.specs.States as T

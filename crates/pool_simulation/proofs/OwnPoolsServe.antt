@@ -15,7 +15,7 @@ use Rattle.tac_ir.specs.States as T
 use Rattle.tac_ir.specs.States.{Owner, InStart, InFunction}
 use Rattle.tac_ir.specs.Code.{Function, Tac}
 use Rattle.pool_ir.specs.Code as C
-use Rattle.pool_ir.specs.Code.{Action, Make, Destroy, Edge}
+use Rattle.pool_ir.specs.Code.{Action, Make, Destroy}
 use Rattle.pool_ir.specs.States as P
 use Rattle.pool_ir.specs.States.{Opened, with_descriptor}
 use Rattle.pool_ir.specs.Meaning as M

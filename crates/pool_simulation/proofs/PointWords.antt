@@ -19,7 +19,7 @@ use Rattle.tac_ir.specs.Layouts.{size_of, leaves_in, leaves_by_tag}
 use Rattle.tac_ir.specs.Objects.{Surroundings, is_there, extent_of, is_place, fits, is_leaf, stands_at, held_at, holding, Reached, leads}
 use Rattle.tac_ir.specs.Trees.{Registers, computes, is_zero, truth}
 use Rattle.tac_ir.specs.States as T
-use Rattle.tac_ir.specs.States.{lost, given, unless_lost, write, emit, go_to, go_on, store_content, access}
+use Rattle.tac_ir.specs.States.{given, unless_lost, write, emit, go_to, go_on, store_content, access}
 use Rattle.tac_ir.specs.Pointers.{is_alive, is_null, moved_pointer, difference, compared, typed_content, repoint}
 use Rattle.tac_ir.specs.Calls.{all_held, next_char}
 use Rattle.tac_ir.specs.Meaning.{value_of, looked_at, load, store, address, truth_value, execute}

@@ -10,7 +10,7 @@ use Rattle.c_typed.specs.Types.{literal_type}
 use Rattle.c_typed.specs.Typed.{GlobalDef, LiteralDef}
 use Rattle.tac_ir.specs.declared.register.Local.{Local}
 use Rattle.tac_ir.specs.Values as V
-use Rattle.tac_ir.specs.Values.{OfHeap, OfGlobal, OfLiteral, OfActivation, Content, Absent, Objects}
+use Rattle.tac_ir.specs.Values.{OfHeap, OfGlobal, OfLiteral, OfActivation, Absent, Objects}
 use Rattle.tac_ir.specs.Layouts.{size_of, Inner}
 use Rattle.tac_ir.specs.Objects.{is_there, extent_of, own_type}
 use Rattle.tac_ir.specs.States as T

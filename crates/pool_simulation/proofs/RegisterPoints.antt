@@ -25,7 +25,7 @@ use Rattle.tac_ir.specs.States.{given, unless_lost}
 use Rattle.tac_ir.specs.Pointers.{is_alive, is_null, moved_pointer, difference, compared}
 use Rattle.tac_ir.specs.Calls.{next_char, after_next}
 use Rattle.tac_ir.specs.Meaning.{looked_at, address, truth_value}
-use Rattle.tac_ir.specs.Code.{Tree, Path, LocalObject, Function, Tac}
+use Rattle.tac_ir.specs.Code.{Tree, Path, LocalObject, Tac}
 use Rattle.tac_ir.specs.Code as O
 use Rattle.tac_ir.proofs.Activations.{AreStacked, IsStacked}
 use Rattle.pool_isa.specs.Machine.{input_word, binary_word, compared_word}

@@ -10,7 +10,7 @@ use Rattle.slab_space.specs.Pool.{Object}
 use Rattle.slab_space.specs.Pools.{Pools, store_step, objects}
 use Rattle.slab_exhaustion.specs.Needs.{HavePlaced, after_store}
 use Rattle.tac_ir.specs.Values as V
-use Rattle.tac_ir.specs.Values.{OfHeap, OfGlobal, OfLiteral, OfActivation, same_object, Value, Content, Absent, Untyped, Typed, Objects, with_content, with_held}
+use Rattle.tac_ir.specs.Values.{OfHeap, OfGlobal, OfLiteral, OfActivation, same_object, Value, Content, Absent, Untyped, Typed, Objects, with_held}
 use Rattle.tac_ir.specs.Layouts.{size_of, leaf_at, leaves_in, leaves_by_tag}
 use Rattle.tac_ir.specs.Objects.{is_there, extent_of, fits, held_at, holding}
 use Rattle.tac_ir.specs.States as T

@@ -9,11 +9,11 @@ use Rattle.pool_isa.specs.declared.instr.Instr.TheVariants as instrs
 use Rattle.pool_isa.specs.Machine as M
 use Rattle.pool_isa.specs.Machine.{converted_word}
 use Rattle.tac_ir.specs.Code.{Tree}
-use Rattle.pool_ir.specs.Code.{Op, Function, PoolCode}
+use Rattle.pool_ir.specs.Code.{Function, PoolCode}
 use Rattle.pool_ir.specs.Code as O
 use Rattle.pool_ir.specs.Words.{word_in, is_zero_word}
 use Rattle.pool_ir.specs.States as P
-use Rattle.pool_ir.specs.States.{actions_from, go_to}
+use Rattle.pool_ir.specs.States.{go_to}
 use Rattle.pool_stack.specs.Emitting.{edge_code, way_or_on, way_at_zero, preparing, place_of, function_code, emitted}
 use Rattle.pool_stack.specs.Standing.{activation_at, StandsAt, Stands}
 use Rattle.pool_stack.specs.Fitting.{CodeFits}

@@ -9,7 +9,7 @@ use Rattle.std.proofs.lemmas.Bool.{and_parts, le-ltb, ltb-true, le-leb, leb-true
 use Rattle.byteorder.specs.Endian.{little_bytes}
 use Rattle.run_theory.specs.declared.ends.TrapKind.TheVariants as traps
 use Rattle.run_theory.specs.Runs
-use Rattle.run_theory.specs.Runs.{Event, DepthReached, Called, Move, To, Halt, Leads, IsProgramEnd}
+use Rattle.run_theory.specs.Runs.{Event, DepthReached, Called, To, Halt}
 use Rattle.run_theory.proofs.Machines.{one_step, leads_compose}
 use Rattle.pool_isa.specs.declared.instr.Instr.TheVariants as instrs
 use Rattle.pool_isa.specs.Machine as M
@@ -18,12 +18,12 @@ use Rattle.tac_ir.specs.declared.register.Register.TheVariants as R
 use Rattle.tac_ir.specs.Events.{Entered}
 use Rattle.tac_ir.specs.States.{InFunction}
 use Rattle.tac_ir.specs.Calls.{greatest_depth}
-use Rattle.pool_ir.specs.Code.{Callee, Known, Through, Op, Function, PoolCode}
+use Rattle.pool_ir.specs.Code.{Callee, Known, Through, Function, PoolCode}
 use Rattle.pool_ir.specs.Code as O
 use Rattle.pool_ir.specs.States as P
 use Rattle.pool_ir.specs.States.{Same, same}
 use Rattle.pool_ir.specs.Meaning as meaning
-use Rattle.pool_ir.specs.Meaning.{call, enter, called, next_start, parameters_from, descriptors_from, execute}
+use Rattle.pool_ir.specs.Meaning.{call, enter, called, next_start}
 use Rattle.pool_stack.specs.Emitting.{preparing, calling, opening, place_of, words_taken, function_code, emitted_function, emitted}
 use Rattle.pool_stack.specs.Standing.{activation_at, place_in, CallersStand, StandsAt, Stands}
 use Rattle.pool_stack.specs.Fitting.{FunctionFits, CodeFits}

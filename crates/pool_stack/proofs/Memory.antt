@@ -10,11 +10,11 @@ use Rattle.slab_space.specs.Pool.{Object}
 use Rattle.slab_space.specs.PoolSteps.{written_in}
 use Rattle.slab_space.specs.Pools.{Pools, object_at, load_step, store_step}
 use Rattle.pool_isa.specs.Machine as M
-use Rattle.pool_isa.specs.Machine.{globals_start, in_globals, number_of, access_of, bytes_at, with_bytes_at, load_with, loaded, store_with, stored, heap_word, heap_access, with_heap_word, spliced}
+use Rattle.pool_isa.specs.Machine.{globals_start, in_globals, access_of, bytes_at, with_bytes_at, load_with, loaded, store_with, stored, heap_word, heap_access, with_heap_word, spliced}
 use Rattle.tac_ir.specs.Events.{ReadFrom, WroteTo, seen}
 use Rattle.pool_ir.specs.Code.{Function, PoolCode}
 use Rattle.pool_ir.specs.States as P
-use Rattle.pool_ir.specs.States.{PoolEvent, Same, same, function_of}
+use Rattle.pool_ir.specs.States.{PoolEvent, same, function_of}
 use Rattle.pool_ir.specs.Memory.{frame_number, with_frame_bytes, activations_of, number_at, with_number, access}
 use Rattle.pool_stack.specs.Standing.{told, activation_at, StandsAt}
 use Rattle.pool_stack.specs.Fitting.{CodeFits}

@@ -8,7 +8,7 @@ use Rattle.run_theory.proofs.Machines.{one_step, leads_compose}
 use Rattle.slab_space.specs.Pools.{Pools}
 use Rattle.pool_isa.specs.declared.instr.Instr.TheVariants as instrs
 use Rattle.pool_isa.specs.Machine as M
-use Rattle.pool_isa.specs.Machine.{converted_word, input_word}
+use Rattle.pool_isa.specs.Machine.{input_word}
 use Rattle.tac_ir.specs.declared.register.Register.{Register}
 use Rattle.tac_ir.specs.declared.register.Register.TheVariants as R
 use Rattle.tac_ir.specs.Events.{Wrote}

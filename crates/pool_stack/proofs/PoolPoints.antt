@@ -3,7 +3,7 @@ use Rattle.std.proofs.Common.{◌≡◌, ℕ, zero, suc, ◌+◌, ◌*◌, ◌==
 use Rattle.std.specs.Prelude.{slice_get, if◌then◌else◌}
 use Rattle.std.proofs.lemmas.Bool.{ne_eqb}
 use Rattle.run_theory.specs.declared.ends.TrapKind.TheVariants as traps
-use Rattle.run_theory.specs.Runs.{Event, Final, HeapExhausted, IndexExhausted, IsResourceEnd, Move, To, Halt, Leads, Allocated, Freed}
+use Rattle.run_theory.specs.Runs.{Event, Final, HeapExhausted, IndexExhausted, IsResourceEnd, Move, To, Halt, Allocated, Freed}
 use Rattle.run_theory.specs.Runs
 use Rattle.run_theory.proofs.Machines.{one_step}
 use Rattle.slab_space.specs.PoolSteps.{Allocation, placed, index_exhausted, heap_exhausted}

@@ -4,18 +4,18 @@ use Rattle.std.specs.Prelude.{slice_get, if◌then◌else◌}
 use Rattle.std.proofs.lemmas.Bool.{lt-ltb}
 use Rattle.run_theory.specs.declared.ends.TrapKind.TheVariants as traps
 use Rattle.run_theory.specs.Runs
-use Rattle.run_theory.specs.Runs.{Event, Returned, Ended, Trapped, Move, To, Halt, Leads}
+use Rattle.run_theory.specs.Runs.{Event, Returned, Ended, To, Halt}
 use Rattle.run_theory.proofs.Machines.{one_step}
 use Rattle.pool_isa.specs.declared.instr.Instr.TheVariants as instrs
 use Rattle.pool_isa.specs.Machine as M
 use Rattle.tac_ir.specs.declared.register.Register.TheVariants as R
 use Rattle.tac_ir.specs.Events.{Left}
 use Rattle.tac_ir.specs.Code.{Operand}
-use Rattle.pool_ir.specs.Code.{Op, Function, PoolCode}
+use Rattle.pool_ir.specs.Code.{Function, PoolCode}
 use Rattle.pool_ir.specs.Code as O
 use Rattle.pool_ir.specs.Words.{operand_word}
 use Rattle.pool_ir.specs.States as P
-use Rattle.pool_ir.specs.States.{Same, same}
+use Rattle.pool_ir.specs.States.{Same}
 use Rattle.pool_ir.specs.Meaning.{back, leave, leaving_of}
 use Rattle.pool_stack.specs.Emitting.{actions_code, preparing, keeping, calling, height_of, place_of, function_code, emitted}
 use Rattle.pool_stack.specs.Standing.{activation_at, place_in, CallersStand, StandsAt, Stands, Stacked, greatest_frame}

@@ -16,7 +16,7 @@ use Rattle.tac_ir.specs.Events.{seen}
 use Rattle.tac_ir.specs.Calls.{greatest_depth}
 use Rattle.tac_ir.specs.Code.{Tree, Constant, Held, Arithmetic, Compare, IntegerOperand, PointerOperand}
 use Rattle.pool_isa.specs.Machine.{mach}
-use Rattle.pool_ir.specs.Code.{IntegerSlot, AddressSlot, IndexSlot, AtFrame, Pointed, Member, Path, Known, Through, Op, Make, Destroy, Function, PoolCode}
+use Rattle.pool_ir.specs.Code.{IntegerSlot, AddressSlot, IndexSlot, AtFrame, Pointed, Member, Path, Known, Through, Make, Destroy, Function, PoolCode}
 use Rattle.pool_ir.specs.Code as O
 use Rattle.pool_ir.specs.States.{PoolEvent, same}
 use Rattle.pool_ir.specs.Meaning.{pool_run}

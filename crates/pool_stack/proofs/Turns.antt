@@ -14,7 +14,7 @@ use Rattle.c_num.specs.Conversion.{convert_to, word_of}
 use Rattle.pool_isa.specs.declared.instr.Instr.{Instr}
 use Rattle.pool_isa.specs.declared.instr.Instr.TheVariants as instrs
 use Rattle.pool_isa.specs.Machine as M
-use Rattle.pool_isa.specs.Machine.{Function, Code, Activation, State, perform, trap, covers, bytes_at, load_with, loaded_word, binary_word, compared_word, complement_word, converted_word, size_of}
+use Rattle.pool_isa.specs.Machine.{Function, Code, Activation, State, perform, trap, covers, bytes_at, load_with, loaded_word, binary_word, compared_word, complement_word, converted_word}
 use Rattle.pool_stack.specs.Emitting.{reading}
 use Rattle.pool_stack.specs.Standing.{frame_word}
 

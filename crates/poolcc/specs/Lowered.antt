@@ -1,6 +1,6 @@
 -- What the checker of types gives, and code that is made of it.
 use Rattle.c_typed.specs.Typed.{Values, Program}
-use Rattle.c_typed.specs.DefinitionViews.{program_of, ProgramStands, LiteralsStand}
+use Rattle.c_typed.specs.DefinitionViews.{ProgramStands, LiteralsStand}
 use Rattle.c_typed.specs.Views.{values_in, ValuesStand}
 use Rattle.c_types.specs.declared.program.Typed.{Typed}
 use Rattle.tac_ir.specs.declared.program.Tac as memory

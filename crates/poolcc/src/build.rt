@@ -1,7 +1,7 @@
 // `build FILE`: compiles a file to the bytes of an image.
 
-ghost use Rattle.std.specs.Prelude.{◌≡◌, ◌≢◌, ℕ, ◌<◌, ◌≤◌, ◌⊎◌, List, Some, length};
-ghost use Rattle.pcc_outside.specs.Outside.{Rose, Missing, Holds};
+ghost use Rattle.std.specs.Prelude.{◌≡◌, ◌≢◌, ℕ, ◌<◌, ◌≤◌, List, Some, length};
+ghost use Rattle.pcc_outside.specs.Outside.{Rose, Holds};
 ghost use Rattle.poolcc.specs.Premises.{NoFileFailed, AnswersNoSource};
 ghost use Rattle.poolcc.specs.Build.{BuildGives};
 ghost use Rattle.poolcc.specs.Exec.{IsUsage, source_limit};

@@ -1,7 +1,7 @@
 // `exec FILE`: compiles a file and runs it.
 
-ghost use Rattle.std.specs.Prelude.{◌≡◌, ◌≢◌, ℕ, ◌<◌, ◌≤◌, ◌⊎◌, List, Some, length};
-ghost use Rattle.pcc_outside.specs.Outside.{Rose, Missing, Holds};
+ghost use Rattle.std.specs.Prelude.{◌≡◌, ◌≢◌, ℕ, ◌<◌, ◌≤◌, List, Some, length};
+ghost use Rattle.pcc_outside.specs.Outside.{Rose, Holds};
 ghost use Rattle.image_form.specs.Form.{form_of, IsImage};
 ghost use Rattle.poolcc.specs.Premises.{AReadFailed, NoneFailed, AnswersMissing};
 ghost use Rattle.poolcc.specs.Compiled.{RunsImageTo};

@@ -1,7 +1,7 @@
 // `graph FILE`: writes the heap graphs of a file's code.
 
-ghost use Rattle.std.specs.Prelude.{◌≡◌, ◌≢◌, ℕ, ◌<◌, ◌≤◌, ◌⊎◌, List, Some, length, map, IfOk, IfErr};
-ghost use Rattle.pcc_outside.specs.Outside.{Rose, Missing, Holds};
+ghost use Rattle.std.specs.Prelude.{◌≡◌, ◌≢◌, ℕ, ◌<◌, ◌≤◌, List, Some, length, IfOk, IfErr};
+ghost use Rattle.pcc_outside.specs.Outside.{Rose, Holds};
 ghost use Rattle.c_syntax.specs.Views.{program_tree};
 ghost use Rattle.dsa_bottom_up.specs.Ascending.{GraphsAscend};
 ghost use Rattle.poolcc.specs.Premises.{NoFileFailed, AnswersNoSource};

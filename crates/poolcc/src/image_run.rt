@@ -1,7 +1,7 @@
 // `run FILE`: runs a file that is an image.
 
-ghost use Rattle.std.specs.Prelude.{◌≡◌, ◌≢◌, ℕ, ◌<◌, ◌≤◌, ◌⊎◌, List, Some, length};
-ghost use Rattle.pcc_outside.specs.Outside.{Rose, Missing, Holds};
+ghost use Rattle.std.specs.Prelude.{◌≡◌, ◌≢◌, ℕ, ◌<◌, ◌≤◌, List, Some, length};
+ghost use Rattle.pcc_outside.specs.Outside.{Rose, Holds};
 ghost use Rattle.poolcc.specs.Premises.{AReadFailed, NoneFailed, AnswersMissing};
 ghost use Rattle.poolcc.specs.Exec.{IsUsage};
 ghost use Rattle.poolcc.specs.ImageRun.{ImageGives, image_limit};

@@ -1,7 +1,7 @@
 // `ref FILE`: runs what a file's program means.
 
-ghost use Rattle.std.specs.Prelude.{◌≡◌, ◌≢◌, ℕ, ◌<◌, ◌≤◌, ◌⊎◌, List, Some, length};
-ghost use Rattle.pcc_outside.specs.Outside.{Rose, Missing, Holds};
+ghost use Rattle.std.specs.Prelude.{◌≡◌, ◌≢◌, ℕ, ◌<◌, ◌≤◌, List, Some, length};
+ghost use Rattle.pcc_outside.specs.Outside.{Rose, Holds};
 ghost use Rattle.c_typed.specs.DefinitionViews.{program_of, ProgramStands};
 ghost use Rattle.c_well_typed.specs.Programs.{IsWellTyped};
 ghost use Rattle.c_well_typed.specs.Sizes.{HasStorableTypes};

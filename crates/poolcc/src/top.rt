@@ -1,9 +1,9 @@
 // The top call.
 
-ghost use Rattle.std.specs.Prelude.{◌≡◌, ℕ, Bool, ◌<◌, ◌≤◌, ◌⊎◌, List, Some, length, map, string_bytes};
+ghost use Rattle.std.specs.Prelude.{◌≡◌, ℕ, Bool, ◌<◌, ◌≤◌, ◌⊎◌, List, Some};
 ghost use Rattle.pcc_outside.specs.Outside.{Rose};
 ghost use Rattle.pcc_status.specs.Said.{Said};
-ghost use Rattle.pcc_words.specs.Line.{Limits as SaidLimits, line_of, NoCommand, NoLine, Build, Exec, Run, Ref, Graph};
+ghost use Rattle.pcc_words.specs.Line.{Limits as SaidLimits, NoCommand, NoLine, Build, Exec, Run, Ref, Graph};
 ghost use Rattle.pcc_words.specs.Seen.{AreLimits, limits_seen};
 ghost use Rattle.poolcc.specs.Premises.{line_said, FromText, FromSource, Undisturbed, AReadFailed, NoneFailed, ReachesBeyond};
 ghost use Rattle.poolcc.specs.Command.{Names, machine_limits};

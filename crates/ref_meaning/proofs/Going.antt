@@ -4,7 +4,7 @@ use Rattle.std.proofs.lemmas.Bool.{false≢true, cases_lt}
 use Rattle.std.specs.Int.{from_bool}
 use Rattle.c_typed.specs.declared.typed.LibraryFunction.{LibraryFunction}
 use Rattle.run_theory.specs.Runs.{Final, Trace, Going, Over, IsGoing, output_of}
-use Rattle.ref_semantics.specs.Store.{State, Eval, ◌>>=◌, continue_with}
+use Rattle.ref_semantics.specs.Store.{State, ◌>>=◌, continue_with}
 use Rattle.ref_semantics.specs.First.{around_of}
 use Rattle.c_typed.specs.DefinitionViews.{program_of}
 use Rattle.ref_steps.specs.Steps.{Config, goes_on, task_then, resume}

@@ -11,7 +11,6 @@ ghost use Rattle.ref_store.specs.Views.{scalar_in, ScalarStands};
 ghost use Rattle.ref_store.specs.Holding.{IsStore, CallGives};
 ghost use Rattle.ref_store.specs.Promises.{value_seen, GivesScalar};
 ghost use Rattle.ref_meaning.specs.Promises.{part_stored};
-ghost use Rattle.ref_meaning.specs.Views.{part_in};
 ghost use Rattle.ref_meaning.specs.Holding.{NodeStands, IsBehindBoth, PointsToElement};
 ghost use Rattle.ref_meaning.specs.declared.control.Node.TheVariants as N;
 ghost use Rattle.ref_meaning.specs.Doing.{IsAssignment};

@@ -10,7 +10,7 @@ ghost use Rattle.c_well_typed.specs.Programs.{IsWellTyped};
 ghost use Rattle.c_well_typed.specs.Sizes.{HasStorableTypes};
 ghost use Rattle.ref_steps.specs.Steps.{ScalarGiven, Search, First};
 ghost use Rattle.ref_steps.specs.Units.{takes_unit};
-ghost use Rattle.ref_store.specs.Views.{scalar_in, ScalarStands};
+ghost use Rattle.ref_store.specs.Views.{ScalarStands};
 ghost use Rattle.ref_meaning.specs.Promises.{part_seen, scalar_seen, CallsNext};
 ghost use Rattle.ref_meaning.specs.declared.control.Frame as memory_frame;
 ghost use Rattle.ref_meaning.specs.declared.control.Given.TheVariants as G;

@@ -1,6 +1,6 @@
 // Statements (C17 6.8).
 
-ghost use Rattle.std.specs.Prelude.{◌≡◌, ◌∷◌, ℕ, suc, ◌+◌, ◌<◌, ◌≤◌, ◌^◌, List, length, OnOk, OnErr, IsOk, IfErr};
+ghost use Rattle.std.specs.Prelude.{◌≡◌, ◌∷◌, ℕ, suc, ◌+◌, ◌<◌, ◌^◌, List, length, OnOk, OnErr, IsOk, IfErr};
 ghost use Rattle.std.specs.Vec.{vec_len, vec_capacity};
 ghost use Rattle.c_typed.specs.Table.{Interned};
 ghost use Rattle.c_typed.specs.Views.{value_in};
@@ -10,17 +10,17 @@ ghost use Rattle.ref_semantics.specs.Meaning as rules;
 ghost use Rattle.ref_semantics.specs.Meaning.{Normal};
 ghost use Rattle.ref_steps.specs.Parts.{StmtPart};
 ghost use Rattle.ref_steps.specs.Steps.{ScalarGiven, WayGiven};
-ghost use Rattle.ref_store.specs.Views.{scalar_in, ScalarStands};
+ghost use Rattle.ref_store.specs.Views.{ScalarStands};
 ghost use Rattle.ref_meaning.specs.Promises.{part_seen, scalar_seen};
 ghost use Rattle.ref_meaning.specs.declared.control.Frame as memory_frame;
 ghost use Rattle.ref_meaning.specs.declared.control.Node.TheVariants as N;
 ghost use Rattle.ref_meaning.specs.declared.control.Stage.TheVariants as S;
 ghost use Rattle.ref_meaning.specs.declared.control.Task.TheVariants as K;
 ghost use Rattle.ref_meaning.specs.declared.run.Halt.TheVariants as Halts;
-ghost use Rattle.ref_meaning.specs.Views.{table_of, part_in, completion_in, given_in, waiting, at_item, behind_body, case_items_of, locals_of, stack_of, stmt_of, loop_of};
+ghost use Rattle.ref_meaning.specs.Views.{table_of, part_in, completion_in, given_in, waiting, at_item, behind_body, locals_of, stack_of, stmt_of, loop_of};
 ghost use Rattle.ref_meaning.specs.Holding.{IsConsistent, NodeStands, GivenStands, CompletionStands, Fits, HasItems, IsSwitch, IsLoop, IsTurning, Awaits};
 ghost use Rattle.ref_meaning.specs.Doing.{TakesNone, IsInnermost, IsOnTop, IsOfStatement, innermost, taking, performing, turning, beginning_turn, asking, body_in};
-ghost use Rattle.ref_meaning.specs.Items.{IsBlock, block_of, start_of, ItemIs, CaseItemIs, StartLocalIs, declaring, ending_turn};
+ghost use Rattle.ref_meaning.specs.Items.{IsBlock, block_of, start_of, ItemIs, StartLocalIs, declaring, ending_turn};
 ghost use Rattle.ref_meaning.specs.Moving.{Moves, IsKept, IsSame, Becomes};
 
 use crate::control::{Completion, Control, Frame, Given, Node, Stage, Task};

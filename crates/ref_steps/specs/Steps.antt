@@ -14,7 +14,7 @@ use Rattle.ref_semantics.specs.Store.{TypeEnvironment, Eval, ◌>>=◌, give, ha
 use Rattle.ref_semantics.specs.Pointers.{truth, write}
 use Rattle.ref_semantics.specs.Library.{library, low_byte}
 use Rattle.ref_semantics.specs.Meaning
-use Rattle.ref_semantics.specs.Meaning.{Calls, Completion, Normal, Break, Continue, Return, is_true, value, values, find, address, designated, stmt, block, switch_from, At, after_body, way_or, turns, optional_value, holds, new_local, declare_all, do_condition, for_step, block_rest, broken_out, leave, killed, bind, function_from, call_named, bodies_within, used_value, main_value, given_back, named, local_place}
+use Rattle.ref_semantics.specs.Meaning.{Calls, Completion, Normal, Break, Continue, Return, is_true, value, values, find, address, designated, stmt, block, switch_from, At, after_body, way_or, optional_value, holds, new_local, declare_all, do_condition, for_step, block_rest, broken_out, leave, killed, bind, function_from, call_named, bodies_within, used_value, main_value, given_back, named, local_place}
 use Rattle.ref_semantics.specs.First.{main_type}
 use Rattle.ref_steps.specs.Parts.{Part, ValuePart, ObjectPart, AddressPart, FunctionPart, StmtPart, BodyPart, spends, Entry, Gives, FindsLocal, Finds, Becomes, Awaits, CallsLibrary, entry_of, AsSecond, AsRight, AsWhole, Next, Comes, Enters, next_of, both_of}
 

@@ -2,7 +2,7 @@
 
 ghost use Rattle.std.specs.Prelude.{◌≡◌, ℕ, ◌<◌, ◌≤◌, true, List, [], Option, Some, length, IfOk, OnOk};
 ghost use Rattle.c_typed.specs.Types as types;
-ghost use Rattle.c_typed.specs.Table.{type_in, structs_in};
+ghost use Rattle.c_typed.specs.Table.{structs_in};
 ghost use Rattle.c_typed.specs.DefinitionViews.{program_of, first_of, literal_of, scalar_of, static_of, ProgramStands, LiteralStands, LiteralsStand};
 ghost use Rattle.c_well_typed.specs.Programs.{IsWellTyped};
 ghost use Rattle.c_well_typed.specs.Sizes.{HasStorableTypes};
@@ -14,9 +14,9 @@ ghost use Rattle.ref_semantics.specs.First.{around_of, first_state};
 ghost use Rattle.ref_store.specs.Promises.{ForTypes, place_seen, type_seen, value_seen};
 ghost use Rattle.ref_store.specs.declared.object.Content.TheVariants as C;
 ghost use Rattle.ref_store.specs.Fitting.{IsObjectType};
-ghost use Rattle.ref_store.specs.Views.{name_of, place_in, scalar_in, PlaceStands, ScalarStands};
+ghost use Rattle.ref_store.specs.Views.{name_of, PlaceStands, ScalarStands};
 ghost use Rattle.ref_store.specs.Holding.{At, AllHeld, ContentIs, IsUndisturbed};
-ghost use Rattle.ref_store.specs.Beginning.{IsUnfilled, unfilled, unfilled_objects};
+ghost use Rattle.ref_store.specs.Beginning.{IsUnfilled, unfilled};
 ghost use Rattle.ref_store.specs.Firsts.{Has, unfilled_of, with_new, with_first, with_text, with_given, IsFirst, AreFirsts, AreCharacters, part_index, StepsLead, PlaceLeads, ValueLeads, AllLead, GlobalFits, GlobalsFit};
 
 use crate::object::{Content, Elements};

@@ -1,6 +1,6 @@
 // What objects hold.
 
-ghost use Rattle.std.specs.Prelude.{◌≡◌, ℕ, Some, None, IfOk, OnOk, OnErr, nat_eq, if◌then◌else◌, ◌==◌};
+ghost use Rattle.std.specs.Prelude.{◌≡◌, ℕ, Some, None, OnOk, OnErr, nat_eq, if◌then◌else◌, ◌==◌};
 ghost use Rattle.indexmap.specs.IndexMap.{get};
 ghost use Rattle.c_typed.specs.Table.{Interned, Stands, structs_in};
 ghost use Rattle.ref_semantics.specs.Values as meaning;

@@ -3,16 +3,16 @@
 ghost use Rattle.std.specs.Prelude.{◌≡◌, ℕ, ◌/◌, ◌%◌, false, ◌==◌, if◌then◌else◌, neg_ℤ, Some, None, IfOk, IfErr};
 ghost use Rattle.c_num.specs.declared.IntType.TheVariants as int_types;
 ghost use Rattle.c_num.specs.Types.{is_value};
-ghost use Rattle.c_typed.specs.Table.{Interned, Stands, type_in, structs_in};
+ghost use Rattle.c_typed.specs.Table.{Interned, Stands};
 ghost use Rattle.c_typed.specs.Types.{is_like_void};
 ghost use Rattle.ref_semantics.specs.Values as values;
 ghost use Rattle.ref_semantics.specs.Values.{Heap};
 ghost use Rattle.ref_semantics.specs.Pointers as meaning;
-ghost use Rattle.ref_semantics.specs.Store.{TypeEnvironment, State, is_dead_pointer, with_objects};
+ghost use Rattle.ref_semantics.specs.Store.{is_dead_pointer, with_objects};
 ghost use Rattle.ref_store.specs.Promises.{ForTypes, GivesPlace, GivesScalar, InEach, type_seen, value_seen};
 ghost use Rattle.ref_store.specs.Fitting.{IsObjectType};
-ghost use Rattle.ref_store.specs.Views.{row_in, place_in, scalar_in, IsElement, PlaceStands, ScalarStands};
-ghost use Rattle.ref_store.specs.Holding.{At, IsStore, CallGives, IsMoved};
+ghost use Rattle.ref_store.specs.Views.{row_in, scalar_in, IsElement, PlaceStands, ScalarStands};
+ghost use Rattle.ref_store.specs.Holding.{IsStore, IsMoved};
 ghost use Rattle.ref_store.specs.Wanting.{GetsType, PointsUntyped, OutOnly};
 
 use crate::object::{Content, Elements};

@@ -1,12 +1,12 @@
 // Values and places.
 
-ghost use Rattle.std.specs.Prelude.{◌≡◌, not, nat_lt};
+ghost use Rattle.std.specs.Prelude.{◌≡◌};
 ghost use Rattle.c_typed.specs.Table.{Interned};
 ghost use Rattle.ref_semantics.specs.Values as meaning;
 ghost use Rattle.ref_semantics.specs.Meaning as meaning_rules;
 ghost use Rattle.ref_semantics.specs.Pointers as pointers;
 ghost use Rattle.ref_semantics.specs.Store as meaning_store;
-ghost use Rattle.ref_store.specs.Views.{row_in, place_in, scalar_in, ScalarStands, PlaceStands};
+ghost use Rattle.ref_store.specs.Views.{place_in, scalar_in, ScalarStands, PlaceStands};
 
 use c_typed::CType;
 use run_theory::UbKind;

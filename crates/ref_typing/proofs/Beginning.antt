@@ -11,7 +11,7 @@ use Rattle.c_num.proofs.Outcomes.{test_from_le}
 use Rattle.c_typed.specs.declared.part.Part.{Part}
 use Rattle.c_typed.specs.declared.part.Part.TheVariants as P
 use Rattle.c_typed.specs.Types.{CType, Void, Integer, Pointer, Array, Struct, Function, literal_type, same_type, is_function, is_like_void}
-use Rattle.c_typed.specs.Layouts.{StructDef, is_complete, members_by_tag, known_members, member_type, layout_of, greatest}
+use Rattle.c_typed.specs.Layouts.{StructDef, is_complete, members_by_tag, known_members, member_type, greatest}
 use Rattle.c_typed.specs.Places.{is_same_place}
 use Rattle.c_typed.specs.Values as first
 use Rattle.c_typed.specs.Typed.{GlobalDef, LiteralDef, Program}
@@ -20,7 +20,7 @@ use Rattle.c_well_typed.specs.Context.{global_type, function_type, literal_bytes
 use Rattle.c_well_typed.specs.Expressions.{given, is_scalar, member_of}
 use Rattle.c_well_typed.specs.Programs.{IsWellTyped, RowType, one_of, row_within, row_at, is_place, is_first, is_held, all_held, is_global, are_globals}
 use Rattle.c_well_typed.specs.Programs as rules
-use Rattle.c_well_typed.specs.Sizes.{HasStorableTypes, is_small, globals_make, literals_make, is_storable}
+use Rattle.c_well_typed.specs.Sizes.{HasStorableTypes, globals_make, literals_make, is_storable}
 use Rattle.ref_semantics.specs.First.{around_of, type_of_global, literal_at, option_type, or_void, static_type, name_of, stepped, walked, first_place, first_scalar, first_held, global_content, characters, literal_content, first_objects, first_state}
 use Rattle.ref_semantics.specs.Values.{Name, Heap, GlobalObject, LiteralObject, LocalObject, Place, Scalar, IntegerValue, Dead, Elements, whole_row, first_of_row, object_place, at_index}
 use Rattle.ref_semantics.specs.Store.{State, offset_of, member_at, decayed, inner_row}

@@ -1,14 +1,14 @@
 -- The reference keeps types: the first state is sound, and what `main` does keeps it.
 use Rattle.std.proofs.Common.{◌≡◌, ℕ, zero, suc, Bool, true, false, if◌then◌else◌, ◌&&◌, ◌||◌, not, cond, List, [], ◌∷◌, Option, Some, None, is_some, bytes_eq, refl, sym, ap, ◌∙◌, subst}
 use Rattle.std.specs.Prelude.{codes, pos}
-use Rattle.std.proofs.lemmas.Bool.{false≢true, true≢false, and_parts, cond-true, ltb-true, not-false}
+use Rattle.std.proofs.lemmas.Bool.{false≢true, true≢false, and_parts, cond-true, not-false}
 use Rattle.std.proofs.lemmas.Option.{none-some, same_Some}
 use Rattle.std.proofs.lemmas.Slice.Eq.{bytes_eq-Decides}
 use Rattle.text_place.specs.declared.place.Pos.{Pos}
 use Rattle.run_theory.specs.declared.ends.UbKind.TheVariants as Ub
 use Rattle.c_num.specs.declared.IntType.TheVariants as I
 use Rattle.c_typed.specs.Types.{CType, CTypes, Void, Integer, Pointer, Array, Struct, Function, NoTypes, int, same_type, is_void}
-use Rattle.c_typed.specs.Layouts.{is_complete, greatest}
+use Rattle.c_typed.specs.Layouts.{is_complete}
 use Rattle.c_typed.specs.Typed.{FunctionDef, Program}
 use Rattle.c_typed.proofs.Same.{same_type-true}
 use Rattle.c_well_typed.specs.Context.{function_type}
@@ -20,7 +20,6 @@ use Rattle.ref_semantics.specs.First.{around_of, first_state, run_main}
 use Rattle.ref_semantics.specs.Values.{Scalar, IntegerValue, NullValue, FunctionValue, PointerValue, RawPointer}
 use Rattle.ref_semantics.specs.Store.{State, Outcome, Then, Stopped, Eval, ◌>>=◌, spend, tick, premise}
 use Rattle.ref_semantics.specs.Meaning.{Calls, Completion, Normal, Break, Continue, Return, block, function_from, bind, given_back, main_value, within_own, run_function, used_value, Bodies, call_known, call_named, bodies_within, greatest_depth}
-use Rattle.ref_typing.specs.Rows.{IsSmall}
 use Rattle.ref_typing.specs.Sound.{HasType, HaveTypes, Sound, EndsTyped}
 use Rattle.ref_typing.specs.Keeping.{Keeps, GivesValue, CallsKeep}
 use Rattle.ref_typing.proofs.Lasting.{type_lasts, later_trans, types_last, ends_goes, ends_last, keeps_refl, Leads, GivesAt, stopped, leads_then, gives_then, give_gives, halt_gives, aside_keeps, emit_gives, unless_gives}

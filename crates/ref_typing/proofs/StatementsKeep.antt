@@ -1,10 +1,10 @@
 -- A well typed statement keeps what is sound, and a value that it returns is one of the function's result.
 use Rattle.std.proofs.Common.{◌≡◌, ℕ, zero, suc, Bool, true, false, if◌then◌else◌, ◌&&◌, List, [], ◌∷◌, ◌++◌, length, Option, Some, None, is_some, ℤ, refl, sym, ap, ◌∙◌, subst, le_refl, append_assoc}
 use Rattle.std.specs.Ordering.{int_eq}
-use Rattle.std.proofs.lemmas.Bool.{false≢true, and_parts, ltb-true}
+use Rattle.std.proofs.lemmas.Bool.{false≢true, and_parts}
 use Rattle.c_num.specs.declared.IntType.{IntType}
 use Rattle.c_typed.specs.Types.{CType, same_type, is_integer, integer_type}
-use Rattle.c_typed.specs.Layouts.{is_complete, layout_of, greatest}
+use Rattle.c_typed.specs.Layouts.{is_complete}
 use Rattle.c_typed.specs.Typed as T
 use Rattle.c_typed.specs.Typed.{Program, Value, Stmt, Block, SwitchItems, LocalDef, ForStart}
 use Rattle.c_typed.proofs.Same.{same_type-true}
@@ -12,7 +12,7 @@ use Rattle.c_well_typed.specs.Context.{Context}
 use Rattle.c_well_typed.specs.Expressions.{given, is_scalar, type_of}
 use Rattle.c_well_typed.specs.Statements.{Within, in_loop, in_switch, holds_for, is_expression, is_condition, is_of_type, if_any, is_return, is_local, are_locals, with_locals, is_start, with_start, is_label, is_stmt, is_block, are_items}
 use Rattle.c_well_typed.specs.Programs.{IsWellTyped}
-use Rattle.c_well_typed.specs.Sizes.{is_small, makes, any_makes, local_makes, locals_make, start_makes, stmt_makes, block_makes, items_make, is_storable}
+use Rattle.c_well_typed.specs.Sizes.{makes, any_makes, local_makes, locals_make, start_makes, stmt_makes, block_makes, items_make, is_storable}
 use Rattle.ref_semantics.specs.First.{around_of}
 use Rattle.ref_semantics.specs.Values.{Place, Scalar, integer_of}
 use Rattle.ref_semantics.specs.Store.{State, Outcome, Then, Eval, ◌>>=◌, give}

@@ -1,6 +1,6 @@
 -- Evaluation of a well typed expression from a sound state gives a value of its type and a sound state.
 use Rattle.std.proofs.Common.{◌≡◌, true, false, not, ◌&&◌, ◌||◌, if◌then◌else◌, List, [], ◌∷◌, Some, pos, neg_ℤ, ◌-ℤ◌, refl, sym, ap, ◌∙◌, subst, bytes_eq}
-use Rattle.std.proofs.lemmas.Bool.{and_parts, ltb-true}
+use Rattle.std.proofs.lemmas.Bool.{and_parts}
 use Rattle.std.proofs.lemmas.Option.{same_Some}
 use Rattle.std.proofs.lemmas.Slice.Eq.{bytes_eq-Decides}
 use Rattle.c_num.specs.declared.BinOp.TheVariants as B
@@ -8,14 +8,13 @@ use Rattle.c_num.specs.declared.IntType.TheVariants as I
 use Rattle.c_num.specs.Types.{is_value, common_of}
 use Rattle.c_num.specs.Arith.{compare_of}
 use Rattle.c_typed.specs.Types.{CType, CTypes, Void, Integer, Pointer, NoTypes, MoreTypes, int, literal_type, same_type, is_integer, is_pointer, is_void_pointer}
-use Rattle.c_typed.specs.Layouts.{layout_of, greatest}
 use Rattle.c_typed.specs.Typed as T
 use Rattle.c_typed.specs.Typed.{Program, Value, Values, Object, Designator}
 use Rattle.c_typed.proofs.Same.{same_type-true}
 use Rattle.c_well_typed.specs.Context.{Context, literal_bytes}
 use Rattle.c_well_typed.specs.Expressions.{given, given_two, where_holds, is_scalar, is_conversion, is_pointer_to_complete, is_right, are_comparable, repoints, first_element, pointed, pointed_function, element, member_of, result_of, library_result, type_of, types_of, type_of_object, type_of_designator}
 use Rattle.c_well_typed.specs.Programs.{IsWellTyped}
-use Rattle.c_well_typed.specs.Sizes.{is_small, makes, all_make, object_makes, designator_makes, is_storable}
+use Rattle.c_well_typed.specs.Sizes.{makes, all_make, object_makes, designator_makes, is_storable}
 use Rattle.ref_semantics.specs.First.{around_of}
 use Rattle.ref_semantics.specs.Values.{IntegerValue, NullValue, FunctionValue, PointerValue, LiteralObject, integer_of, object_place}
 use Rattle.ref_semantics.specs.Store.{State, member_at}

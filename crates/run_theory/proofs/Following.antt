@@ -1,7 +1,7 @@
 -- What a reader has of a run that follows a program.
 use Rattle.std.proofs.Common.{◌≡◌, ℕ, ◌⊎◌, inl, inr, ap, sym, ◌∙◌, refl, subst}
 use Rattle.run_theory.specs.declared.ends.TrapKind.{TrapKind}
-use Rattle.run_theory.specs.Runs.{Trace, output_of, Final, Ended, DepthReached, Undefined, HeapExhausted, IndexExhausted, Trapped, Answer, Going, Over, trace_of, Run, IsUndefined, IsProgramEnd, IsResourceEnd, IsPrefix, all_events, Refused, ExplainsBy, goes_wrong, ends_alike, is_part, is_cut, Follows}
+use Rattle.run_theory.specs.Runs.{Trace, output_of, Final, Ended, DepthReached, Undefined, HeapExhausted, IndexExhausted, Trapped, Answer, Going, Over, trace_of, Run, IsUndefined, IsProgramEnd, IsResourceEnd, IsPrefix, all_events, ExplainsBy, goes_wrong, ends_alike, is_part, is_cut, Follows}
 use Rattle.run_theory.proofs.Traces.{prefix_refl, output_of-prefix}
 
 no_limit : (final : Final) → IsProgramEnd final → IsResourceEnd final → ⊥

@@ -1,6 +1,6 @@
 -- Machines that make small steps: each is a run, and two in step simulate one another.
 use Rattle.std.proofs.Common.{◌≡◌, ℕ, zero, suc, ◌+◌, ◌*◌, ◌≤◌, ◌⊎◌, inl, inr, List, ap, sym, ◌∙◌, refl, subst, arith}
-use Rattle.run_theory.specs.Runs.{Final, AnswerOf, Going, Over, trace_of, IsGoing, IsOver, IsProgramEnd, IsResourceEnd, IsPrefix, Comparison, Appends, Refused, MatchesBy, wrong, going, ended, short, Move, To, Halt, after, steps, Leads, here, onward, KeepsTrace, IsRun, SimulatesBy, LocksBy, MeetsLimit, LocksToLimits}
+use Rattle.run_theory.specs.Runs.{Final, AnswerOf, Going, Over, trace_of, IsGoing, IsOver, IsProgramEnd, IsResourceEnd, IsPrefix, Comparison, Appends, MatchesBy, wrong, going, ended, short, Move, To, Halt, after, steps, Leads, here, onward, KeepsTrace, IsRun, SimulatesBy, LocksBy, MeetsLimit, LocksToLimits}
 use Rattle.run_theory.proofs.Traces.{prefix_refl, prefix_trans, seen-prefix}
 use Rattle.run_theory.proofs.Simulations.{refused_within, simulates_both, simulates_later}
 

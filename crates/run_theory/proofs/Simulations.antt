@@ -1,7 +1,7 @@
 -- When one run follows another: composition, the same run under other terms, and the reverse direction.
 use Rattle.std.proofs.Common.{◌≡◌, ℕ, suc, ◌+◌, ◌*◌, ◌≤◌, ◌⊎◌, inl, inr, ⊎_elim, true, List, [], ◌∷◌, ◌++◌, ap, sym, ◌∙◌, refl, subst, arith, mul-le-mul_left}
 use Rattle.std.proofs.lemmas.Bool.{cases_lt}
-use Rattle.run_theory.specs.Runs.{Trace, Event, Final, Ended, DepthReached, Undefined, HeapExhausted, IndexExhausted, Trapped, AnswerOf, Answer, Going, Over, trace_of, RunOf, Run, IsGoing, IsOver, IsUndefined, IsWrong, IsProgramEnd, IsResourceEnd, IsPrefix, Comparison, Appends, all_events, Refused, MatchesBy, Matches, wrong, going, ended, short, IsRun, SimulatesBy, Simulates, composed, Connects, AgreesBy, both_go_on, both_end, is_refused, ExplainsBy, goes_wrong, ends_alike, is_part, is_cut, steps_per_unit, FollowsBy, NeverExhausts}
+use Rattle.run_theory.specs.Runs.{Final, Ended, DepthReached, Undefined, HeapExhausted, IndexExhausted, Trapped, AnswerOf, Answer, Going, Over, trace_of, RunOf, Run, IsGoing, IsOver, IsUndefined, IsWrong, IsProgramEnd, IsResourceEnd, IsPrefix, Comparison, Appends, all_events, Refused, MatchesBy, Matches, wrong, going, ended, short, IsRun, SimulatesBy, Simulates, composed, Connects, AgreesBy, both_go_on, both_end, is_refused, ExplainsBy, goes_wrong, ends_alike, is_part, is_cut, steps_per_unit, FollowsBy, NeverExhausts}
 use Rattle.run_theory.proofs.Traces.{prefix_refl, prefix_trans, seen-prefix}
 
 -- an end at a limit is not undefined behaviour

@@ -1,7 +1,7 @@
 -- The laws of runs, each as one statement over all of them.
 use Rattle.std.specs.Prelude.{◌≡◌, ℕ, ◌+◌, ◌*◌, ◌≤◌, ◌⊎◌, Bool, IsTrue, List}
 use Rattle.run_theory.specs.declared.ends.TrapKind.{TrapKind}
-use Rattle.run_theory.specs.Runs.{Trace, output_of, Final, Trapped, AnswerOf, Over, trace_of, RunOf, Run, IsUndefined, IsProgramEnd, IsPrefix, Comparison, Appends, Move, steps, KeepsTrace, IsRun, SimulatesBy, composed, Connects, ExplainsBy, steps_per_unit, FollowsBy, Follows, NeverExhausts, LocksBy, LocksToLimits}
+use Rattle.run_theory.specs.Runs.{Trace, output_of, Final, Trapped, Over, trace_of, RunOf, Run, IsUndefined, IsProgramEnd, IsPrefix, Comparison, Appends, Move, steps, KeepsTrace, IsRun, SimulatesBy, composed, Connects, ExplainsBy, steps_per_unit, FollowsBy, Follows, NeverExhausts, LocksBy, LocksToLimits}
 
 -- A machine that never takes an event back is a run from each state.
 abbrev pub MachineIsRun : Type 0 → Type 0 → Type 0

@@ -10,7 +10,7 @@ use Rattle.c_typed.specs.declared.part.Part.TheVariants as P
 use Rattle.c_typed.specs.Values as first
 use Rattle.tac_ir.specs.First.{named_global, placed_literal}
 use Rattle.tac_ir.specs.Code as O
-use Rattle.tac_ir.specs.Code.{AtLocal, AtGlobal, AtLiteral, Base, Pointed, Indexed, Callee, Op, LocalObject}
+use Rattle.tac_ir.specs.Code.{AtLocal, AtGlobal, AtLiteral, Base, Pointed, Indexed, Op, LocalObject}
 use Rattle.tac_ir.specs.States.{Owner, InStart, InFunction}
 use Rattle.heap_graph.specs.Graphs.{Target, Edge, Node, Name, OfResult, OfObject, OfGlobal, OfLiteral, Graph, Crossing, Embedding, edge_in}
 use Rattle.heap_graph.specs.Targets.{same_target, has_target, at_target, is_collapsed, edge_at, implies}

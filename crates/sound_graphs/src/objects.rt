@@ -1,6 +1,6 @@
 // Whether a function has the locals in memory that have targets.
 
-ghost use Rattle.std.specs.Prelude.{◌≡◌, ◌↔◌, true, map, IsTrue, IfOk};
+ghost use Rattle.std.specs.Prelude.{◌≡◌, ◌↔◌, true, IsTrue, IfOk};
 ghost use Rattle.c_typed.specs.Table.{Interned};
 ghost use Rattle.tac_ir.specs.Views.{function_in};
 ghost use Rattle.sound_graphs.specs.Sound.{ObjectsAreOwn};

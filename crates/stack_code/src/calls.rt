@@ -1,6 +1,6 @@
 // Calls of functions.
 
-ghost use Rattle.std.specs.Prelude.{◌≡◌, ◌++◌, map, OnOk};
+ghost use Rattle.std.specs.Prelude.{◌≡◌, ◌++◌, OnOk};
 ghost use Rattle.std.specs.List.{AllByRecursion};
 ghost use Rattle.pool_ir.specs.Views.{callee_of, descriptors_of, frame_of, function_of};
 ghost use Rattle.pool_stack.specs.Emitting.{callee_code, calling, descriptors_code, passing, registers_code};

@@ -1,9 +1,9 @@
 // Functions: the blocks of their points one behind another.
 
-ghost use Rattle.std.specs.Prelude.{◌≡◌, ◌++◌, IfOk, OnOk, length, map, slice_index};
-ghost use Rattle.pool_ir.specs.Views.{function_of, op_of};
+ghost use Rattle.std.specs.Prelude.{◌≡◌, IfOk};
+ghost use Rattle.pool_ir.specs.Views.{function_of};
 ghost use Rattle.pool_stack.specs.Emitting.{emitted_function, function_code};
-ghost use Rattle.stack_code.specs.Fits.{AreLow, ArePlaces, UnitFits};
+ghost use Rattle.stack_code.specs.Fits.{ArePlaces, UnitFits};
 ghost use Rattle.stack_code.specs.Units.{unit_function};
 
 use crate::heights;

@@ -1,6 +1,6 @@
 // The numbers of variables outside functions and of literals.
 
-ghost use Rattle.std.specs.Prelude.{◌≡◌, IfOk};
+ghost use Rattle.std.specs.Prelude.{IfOk};
 ghost use Rattle.static_numbers.specs.Numbers.{NumbersGlobals, NumbersLiterals, AreNumbers, IsGlobal, IsLiteral};
 
 use c_typed::{GlobalDef, LiteralDef};

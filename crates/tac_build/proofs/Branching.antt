@@ -14,7 +14,7 @@ use Rattle.tac_ir.specs.declared.register.Register.{Register}
 use Rattle.tac_ir.specs.declared.register.Register.TheVariants as R
 use Rattle.tac_ir.specs.declared.op.Op.TheVariants as M
 use Rattle.tac_ir.specs.Code as C
-use Rattle.tac_ir.specs.Code.{Op, Tree, Held}
+use Rattle.tac_ir.specs.Code.{Op, Held}
 use Rattle.tac_ir.specs.Views.{tree_of}
 use Rattle.tac_build.specs.declared.builder.Builder.{Builder}
 use Rattle.tac_build.specs.declared.names.Source.{Source}

@@ -11,7 +11,7 @@ use Rattle.c_typed.specs.declared.typed.Designator as memory_designator
 use Rattle.c_typed.specs.Types.{CTypes, Void, same_type}
 use Rattle.c_typed.specs.Table.{Interned, Stands, type_in}
 use Rattle.c_typed.specs.Typed as T
-use Rattle.c_typed.specs.Typed.{Value, Values}
+use Rattle.c_typed.specs.Typed.{Value}
 use Rattle.c_typed.specs.Views.{value_in, designator_in, values_in}
 use Rattle.c_typed.proofs.TypedStays.{ValuesStand-vec, value_in-call, value_in-library_call}
 use Rattle.c_sizes.specs.TypedNodes.{value_nodes, designator_nodes, values_nodes}
@@ -19,7 +19,6 @@ use Rattle.c_well_typed.specs.Expressions.{given, where_holds, all_scalar, resul
 use Rattle.c_well_typed.proofs.Splitting.{two_parts, called_parts}
 use Rattle.tac_ir.specs.declared.register.Register.{Register}
 use Rattle.tac_ir.specs.Code as C
-use Rattle.tac_ir.specs.Code.{Op, Callee}
 use Rattle.tac_ir.specs.Views.{callee_in}
 use Rattle.tac_build.specs.declared.builder.Builder.{Builder}
 use Rattle.tac_build.specs.declared.names.Source.{Source}

@@ -11,7 +11,7 @@ use Rattle.c_typed.specs.declared.typed.LibraryFunction.TheVariants as F
 use Rattle.c_typed.specs.Types.{CType, CTypes, Void, Integer, Pointer, NoTypes, MoreTypes, int, same_type, same_types, is_integer, is_object_pointer}
 use Rattle.c_typed.specs.Table.{Interned, Stands, type_in}
 use Rattle.c_typed.specs.Typed as T
-use Rattle.c_typed.specs.Typed.{FunctionDef, Values}
+use Rattle.c_typed.specs.Typed.{FunctionDef}
 use Rattle.c_typed.specs.Views.{value_in, designator_in, values_in}
 use Rattle.c_sizes.specs.TypedNodes.{value_nodes, values_nodes, designator_nodes}
 use Rattle.c_well_typed.specs.Context.{function_type}

@@ -1,7 +1,7 @@
 -- Locals that begin to live: where they live, what is asked of their first values, and what the code of these comes to.
-use Rattle.std.proofs.Common.{◌≡◌, ℕ, zero, suc, ◌+◌, ◌*◌, ◌<◌, ◌≤◌, Bool, true, false, ◌&&◌, ◌||◌, ◌==◌, eqb, if◌then◌else◌, List, [], ◌∷◌, ◌++◌, Option, Some, None, length, map, slice_get, Result, Ok, Err, OnOk, refl, sym, ap, ◌∙◌, subst, arith}
+use Rattle.std.proofs.Common.{◌≡◌, ℕ, zero, suc, ◌+◌, Bool, true, false, ◌&&◌, ◌||◌, ◌==◌, if◌then◌else◌, List, [], ◌∷◌, ◌++◌, Option, Some, None, length, map, slice_get, Result, Ok, Err, OnOk, refl, sym, ap, ◌∙◌, subst, arith}
 use Rattle.std.specs.Prelude.{reverse, option_map}
-use Rattle.std.proofs.lemmas.Bool.{and_parts, or_left, or_right, eqb-true, true≢false, false≢true}
+use Rattle.std.proofs.lemmas.Bool.{and_parts, or_right, eqb-true, true≢false, false≢true}
 use Rattle.std.proofs.lemmas.Option.{same_Some}
 use Rattle.std.proofs.lemmas.List.{map_push, reverse-append, length-reverse, length-map}
 use Rattle.c_typed.specs.declared.typed.Value as memory_value
@@ -9,14 +9,14 @@ use Rattle.c_typed.specs.declared.statement.LocalDef as memory_local
 use Rattle.c_typed.specs.Types.{CType, Void, Integer, Pointer, Array, Struct, Function, is_array, is_struct, same_type}
 use Rattle.c_typed.specs.Layouts.{is_complete}
 use Rattle.c_typed.specs.Table.{Interned, Stands, type_in}
-use Rattle.c_typed.specs.Typed.{Value, LocalDef, Program}
+use Rattle.c_typed.specs.Typed.{Value, LocalDef}
 use Rattle.c_typed.specs.Views.{value_in}
 use Rattle.c_typed.specs.StatementViews.{local_in, OptionalStands}
 use Rattle.c_typed.proofs.Same.{same_type-true}
 use Rattle.c_sizes.specs.TypedNodes.{value_nodes, optional_nodes, local_nodes}
 use Rattle.c_well_typed.specs.Context.{with_local}
 use Rattle.c_well_typed.specs.Expressions.{is_scalar, type_of}
-use Rattle.c_well_typed.specs.Statements.{holds_for, is_of_type, if_any, is_local}
+use Rattle.c_well_typed.specs.Statements.{holds_for, is_of_type, if_any}
 use Rattle.tac_ir.specs.Code.{Op}
 use Rattle.tac_build.specs.declared.builder.Builder.{Builder}
 use Rattle.tac_build.specs.declared.names.Source.{Source}
@@ -25,17 +25,17 @@ use Rattle.tac_build.specs.declared.homes.Home as memory_home
 use Rattle.tac_build.specs.declared.lowered.Lowered as memory_lowered
 use Rattle.tac_build.specs.declared.lowered.Lowered.TheVariants as L
 use Rattle.tac_build.specs.declared.lowered.Mode.TheVariants as N
-use Rattle.tac_build.specs.Homes.{Home, Scope, home_of, lies_in_memory, takes, takes_optional}
+use Rattle.tac_build.specs.Homes.{Home, Scope, home_of, lies_in_memory, takes_optional}
 use Rattle.tac_build.specs.Spots.{Spot, with_variable, Lowered, AsInteger, AsPointer, AsObject, AsNothing, Kept}
-use Rattle.tac_build.specs.Code.{Emits, Writes, ValueCode}
+use Rattle.tac_build.specs.Code.{ValueCode}
 use Rattle.tac_build.specs.StatementCode as codes
-use Rattle.tac_build.specs.StatementCode.{with_home, new_home, FirstCode, LocalCode}
+use Rattle.tac_build.specs.StatementCode.{with_home, FirstCode}
 use Rattle.tac_build.specs.Forms.{HasForm, context_of}
-use Rattle.tac_build.specs.Building.{lowered_in, home_in, IsScalar, IsScalarType, Fills, Grows, points_in, spot_of, names_of, LeadsIn, HasRoom, Adds}
+use Rattle.tac_build.specs.Building.{lowered_in, home_in, IsScalar, IsScalarType, Grows, points_in, spot_of, names_of, LeadsIn, HasRoom, Adds}
 use Rattle.tac_build.specs.Lowering.{names_for, AddsFewer, program_in, types_of_source, scope_of, context_in, IsScope, ValueTyped, LieInMemory, ValueLives, ValueLowers}
 use Rattle.tac_build.specs.LoweringStatements.{LocalTyped, LocalLowers}
 use Rattle.tac_build.specs.LoweringDefinitions.{IsNewHome}
-use Rattle.tac_build.proofs.Points.{fills_same, fills_grown, fills_equal}
+use Rattle.tac_build.proofs.Points.{fills_same, fills_grown}
 use Rattle.tac_build.proofs.Forms.{value_form}
 use Rattle.tac_build.proofs.Named.{value_named}
 

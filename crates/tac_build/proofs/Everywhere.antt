@@ -1,12 +1,12 @@
 -- A type is known by what its number stands for in all tables: where this is told for each table alike, the number is the same one.
-use Rattle.std.proofs.Common.{◌≡◌, ℕ, zero, suc, ◌+◌, ◌<◌, cond, eqb, List, [], ◌∷◌, length, refl, sym, ap, ◌∙◌, subst, arith, ◌⊎◌, inl, inr}
+use Rattle.std.proofs.Common.{◌≡◌, ℕ, zero, suc, ◌+◌, ◌<◌, eqb, List, [], ◌∷◌, length, refl, sym, ap, ◌∙◌, subst, arith, ◌⊎◌, inl, inr}
 use Rattle.std.proofs.lemmas.Bool.{cases_eq, eq-eqb, ne_eqb, cond-true, cond-false}
 use Rattle.c_num.specs.declared.IntType.{IntType}
 use Rattle.c_typed.specs.declared.c_type.CType as number
 use Rattle.c_typed.specs.declared.c_type.Derived.{Derived}
 use Rattle.c_typed.specs.declared.c_type.Derived.TheVariants as D
 use Rattle.c_typed.specs.Types.{CType, Void, Integer, Pointer}
-use Rattle.c_typed.specs.Table.{Interned, empty, Meaning, AType, AList, Nothing, integer_number, base_meaning, pointer_to, meaning_in, meaning_of, IsAType, the_type, Stands, type_in}
+use Rattle.c_typed.specs.Table.{Interned, Meaning, AType, AList, Nothing, integer_number, base_meaning, pointer_to, meaning_in, meaning_of, IsAType, the_type, Stands, type_in}
 use Rattle.tac_ir.specs.declared.register.Register.{Register}
 use Rattle.tac_ir.specs.Code.{Tree, Path}
 use Rattle.tac_ir.specs.Views.{path_in}

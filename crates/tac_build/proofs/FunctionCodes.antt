@@ -1,23 +1,20 @@
 -- The code of a function: that of its parameters, of its body, and its end.
-use Rattle.std.proofs.Common.{◌≡◌, ℕ, zero, suc, ◌+◌, ◌*◌, ◌<◌, ◌≤◌, Bool, true, false, ◌&&◌, ◌||◌, List, [], ◌∷◌, ◌++◌, Option, Some, None, length, map, drop, slice_get, refl, sym, ap, ◌∙◌, subst, arith}
-use Rattle.std.specs.Prelude.{reverse}
+use Rattle.std.proofs.Common.{◌≡◌, ℕ, zero, suc, ◌≤◌, Bool, true, false, ◌&&◌, ◌||◌, List, [], ◌∷◌, length, map, drop, sym, ap, ◌∙◌, subst, arith}
 use Rattle.std.proofs.lemmas.Bool.{and_parts}
 use Rattle.std.proofs.lemmas.List.{append-nil, length-map}
 use Rattle.c_typed.specs.declared.c_type.CType as number
 use Rattle.c_typed.specs.declared.definition.FunctionDef as memory_definition
 use Rattle.c_typed.specs.Types.{CType, same_type, is_void}
 use Rattle.c_typed.specs.Table.{Interned, type_in}
-use Rattle.c_typed.specs.Typed.{Block, FunctionDef}
+use Rattle.c_typed.specs.Typed.{FunctionDef}
 use Rattle.c_typed.specs.StatementViews.{block_in}
-use Rattle.c_typed.specs.DefinitionViews.{FunctionStands, TypesStand, function_in}
-use Rattle.c_sizes.specs.TypedNodes.{block_nodes, greatest_nodes}
-use Rattle.c_well_typed.specs.Context.{Context}
+use Rattle.c_typed.specs.DefinitionViews.{TypesStand, function_in}
+use Rattle.c_sizes.specs.TypedNodes.{block_nodes}
 use Rattle.c_well_typed.specs.Expressions.{is_scalar}
 use Rattle.c_well_typed.specs.Statements.{Within, is_block}
-use Rattle.c_well_typed.specs.Programs.{function_of, are_scalars, with_parameters, is_function_def}
+use Rattle.c_well_typed.specs.Programs.{function_of, are_scalars, with_parameters}
 use Rattle.tac_ir.specs.declared.program.Counts.{Counts}
 use Rattle.tac_ir.specs.declared.program.Function as memory_function
-use Rattle.tac_ir.specs.Code.{Op}
 use Rattle.tac_ir.specs.Views.{op_in, object_in}
 use Rattle.tac_build.specs.declared.builder.Builder.{Builder}
 use Rattle.tac_build.specs.declared.names.Source.{Source}
@@ -25,7 +22,6 @@ use Rattle.tac_build.specs.declared.addressed.Addressed.{Addressed}
 use Rattle.tac_build.specs.declared.statements.Ways as memory_ways
 use Rattle.tac_build.specs.declared.homes.Home as memory_home
 use Rattle.tac_build.specs.Homes.{takes_block}
-use Rattle.tac_build.specs.Spots.{Spot}
 use Rattle.tac_build.specs.Code.{Emits}
 use Rattle.tac_build.specs.StatementCode.{Ways, BlockCode}
 use Rattle.tac_build.specs.ProgramCode.{ParametersCode, first_spot, end_of}

@@ -17,7 +17,7 @@ use Rattle.c_typed.specs.declared.statement.ForStart as memory_start
 use Rattle.c_typed.specs.Types.{is_array, is_struct}
 use Rattle.c_typed.specs.Table.{Interned}
 use Rattle.c_typed.specs.Typed as T
-use Rattle.c_typed.specs.Typed.{Value, Stmt, Block, LocalDef, ForStart}
+use Rattle.c_typed.specs.Typed.{Stmt, LocalDef, ForStart}
 use Rattle.c_typed.specs.StatementViews.{local_in, start_in, stmt_in, block_in, switch_in}
 use Rattle.c_sizes.specs.TypedNodes.{local_nodes, stmt_nodes, block_nodes, switch_nodes}
 use Rattle.c_well_typed.specs.Context.{with_local}

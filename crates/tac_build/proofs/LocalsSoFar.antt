@@ -1,5 +1,5 @@
 -- The locals of a `for`, one behind another: what is told while some are left.
-use Rattle.std.proofs.Common.{◌≡◌, ℕ, zero, suc, ◌+◌, ◌*◌, ◌<◌, ◌≤◌, Bool, true, false, ◌&&◌, ◌||◌, List, [], ◌∷◌, ◌++◌, Option, Some, None, length, map, drop, slice_get, slice_index_or, append_assoc, drop-drop, refl, sym, ap, ◌∙◌, subst, arith, length-append}
+use Rattle.std.proofs.Common.{◌≡◌, ℕ, zero, suc, ◌+◌, ◌<◌, ◌≤◌, Bool, true, false, ◌||◌, List, [], ◌∷◌, ◌++◌, Some, length, map, drop, slice_get, slice_index_or, append_assoc, drop-drop, refl, sym, ap, ◌∙◌, subst, arith, length-append}
 use Rattle.std.proofs.lemmas.Bool.{and_parts, or_left, or_right}
 use Rattle.std.proofs.lemmas.List.{append-nil, drop_more}
 use Rattle.c_typed.specs.declared.statement.LocalDef as memory_local
@@ -9,7 +9,7 @@ use Rattle.c_typed.specs.declared.typed.Value as memory_value
 use Rattle.c_typed.specs.Types.{CType, is_array, is_struct}
 use Rattle.c_typed.specs.Table.{Interned, type_in}
 use Rattle.c_typed.specs.Typed.{LocalDef}
-use Rattle.c_typed.specs.StatementViews.{local_in, start_in}
+use Rattle.c_typed.specs.StatementViews.{local_in}
 use Rattle.c_sizes.specs.TypedNodes.{local_nodes, locals_nodes}
 use Rattle.c_well_typed.specs.Context.{with_local}
 use Rattle.c_well_typed.specs.Statements.{is_local, are_locals}
@@ -18,7 +18,7 @@ use Rattle.tac_build.specs.declared.builder.Builder.{Builder}
 use Rattle.tac_build.specs.declared.names.Source.{Source}
 use Rattle.tac_build.specs.declared.addressed.Addressed.{Addressed}
 use Rattle.tac_build.specs.declared.homes.Home as memory_home
-use Rattle.tac_build.specs.Homes.{Home, Scope, lies_in_memory, takes_optional, takes_first}
+use Rattle.tac_build.specs.Homes.{Home, Scope, takes_optional, takes_first}
 use Rattle.tac_build.specs.Spots.{Spot}
 use Rattle.tac_build.specs.StatementCode.{new_home, LocalCode, LocalsCode}
 use Rattle.tac_build.specs.Taken.{taken_locals}

@@ -1,6 +1,6 @@
 -- What the type of an expression for an object tells of its parts: names that are there, locals that lie in memory, and what the code
 -- of its parts comes to.
-use Rattle.std.proofs.Common.{◌≡◌, ℕ, zero, suc, Bool, true, false, not, ◌&&◌, ◌||◌, ◌==◌, if◌then◌else◌, List, [], ◌∷◌, length, Option, Some, None, is_some, refl, sym, ap, ◌∙◌, subst, bytes_eq, ◌⊎◌, inl, inr}
+use Rattle.std.proofs.Common.{◌≡◌, ℕ, zero, suc, Bool, true, false, ◌&&◌, ◌||◌, ◌==◌, if◌then◌else◌, List, [], ◌∷◌, length, Option, Some, None, is_some, refl, sym, ap, ◌∙◌, subst, bytes_eq, ◌⊎◌, inl, inr}
 use Rattle.std.proofs.lemmas.Bool.{false≢true, true≢false}
 use Rattle.std.proofs.lemmas.Option.{none-some, same_Some}
 use Rattle.text_place.specs.declared.place.Pos.{Pos}
@@ -8,18 +8,18 @@ use Rattle.c_num.specs.declared.IntType.{IntType}
 use Rattle.c_typed.specs.Types.{CType, Void, Integer, Pointer, Array, Struct, Function, is_integer, is_void, is_array, is_struct}
 use Rattle.c_typed.specs.Places.{is_same_place}
 use Rattle.c_typed.specs.Layouts.{StructDef, is_complete}
-use Rattle.c_typed.specs.Table.{Interned, Meaning, AType, AList, Nothing, meaning_of, IsAType, the_type, Stands, type_in}
+use Rattle.c_typed.specs.Table.{Interned, Meaning, AType, AList, Nothing, meaning_of, IsAType, the_type, Stands}
 use Rattle.c_typed.specs.Typed as T
 use Rattle.c_typed.specs.Typed.{Program, Value, Object, GlobalDef, LiteralDef}
 use Rattle.c_well_typed.specs.Context.{local_type, global_type, literal_bytes}
-use Rattle.c_well_typed.specs.Expressions.{given, element, pointed, member_of, type_of, type_of_object}
-use Rattle.c_well_typed.proofs.Splitting.{given_parts, pointed_parts}
+use Rattle.c_well_typed.specs.Expressions.{given, element, pointed, member_of, type_of_object}
+use Rattle.c_well_typed.proofs.Splitting.{given_parts}
 use Rattle.tac_ir.specs.First.{named_global, placed_literal}
 use Rattle.tac_build.specs.declared.lowered.Lowered as memory_lowered
 use Rattle.tac_build.specs.declared.lowered.Lowered.TheVariants as L
 use Rattle.tac_build.specs.declared.lowered.Place.{Place}
 use Rattle.tac_build.specs.Homes.{Home, Scope, home_of, in_register, register_home, home_behind, names_local, names_behind, takes, takes_in}
-use Rattle.tac_build.specs.Spots.{Lowered, AsInteger, AsPointer, AsObject, AsNothing, Mode, Kept, Dropped, Behind, Row}
+use Rattle.tac_build.specs.Spots.{Lowered, AsObject, Kept, Row}
 use Rattle.tac_build.specs.Code.{type_of_member}
 use Rattle.tac_build.specs.Forms.{scope_types, context_of, HasForm, HasObjectForm}
 use Rattle.tac_build.specs.Building.{lowered_in, place_in, IsInteger, IsObject, IsArrayType, IsRow}

@@ -1,22 +1,21 @@
 -- Objects: what is asked of their parts, and that their code is told by that of their parts.
-use Rattle.std.proofs.Common.{◌≡◌, ℕ, suc, ◌+◌, ◌*◌, ◌<◌, ◌≤◌, Bool, true, false, not, ◌&&◌, ◌||◌, if◌then◌else◌, List, [], ◌∷◌, ◌++◌, slice_get, Option, Some, None, is_some, refl, sym, ap, ◌∙◌, subst, arith, Result, Ok, Err, IfOk, OnOk, ◌⊎◌, inl, inr}
+use Rattle.std.proofs.Common.{◌≡◌, ℕ, suc, ◌+◌, Bool, true, false, not, ◌||◌, List, [], ◌∷◌, slice_get, Option, Some, None, is_some, refl, sym, ap, ◌∙◌, subst, arith, Result, Ok, Err, IfOk, OnOk, ◌⊎◌, inl, inr}
 use Rattle.std.proofs.lemmas.Bool.{false≢true, true≢false, or_left, or_right}
 use Rattle.std.proofs.lemmas.Option.{none-some, same_Some}
 use Rattle.std.specs.declared.alloc.AllocError.{AllocError}
-use Rattle.c_num.specs.declared.IntType.{IntType}
 use Rattle.c_typed.specs.declared.c_type.CType as number
 use Rattle.c_typed.specs.declared.typed.Value as memory_value
 use Rattle.c_typed.specs.declared.typed.Object as memory_object
 use Rattle.c_typed.specs.declared.typed.Object.TheVariants as O
-use Rattle.c_typed.specs.Types.{CType, Void, Integer, Pointer, Array, literal_type, is_integer, is_array, is_struct}
+use Rattle.c_typed.specs.Types.{CType, Integer, Pointer, is_integer, is_array, is_struct}
 use Rattle.c_typed.specs.Layouts.{is_complete}
 use Rattle.c_typed.specs.Table.{Interned, Stands, type_in, structs_in}
 use Rattle.c_typed.specs.Typed as T
 use Rattle.c_typed.specs.Typed.{Value, Object, GlobalDef, LiteralDef}
 use Rattle.c_typed.specs.Views.{value_in, object_in, ValueStands}
 use Rattle.c_well_typed.specs.Expressions.{given, element, pointed, member_of, type_of, type_of_object}
-use Rattle.c_well_typed.proofs.Splitting.{Two, given_parts, two_parts, pointed_parts, element_parts}
-use Rattle.tac_ir.specs.Code.{Tree, Op, Path, AtLocal, AtGlobal, AtLiteral, Pointed, Member}
+use Rattle.c_well_typed.proofs.Splitting.{Two, given_parts, two_parts, element_parts}
+use Rattle.tac_ir.specs.Code.{Tree, Op, AtLocal, AtGlobal, AtLiteral, Pointed, Member}
 use Rattle.tac_ir.specs.First.{named_global, placed_literal}
 use Rattle.tac_ir.specs.Views.{tree_of, path_in}
 use Rattle.tac_build.specs.declared.builder.Builder.{Builder}
@@ -28,11 +27,11 @@ use Rattle.tac_build.specs.declared.lowered.IntegerValue.{IntegerValue}
 use Rattle.tac_build.specs.declared.lowered.Place.{Place}
 use Rattle.tac_build.specs.declared.lowered.Mode as memory_mode
 use Rattle.tac_build.specs.declared.lowered.Mode.TheVariants as N
-use Rattle.tac_build.specs.Homes.{Home, Scope, home_of, register_home, is_pure, names_local, names_behind, takes, takes_in}
-use Rattle.tac_build.specs.Spots.{Spot, Lowered, AsInteger, AsPointer, AsObject, AsNothing, Mode, Kept, Dropped, Behind, Row, pointed_mode}
+use Rattle.tac_build.specs.Homes.{Home, Scope, home_of, is_pure, names_behind, takes}
+use Rattle.tac_build.specs.Spots.{Lowered, AsInteger, AsObject, Mode, Kept, Behind, Row, pointed_mode}
 use Rattle.tac_build.specs.Code.{path_from, then_step, type_of_member, pointed_by, KeepsTree, Indexes, ValueCode, ObjectCode}
 use Rattle.tac_build.specs.Forms.{HasForm, HasObjectForm}
-use Rattle.tac_build.specs.Building.{lowered_in, integer_of, place_in, mode_of, scope_in, home_in, optional_home, HomesStand, IsInteger, IsObject, IsRow, Fills, Grows, points_in, spot_of, LeadsIn, LowersIn, Leads, names_of, HasRoom, Adds}
+use Rattle.tac_build.specs.Building.{lowered_in, integer_of, place_in, mode_of, scope_in, home_in, optional_home, HomesStand, IsInteger, IsObject, IsRow, Fills, Grows, points_in, spot_of, LowersIn, Leads, HasRoom, Adds}
 use Rattle.tac_build.specs.Lowering.{names_for, AddsFewer, program_in, types_of_source, scope_of, context_in, IsScope, ValueTyped, ObjectTyped, LieInMemory, ValueLives, ObjectLives, LoweredHolds, ValueLowers, ObjectLowers}
 use Rattle.tac_build.proofs.Everywhere.{holds_object, holds_same}
 use Rattle.tac_build.proofs.Forms.{value_form, object_form}

@@ -1,5 +1,5 @@
 -- Operations: what their operands are, what they come to, and how many registers they name.
-use Rattle.std.proofs.Common.{◌≡◌, ℕ, suc, ◌+◌, ◌*◌, ◌<◌, ◌≤◌, Bool, true, false, not, ◌&&◌, ◌||◌, if◌then◌else◌, List, [], ◌∷◌, Option, Some, None, refl, sym, ap, ◌∙◌, subst, arith, ℤ, pos, negsuc, neg_ℤ, ◌≤ℤ◌, FitsSigned, to_z, of_z, to_z-of_z, Result, Ok, Err, IfOk, OnOk}
+use Rattle.std.proofs.Common.{◌≡◌, ℕ, suc, ◌+◌, ◌<◌, ◌≤◌, Bool, true, false, not, ◌&&◌, ◌||◌, if◌then◌else◌, List, [], ◌∷◌, Option, Some, refl, sym, ap, ◌∙◌, subst, arith, ℤ, pos, negsuc, neg_ℤ, ◌≤ℤ◌, FitsSigned, to_z, of_z, to_z-of_z, Result, IfOk}
 use Rattle.std.proofs.lemmas.Bool.{false≢true, true≢false, and_parts, or_left, or_right}
 use Rattle.std.specs.Int.{w128}
 use Rattle.std.proofs.lemmas.Int.{ints}
@@ -14,10 +14,10 @@ use Rattle.c_num.specs.Types.{IsValue, is_value}
 use Rattle.c_num.specs.Arith.{is_shift}
 use Rattle.c_num.proofs.Outcomes.{is_value-Decides}
 use Rattle.c_typed.specs.declared.typed.Value as memory_value
-use Rattle.c_typed.specs.Types.{CType, Void, Integer, Pointer, Array, Struct, Function, int, same_type, is_integer, is_pointer, is_function, is_object_pointer, is_function_pointer, is_void_pointer}
-use Rattle.c_typed.specs.Table.{Interned, Stands, type_in}
+use Rattle.c_typed.specs.Types.{CType, Integer, Pointer, int, same_type, is_integer, is_pointer}
+use Rattle.c_typed.specs.Table.{Interned}
 use Rattle.c_typed.specs.Typed as T
-use Rattle.c_typed.specs.Typed.{Value, Program}
+use Rattle.c_typed.specs.Typed.{Value}
 use Rattle.text_place.specs.declared.place.Pos.{Pos}
 use Rattle.c_typed.specs.Views.{value_in, ValueStands}
 use Rattle.c_typed.proofs.Same.{same_type-true}
@@ -35,10 +35,10 @@ use Rattle.tac_build.specs.declared.lowered.IntegerValue.{IntegerValue}
 use Rattle.tac_build.specs.declared.lowered.Mode as memory_mode
 use Rattle.tac_build.specs.declared.lowered.Mode.TheVariants as N
 use Rattle.tac_build.specs.Homes.{Scope, is_pure, takes}
-use Rattle.tac_build.specs.Spots.{Spot, Lowered, AsInteger, AsPointer, AsObject, AsNothing, Mode, Kept, Dropped, Behind, Row, is_address}
+use Rattle.tac_build.specs.Spots.{Spot, Lowered, AsInteger, Mode, Kept, is_address}
 use Rattle.tac_build.specs.Code.{KeepsTree, ValueCode}
 use Rattle.tac_build.specs.Forms.{HasForm}
-use Rattle.tac_build.specs.Building.{lowered_in, integer_of, mode_of, scope_in, IsInteger, IsPointer, Fills, Grows, points_in, spot_of, LeadsIn, LowersIn, names_of, HasRoom, Adds}
+use Rattle.tac_build.specs.Building.{lowered_in, integer_of, mode_of, scope_in, IsInteger, IsPointer, Fills, Grows, points_in, spot_of, LeadsIn, LowersIn, HasRoom, Adds}
 use Rattle.tac_build.specs.Lowering.{names_for, AddsFewer, program_in, types_of_source, scope_of, context_in, ValueTyped, LieInMemory, ValueLives, LoweredHolds, ValueLowers}
 use Rattle.tac_build.proofs.Points.{if_ok, fills_same, fills_grown}
 use Rattle.tac_build.proofs.Forms.{value_form}

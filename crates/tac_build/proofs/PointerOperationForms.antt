@@ -1,5 +1,5 @@
 -- Operations on pointers: what their operands are, and what they come to.
-use Rattle.std.proofs.Common.{◌≡◌, ℕ, suc, ◌+◌, Bool, true, false, not, ◌&&◌, ◌||◌, if◌then◌else◌, eqb, List, [], ◌∷◌, length, Option, Some, None, refl, sym, ap, ◌∙◌, subst, arith, Result, Ok, Err, IfOk, OnOk}
+use Rattle.std.proofs.Common.{◌≡◌, ℕ, suc, ◌+◌, Bool, true, false, not, ◌&&◌, ◌||◌, if◌then◌else◌, eqb, List, [], ◌∷◌, length, Option, Some, refl, sym, ap, ◌∙◌, subst, arith, Result, Ok, Err, IfOk, OnOk}
 use Rattle.std.proofs.lemmas.Bool.{false≢true, and_parts, ne_eqb, cond-false}
 use Rattle.std.specs.declared.alloc.AllocError.{AllocError}
 use Rattle.c_num.specs.declared.IntType.{IntType}
@@ -13,10 +13,10 @@ use Rattle.c_typed.specs.Typed as T
 use Rattle.text_place.specs.declared.place.Pos.{Pos}
 use Rattle.c_typed.specs.Types.{CType, Void, Integer, Pointer, Array, Struct, Function, int, same_type, is_integer, is_pointer, is_function, is_object_pointer, is_function_pointer, is_void_pointer}
 use Rattle.c_typed.specs.Layouts.{StructDef}
-use Rattle.c_typed.specs.Table.{Interned, Stands, type_in, Meaning, AType, derived_meaning, meaning_in, the_type, IsAType}
+use Rattle.c_typed.specs.Table.{Interned, Stands, type_in, AType, derived_meaning, meaning_in, the_type, IsAType}
 use Rattle.c_typed.specs.Views.{value_in, ValueStands}
 use Rattle.c_typed.proofs.Same.{same_type-true}
-use Rattle.c_well_typed.specs.Expressions.{given_two, is_conversion, is_pointer_to_complete, are_alike, are_comparable, repoints, moved, type_of}
+use Rattle.c_well_typed.specs.Expressions.{given_two, is_conversion, is_pointer_to_complete, are_comparable, repoints, moved, type_of}
 use Rattle.c_well_typed.proofs.Splitting.{held_parts, two_parts, other_parts, both_parts}
 use Rattle.tac_ir.specs.declared.register.Register.{Register}
 use Rattle.tac_ir.specs.Code as C
@@ -31,9 +31,9 @@ use Rattle.tac_build.specs.declared.lowered.IntegerValue.{IntegerValue}
 use Rattle.tac_build.specs.declared.lowered.PointerValue.{PointerValue}
 use Rattle.tac_build.specs.declared.lowered.Mode as memory_mode
 use Rattle.tac_build.specs.declared.lowered.Mode.TheVariants as N
-use Rattle.tac_build.specs.Spots.{Spot, Lowered, AsInteger, AsPointer, Kept, Dropped, expression, temporary}
+use Rattle.tac_build.specs.Spots.{Spot, Lowered, AsPointer, Kept, Dropped, expression, temporary}
 use Rattle.tac_build.specs.Code.{GivesInteger, GivesPointer, KeepsTree, MovesPointer, MovedCode, ValueCode}
-use Rattle.tac_build.specs.Building.{lowered_in, integer_of, pointer_in, IsPointer, Fills, Grows, points_in, spot_of, Leads, Lowers, LowersIn}
+use Rattle.tac_build.specs.Building.{lowered_in, integer_of, pointer_in, Fills, Grows, points_in, spot_of, Leads, Lowers, LowersIn}
 use Rattle.tac_build.specs.Lowering.{program_in, types_of_source, scope_of, context_in, ValueTyped, LoweredHolds, ValueLowers}
 use Rattle.tac_build.proofs.Points.{if_ok, fills_same, fills_grown}
 use Rattle.tac_build.proofs.Everywhere.{stands_everywhere, holds_pointer}

@@ -1,5 +1,5 @@
 -- The code of a program, one function behind another, and where `main` is.
-use Rattle.std.proofs.Common.{◌≡◌, ℕ, zero, suc, ◌+◌, ◌≤◌, Bool, true, false, ◌&&◌, if◌then◌else◌, List, [], ◌∷◌, ◌++◌, Option, Some, None, length, map, append_assoc, refl, sym, ap, ◌∙◌, subst, arith}
+use Rattle.std.proofs.Common.{◌≡◌, ℕ, zero, suc, ◌+◌, ◌≤◌, Bool, true, false, ◌&&◌, if◌then◌else◌, List, [], ◌∷◌, ◌++◌, Option, Some, None, map, append_assoc, refl, sym, ap, ◌∙◌, subst, arith}
 use Rattle.std.specs.Prelude.{is_some, bytes_eq, codes}
 use Rattle.std.proofs.lemmas.Bool.{and_parts, false≢true}
 use Rattle.std.proofs.lemmas.List.{append-nil, map_push}
@@ -7,7 +7,7 @@ use Rattle.c_typed.specs.declared.definition.FunctionDef as memory_definition
 use Rattle.c_typed.specs.Types.{CType, Function, NoTypes, int, same_type}
 use Rattle.c_typed.specs.Table.{Interned}
 use Rattle.c_typed.specs.Typed.{FunctionDef, Program}
-use Rattle.c_typed.specs.DefinitionViews.{FunctionsStand, function_in, ProgramStands}
+use Rattle.c_typed.specs.DefinitionViews.{FunctionsStand, function_in}
 use Rattle.c_sizes.specs.TypedNodes.{block_nodes, functions_nodes, program_nodes, greatest_nodes}
 use Rattle.c_well_typed.specs.Context.{function_type}
 use Rattle.c_well_typed.specs.Programs.{IsWellTyped, are_structs, all_complete, all_listed, are_globals, are_functions, is_function_def, has_main}

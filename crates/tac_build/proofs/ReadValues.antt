@@ -12,7 +12,7 @@ use Rattle.c_typed.specs.declared.typed.Designator as memory_designator
 use Rattle.c_typed.specs.Types.{CType, Void, Integer, Pointer, Array, Struct, Function, is_array, is_struct, is_function}
 use Rattle.c_typed.specs.Table.{Interned, Meaning, AType, AList, Nothing, meaning_of, IsAType, the_type, Stands, type_in}
 use Rattle.c_typed.specs.Typed as T
-use Rattle.c_typed.specs.Typed.{Object, Designator, Program}
+use Rattle.c_typed.specs.Typed.{Object, Designator}
 use Rattle.c_typed.specs.Views.{value_in, object_in, designator_in}
 use Rattle.c_well_typed.specs.Expressions.{given, is_scalar, first_element, pointed_function, is_conversion, type_of, type_of_object, type_of_designator}
 use Rattle.c_well_typed.proofs.Splitting.{given_parts, same_parts, unless_parts}

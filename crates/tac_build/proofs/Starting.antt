@@ -1,5 +1,5 @@
 -- What a `for` begins with: nothing, an expression, or locals.
-use Rattle.std.proofs.Common.{◌≡◌, ℕ, suc, ◌+◌, Bool, true, false, List, [], ◌∷◌, ◌++◌, Option, Some, None, length, map, refl, sym, ap, ◌∙◌, subst, arith}
+use Rattle.std.proofs.Common.{◌≡◌, ℕ, suc, ◌+◌, Bool, true, false, List, [], ◌∷◌, Option, Some, None, length, map, refl, sym, ap, ◌∙◌, subst, arith}
 use Rattle.std.specs.Prelude.{is_some}
 use Rattle.std.proofs.lemmas.Bool.{false≢true}
 use Rattle.std.proofs.lemmas.List.{length-map}
@@ -7,7 +7,6 @@ use Rattle.c_typed.specs.declared.typed.Value as memory_value
 use Rattle.c_typed.specs.declared.statement.LocalDef as memory_local
 use Rattle.c_typed.specs.declared.statement.ForStart as memory_start
 use Rattle.c_typed.specs.Types.{CType}
-use Rattle.c_typed.specs.Table.{Interned}
 use Rattle.c_typed.specs.Typed as T
 use Rattle.c_typed.specs.Typed.{LocalDef, ForStart}
 use Rattle.c_typed.specs.Views.{value_in, ValueStands}
@@ -19,7 +18,7 @@ use Rattle.tac_build.specs.declared.builder.Builder.{Builder}
 use Rattle.tac_build.specs.declared.names.Source.{Source}
 use Rattle.tac_build.specs.declared.addressed.Addressed.{Addressed}
 use Rattle.tac_build.specs.declared.homes.Home as memory_home
-use Rattle.tac_build.specs.Homes.{Scope, takes, takes_first, takes_start}
+use Rattle.tac_build.specs.Homes.{takes, takes_first, takes_start}
 use Rattle.tac_build.specs.StatementCode.{StartCode}
 use Rattle.tac_build.specs.Taken.{taken_locals, taken_start, depth_behind}
 use Rattle.tac_build.specs.Building.{spot_of, HasRoom, Adds}

@@ -20,7 +20,7 @@ use Rattle.c_typed.specs.Typed as T
 use Rattle.c_typed.specs.Typed.{Value, Object, Designator, Values, GlobalDef, LiteralDef, FunctionDef, Program}
 use Rattle.tac_ir.specs.declared.register.Register.{Register}
 use Rattle.tac_ir.specs.declared.register.Register.TheVariants as R
-use Rattle.tac_ir.specs.Code.{Tree, Constant, Held, Convert, Complement, Not, Arithmetic, Compare, Base, AtLocal, AtGlobal, AtLiteral, Pointed, Indexed, Step, Member, Element, Path, Operand, IntegerOperand, PointerOperand, Callee, Known, Through, Op}
+use Rattle.tac_ir.specs.Code.{Tree, Constant, Held, Convert, Complement, Not, Arithmetic, Compare, Base, AtLocal, AtGlobal, AtLiteral, Pointed, Indexed, Step, Member, Element, Path, IntegerOperand, PointerOperand, Callee, Known, Through, Op}
 use Rattle.tac_ir.specs.Code as O
 use Rattle.tac_ir.specs.First.{named_global, placed_literal}
 use Rattle.tac_build.specs.Homes.{Home, Scope, home_of, register_home, is_pure}

@@ -1,5 +1,5 @@
 -- What lowering of expressions asks of a tree in its surroundings, and what it promises.
-use Rattle.std.specs.Prelude.{◌≡◌, ℕ, ◌+◌, ◌*◌, ◌<◌, Bool, true, false, not, ◌||◌, List, [], ◌∷◌, slice_get, Option, Some, None, option_map, bytes_eq}
+use Rattle.std.specs.Prelude.{◌≡◌, ℕ, ◌+◌, ◌*◌, ◌<◌, Bool, true, false, not, ◌||◌, List, [], ◌∷◌, Some, None, option_map, bytes_eq}
 use Rattle.indexmap.specs.IndexMap.{get_by}
 use Rattle.text_place.specs.declared.place.Pos.{Pos}
 use Rattle.c_typed.specs.declared.typed.Value as memory_value
@@ -11,7 +11,7 @@ use Rattle.c_typed.specs.Types.{CType, CTypes, is_array, is_struct}
 use Rattle.c_typed.specs.Places.{is_same_place}
 use Rattle.c_typed.specs.Table.{Interned, Stands, type_in}
 use Rattle.c_typed.specs.Typed as T
-use Rattle.c_typed.specs.Typed.{Value, Object, Designator, Values, Program}
+use Rattle.c_typed.specs.Typed.{Value, Object, Designator, Program}
 use Rattle.c_typed.specs.Views.{value_in, object_in, designator_in, values_in, ValueStands, ObjectStands, DesignatorStands, ValuesStand}
 use Rattle.c_typed.specs.DefinitionViews.{program_of, ProgramStands}
 use Rattle.c_well_typed.specs.Context.{Context}
@@ -19,7 +19,7 @@ use Rattle.c_well_typed.specs.Expressions.{type_of, types_of, type_of_object, ty
 use Rattle.c_well_typed.specs.Programs.{IsWellTyped}
 use Rattle.tac_ir.specs.declared.register.Register.{Register}
 use Rattle.tac_ir.specs.First.{named_global, placed_literal}
-use Rattle.tac_ir.specs.Code.{Op, Through}
+use Rattle.tac_ir.specs.Code.{Through}
 use Rattle.tac_ir.specs.Views.{callee_in}
 use Rattle.tac_build.specs.declared.builder.Builder.{Builder}
 use Rattle.tac_build.specs.declared.names.Source.{Source}
@@ -30,11 +30,11 @@ use Rattle.tac_build.specs.declared.lowered.Mode as memory_mode
 use Rattle.tac_build.specs.declared.objects.Target.{Target}
 use Rattle.tac_build.specs.declared.objects.Target.TheVariants as Targets
 use Rattle.tac_build.specs.declared.calls.Called.{Called}
-use Rattle.tac_build.specs.Homes.{Home, Scope, home_of, register_home, home_behind, names_local, takes, takes_in, takes_called, takes_any}
-use Rattle.tac_build.specs.Spots.{Spot, Mode, AsPointer, is_address}
+use Rattle.tac_build.specs.Homes.{Home, Scope, home_of, register_home, home_behind, names_local, takes, takes_in}
+use Rattle.tac_build.specs.Spots.{Mode, AsPointer, is_address}
 use Rattle.tac_build.specs.Code.{ValueCode, ObjectCode, DesignatorCode, ArgumentsCode, LibraryCode, function_number}
 use Rattle.tac_build.specs.Forms.{context_of}
-use Rattle.tac_build.specs.Building.{lowered_in, mode_of, home_in, place_in, scope_in, HomesStand, IsScalarType, Leads, LeadsIn, LowersIn, Grows, names_of, HasRoom, Adds}
+use Rattle.tac_build.specs.Building.{lowered_in, mode_of, home_in, place_in, scope_in, HomesStand, LeadsIn, LowersIn, names_of}
 
 -- ---- names
 

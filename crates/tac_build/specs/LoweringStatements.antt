@@ -11,7 +11,7 @@ use Rattle.c_typed.specs.declared.statement.SwitchItem as memory_switch
 use Rattle.c_typed.specs.declared.statement.LocalDef as memory_local
 use Rattle.c_typed.specs.declared.statement.ForStart as memory_start
 use Rattle.c_typed.specs.Typed as T
-use Rattle.c_typed.specs.Typed.{Value, Stmt, Block, SwitchItems, LocalDef, ForStart}
+use Rattle.c_typed.specs.Typed.{Value, Stmt, LocalDef, ForStart}
 use Rattle.c_typed.specs.Types.{CType}
 use Rattle.c_typed.specs.Views.{value_in, ValueStands}
 use Rattle.c_typed.specs.StatementViews.{optional_value_in, OptionalStands, local_in, LocalStands, LocalsStand, start_in, StartStands, stmt_in, StmtStands, block_in, BlockStands, switch_in, SwitchStands}

@@ -10,7 +10,7 @@ use Rattle.c_typed.specs.Typed.{Value, Stmt, Block, SwitchItems, LocalDef, ForSt
 use Rattle.tac_ir.specs.declared.register.Local.TheVariants as L
 use Rattle.tac_ir.specs.declared.register.Register.{Register}
 use Rattle.tac_ir.specs.declared.register.Register.TheVariants as R
-use Rattle.tac_ir.specs.Code.{Tree, Constant, Held, Compare, AtLocal, Operand, IntegerOperand, PointerOperand, Op}
+use Rattle.tac_ir.specs.Code.{Tree, Constant, Held, Compare, AtLocal, IntegerOperand, PointerOperand, Op}
 use Rattle.tac_ir.specs.Code as O
 use Rattle.tac_build.specs.Homes.{Home, Scope, takes_optional, takes_first, takes_stmt, takes_block, lies_in_memory}
 use Rattle.tac_build.specs.Spots.{Spot, behind, with_variable, with_temporary, temporary, Lowered, AsInteger, AsPointer, Kept, Dropped}

@@ -3,7 +3,7 @@
 ghost use Rattle.std.specs.Prelude.{◌≡◌, OnOk, IfOk, suc, true, Some};
 ghost use Rattle.c_num.specs.declared.IntType.TheVariants as I;
 ghost use Rattle.c_typed.specs.declared.typed.LibraryFunction.TheVariants as F;
-ghost use Rattle.c_typed.specs.Table.{Interned, Stands, HasShape, type_in};
+ghost use Rattle.c_typed.specs.Table.{Stands, HasShape, type_in};
 ghost use Rattle.tac_ir.specs.declared.register.Register.TheVariants as R;
 ghost use Rattle.tac_ir.specs.Code as C;
 ghost use Rattle.tac_ir.specs.Views.{callee_in};

@@ -9,7 +9,7 @@ ghost use Rattle.tac_ir.specs.Code as C;
 ghost use Rattle.tac_build.specs.Spots.{AsObject};
 ghost use Rattle.tac_build.specs.Homes as H;
 ghost use Rattle.tac_build.specs.Code.{type_of_member, path_from, then_step, pointed_by, GivesPointer, ReadsLocal, Loads, TakesAddress, Indexes, Decays};
-ghost use Rattle.tac_build.specs.Building.{lowered_in, place_in, pointer_in, mode_of, home_in, scope_in, IsScalarType, ScalarStands, IsArrayType, Grows, Lowers, LowersIn, TargetStands, ReadsTarget, IsRow, HasRoom, Adds};
+ghost use Rattle.tac_build.specs.Building.{lowered_in, pointer_in, mode_of, home_in, scope_in, IsScalarType, ScalarStands, IsArrayType, Grows, Lowers, LowersIn, TargetStands, ReadsTarget, IsRow, HasRoom, Adds};
 ghost use Rattle.tac_build.specs.Lowering.{names_for, AddsFewer, types_of_source, IsSource, scope_of, IsScope, ObjectTyped, LieInMemory, ObjectLives, LoweredHolds, ObjectLowers, TargetLowers};
 ghost use Rattle.tac_build.specs.Homes.{takes_in};
 ghost use Rattle.c_typed.specs.Views.{object_in};

@@ -1,7 +1,7 @@
 -- What points cost: one, and one more for each node of their trees, each step of their path, and each argument.
 use Rattle.std.specs.Prelude.{ℕ, ◌+◌, List, [], ◌∷◌, length, Some}
 use Rattle.tac_ir.specs.Trees.{tree_nodes}
-use Rattle.tac_ir.specs.Code.{Tree, Constant, Held, Convert, Complement, Not, Arithmetic, Compare, Base, AtLocal, AtGlobal, AtLiteral, Pointed, Indexed, Step, Member, Element, Path, Operand, IntegerOperand, PointerOperand, Callee, Known, Through, Op, LocalObject, Function, Tac}
+use Rattle.tac_ir.specs.Code.{Base, Indexed, Step, Member, Element, Path, Operand, IntegerOperand, PointerOperand, Op}
 use Rattle.tac_ir.specs.Code as O
 
 abbrev pub step_cost : Step → ℕ

@@ -15,7 +15,7 @@ use Rattle.tac_ir.specs.States.{State, function_of, points_of, around_of, lost, 
 use Rattle.tac_ir.specs.Pointers.{is_alive, is_null, moved_pointer, difference, compared, repoint}
 use Rattle.tac_ir.specs.Calls.{all_held, call, called, leave, next_char, after_next, allocate, natural_of, free}
 use Rattle.tac_ir.specs.Costs.{more_cost}
-use Rattle.tac_ir.specs.Code.{Tree, Constant, Held, Convert, Complement, Not, Arithmetic, Compare, Base, AtLocal, AtGlobal, AtLiteral, Pointed, Indexed, Step, Member, Element, Path, Operand, IntegerOperand, PointerOperand, Callee, Known, Through, Op, LocalObject, Function, Tac}
+use Rattle.tac_ir.specs.Code.{Operand, IntegerOperand, PointerOperand, Op, Tac}
 use Rattle.tac_ir.specs.Code as O
 
 abbrev pub value_of : Registers → Operand → Option Value

@@ -9,7 +9,7 @@ use Rattle.c_typed.specs.Typed.{Program}
 use Rattle.c_well_typed.specs.Programs.{IsWellTyped}
 use Rattle.ref_semantics.specs.Values.{Scalar, IntegerValue, NullValue, FunctionValue, PointerValue, RawPointer, at_index, place_of}
 use Rattle.ref_semantics.specs.Store as S
-use Rattle.ref_semantics.specs.Store.{Then, give, premise, is_dead_pointer, is_null_pointer}
+use Rattle.ref_semantics.specs.Store.{Then, give, premise, is_dead_pointer}
 use Rattle.ref_semantics.specs.Pointers.{added, index_moved, is_negative, is_above, or_zero}
 use Rattle.ref_typing.specs.Sound.{PointsTo, Sound}
 use Rattle.ref_typing.proofs.WellTyped.{complete_known, complete_object}

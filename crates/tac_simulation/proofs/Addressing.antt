@@ -29,7 +29,6 @@ use Rattle.tac_ir.specs.Costs.{path_cost}
 use Rattle.tac_ir.specs.States as A
 use Rattle.tac_ir.specs.States.{State, write}
 use Rattle.tac_ir.specs.Meaning as X
-use Rattle.tac_ir.specs.Meaning.{execute}
 use Rattle.tac_build.specs.Homes.{Scope}
 use Rattle.tac_build.specs.Spots.{Spot, expression, Lowered, AsInteger, AsPointer, AsObject, AsNothing, Mode, Kept, Dropped, Behind, Row, is_followed, is_address, pointed_mode}
 use Rattle.tac_build.specs.Code.{path_from, then_step, pointed_by, GivesPointer, Decays, TakesAddress, ValueCode, ObjectCode}

@@ -11,7 +11,7 @@ use Rattle.c_well_typed.specs.Sizes.{makes, all_make, designator_makes, is_stora
 use Rattle.ref_semantics.specs.Values as V
 use Rattle.ref_semantics.specs.Values.{Scalar}
 use Rattle.ref_semantics.specs.Store as S
-use Rattle.ref_semantics.specs.Store.{Outcome, Then, Eval, ◌>>=◌, give, continue_with}
+use Rattle.ref_semantics.specs.Store.{Outcome, Eval, ◌>>=◌, give, continue_with}
 use Rattle.ref_semantics.specs.Meaning.{Calls, values, designated}
 use Rattle.ref_semantics.specs.First.{around_of}
 use Rattle.ref_typing.specs.Sound.{HasType, HaveTypes}
@@ -33,7 +33,7 @@ use Rattle.tac_simulation.specs.Standing.{Placement, Frame, At, ScalarStands, Lo
 use Rattle.tac_simulation.proofs.Paths.{Stand, Passage as Passing, Does, comes, stops, stepped, eased, eases}
 use Rattle.tac_simulation.proofs.Spotting.{Runs, kept_same, kept_write, written_there, before_at, around_is, with_written, at_written}
 use Rattle.tac_simulation.proofs.Evaluating
-use Rattle.tac_simulation.proofs.Evaluating.{laid_by, left_for, passed_ticks, all_passed_ticks, value_units, values_units, designator_units}
+use Rattle.tac_simulation.proofs.Evaluating.{laid_by, passed_ticks, all_passed_ticks, value_units, values_units, designator_units}
 use Rattle.tac_build.proofs.Naming.{grows_then, grows_to, behind_grows, argument_grows, before_more}
 use Rattle.tac_build.proofs.Named.{value_named}
 use Rattle.tac_build.proofs.Forms.{value_form}

@@ -10,9 +10,9 @@ use Rattle.c_well_typed.specs.Expressions.{is_scalar, type_of, type_of_object}
 use Rattle.c_well_typed.specs.Programs.{IsWellTyped}
 use Rattle.c_well_typed.specs.Sizes.{makes, object_makes, is_storable}
 use Rattle.ref_semantics.specs.Values as V
-use Rattle.ref_semantics.specs.Values.{Place, Scalar, IntegerValue, LocalObject, object_place}
+use Rattle.ref_semantics.specs.Values.{Place, Scalar, LocalObject, object_place}
 use Rattle.ref_semantics.specs.Store as S
-use Rattle.ref_semantics.specs.Store.{Outcome, Then, Eval, ◌>>=◌, continue_with, offset_of, size_of}
+use Rattle.ref_semantics.specs.Store.{Outcome, Then, Eval, ◌>>=◌, continue_with, offset_of}
 use Rattle.ref_semantics.specs.Pointers.{write}
 use Rattle.ref_semantics.specs.Meaning.{Calls, value, find}
 use Rattle.ref_semantics.specs.First.{around_of}
@@ -21,7 +21,7 @@ use Rattle.ref_typing.proofs.ValuesKeep.{find_keeps}
 use Rattle.c_well_typed.proofs.Splitting.{first_parts}
 use Rattle.tac_ir.specs.declared.register.Register.{Register}
 use Rattle.tac_ir.specs.declared.register.Register.TheVariants as R
-use Rattle.tac_ir.specs.Code.{Op, Tac, Tree, Path}
+use Rattle.tac_ir.specs.Code.{Op, Tac}
 use Rattle.tac_ir.specs.Code as O
 use Rattle.tac_ir.specs.Values as M
 use Rattle.tac_ir.specs.Trees.{Registers, with_register, integer_in}

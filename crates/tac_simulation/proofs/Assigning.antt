@@ -4,9 +4,8 @@ use Rattle.std.proofs.lemmas.Bool.{cond-false, cond-true, true≢false, false_fr
 use Rattle.std.proofs.lemmas.List.{append-nil}
 use Rattle.c_typed.specs.Typed.{Program}
 use Rattle.ref_semantics.specs.Values as V
-use Rattle.ref_semantics.specs.Values.{Name, Heap, GlobalObject, LiteralObject, LocalObject, Place, Scalar, same_name, object_place}
+use Rattle.ref_semantics.specs.Values.{Name, LocalObject, Scalar, same_name}
 use Rattle.ref_semantics.specs.Store as S
-use Rattle.ref_semantics.specs.Store.{Then, Stopped, offset_of, size_of, scalar_or}
 use Rattle.ref_typing.proofs.Objects.{same_name-true}
 use Rattle.tac_ir.specs.declared.register.Local.{Local}
 use Rattle.tac_ir.specs.declared.register.Register.TheVariants as R

@@ -2,7 +2,7 @@
 use Rattle.std.proofs.Common.{◌≡◌, ℕ, ◌≤◌, ◌++◌, ◌⊎◌, inl, inr, true, List, [], ◌∷◌, Option, Some, refl, sym, ap, ◌∙◌, subst, append_assoc, length-append, arith}
 use Rattle.std.proofs.lemmas.Bool.{and_parts}
 use Rattle.c_typed.specs.Typed as T
-use Rattle.c_typed.specs.Typed.{Value, LocalDef, ForStart, Program}
+use Rattle.c_typed.specs.Typed.{Value, LocalDef, Program}
 use Rattle.c_well_typed.specs.Expressions.{type_of}
 use Rattle.c_well_typed.specs.Programs.{IsWellTyped}
 use Rattle.c_well_typed.specs.Sizes.{local_makes, is_storable}

@@ -27,7 +27,6 @@ use Rattle.tac_simulation.proofs.Paths.{Stand, Does, comes, stops, start, eases,
 use Rattle.tac_simulation.proofs.Spotting.{Runs}
 use Rattle.tac_simulation.proofs.Combining.{ticked}
 use Rattle.tac_simulation.proofs.Executing
-use Rattle.tac_simulation.proofs.Executing.{block_units}
 use Rattle.tac_simulation.proofs.Ending.{ended, kept_is, at_ended, holds_ended}
 
 -- locals in scope were given their numbers

@@ -13,7 +13,7 @@ use Rattle.c_well_typed.specs.Sizes.{all_make, designator_makes, is_storable}
 use Rattle.ref_semantics.specs.Values as V
 use Rattle.ref_semantics.specs.Values.{Scalar, IntegerValue, NullValue, FunctionValue, PointerValue, RawPointer}
 use Rattle.ref_semantics.specs.Store as S
-use Rattle.ref_semantics.specs.Store.{Outcome, Then, Eval, ◌>>=◌}
+use Rattle.ref_semantics.specs.Store.{Outcome, ◌>>=◌}
 use Rattle.ref_semantics.specs.Meaning.{Calls, values, designated}
 use Rattle.ref_semantics.specs.First.{around_of}
 use Rattle.ref_typing.specs.Sound.{HasType, HaveTypes, Sound, Later}
@@ -36,7 +36,7 @@ use Rattle.tac_simulation.specs.Standing.{Placement, Frame, KeepsBefore, At, Hol
 use Rattle.tac_simulation.proofs.Paths.{Passage as Passing, Does, comes, stops, eased}
 use Rattle.tac_simulation.proofs.Spotting.{Runs}
 use Rattle.tac_simulation.proofs.Evaluating
-use Rattle.tac_simulation.proofs.Evaluating.{laid_by, all_passed_ticks, value_units, values_units, designator_units}
+use Rattle.tac_simulation.proofs.Evaluating.{laid_by, all_passed_ticks, value_units}
 use Rattle.tac_build.proofs.Naming.{call_grows, before_more}
 use Rattle.tac_build.proofs.Named.{designator_named}
 use Rattle.tac_simulation.proofs.Lasting.{register_later}

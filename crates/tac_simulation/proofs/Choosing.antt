@@ -13,13 +13,13 @@ use Rattle.c_well_typed.specs.Sizes.{makes, is_storable}
 use Rattle.ref_semantics.specs.Values as V
 use Rattle.ref_semantics.specs.Values.{Scalar}
 use Rattle.ref_semantics.specs.Store as S
-use Rattle.ref_semantics.specs.Store.{Outcome, Eval, Then, ◌>>=◌}
+use Rattle.ref_semantics.specs.Store.{Outcome, Then, ◌>>=◌}
 use Rattle.ref_semantics.specs.Meaning.{Calls, value, is_true}
 use Rattle.ref_semantics.specs.First.{around_of}
 use Rattle.ref_typing.specs.Sound.{Sound}
 use Rattle.ref_typing.specs.Keeping.{CallsKeep}
 use Rattle.c_well_typed.proofs.Splitting.{First, given_parts, first_parts}
-use Rattle.tac_ir.specs.Code.{Op, Tac, Tree}
+use Rattle.tac_ir.specs.Code.{Op, Tac}
 use Rattle.tac_ir.specs.Code as O
 use Rattle.tac_ir.specs.Values as M
 use Rattle.tac_ir.specs.States.{State}

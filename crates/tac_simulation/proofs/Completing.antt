@@ -4,7 +4,7 @@ use Rattle.std.proofs.Common.{◌≡◌, ℕ, zero, suc, Bool, true, false, if�
 use Rattle.std.proofs.lemmas.Bool.{and_parts}
 use Rattle.c_typed.specs.Types.{CType, is_void, integer_type}
 use Rattle.c_typed.specs.Typed as T
-use Rattle.c_typed.specs.Typed.{Value, Stmt, Block, SwitchItems}
+use Rattle.c_typed.specs.Typed.{Stmt, Block, SwitchItems}
 use Rattle.c_well_typed.specs.Context.{Context, with_local}
 use Rattle.c_well_typed.specs.Expressions.{given, type_of}
 use Rattle.c_well_typed.specs.Statements.{Within, in_loop, in_switch, is_expression, is_condition, if_any, is_local, is_start, with_start, is_label, is_stmt, is_block, are_items}

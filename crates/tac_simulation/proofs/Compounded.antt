@@ -19,9 +19,9 @@ use Rattle.c_well_typed.specs.Expressions.{is_scalar, is_right, type_of, type_of
 use Rattle.c_well_typed.specs.Programs.{IsWellTyped}
 use Rattle.c_well_typed.specs.Sizes.{makes, object_makes, is_storable}
 use Rattle.ref_semantics.specs.Values as V
-use Rattle.ref_semantics.specs.Values.{Place, Scalar, IntegerValue, NullValue, FunctionValue, PointerValue, RawPointer, LocalObject, object_place, integer_of}
+use Rattle.ref_semantics.specs.Values.{Scalar, IntegerValue, NullValue, FunctionValue, PointerValue, RawPointer, LocalObject, object_place}
 use Rattle.ref_semantics.specs.Store as S
-use Rattle.ref_semantics.specs.Store.{Outcome, Then, Eval, ◌>>=◌, continue_with, offset_of, scalar_or}
+use Rattle.ref_semantics.specs.Store.{Then, Eval, ◌>>=◌, continue_with, offset_of, scalar_or}
 use Rattle.ref_semantics.specs.Pointers.{read, write, loaded}
 use Rattle.ref_semantics.specs.Meaning.{Calls, value, find, arithmetic, converted, outcome_at, kind_of}
 use Rattle.ref_semantics.specs.First.{around_of}

@@ -7,7 +7,7 @@ use Rattle.c_typed.specs.Typed.{Value, Program}
 use Rattle.c_well_typed.specs.Expressions.{is_conversion}
 use Rattle.c_well_typed.specs.Programs.{IsWellTyped}
 use Rattle.ref_semantics.specs.Values as V
-use Rattle.ref_semantics.specs.Values.{Scalar, IntegerValue, NullValue, integer_of}
+use Rattle.ref_semantics.specs.Values.{IntegerValue, NullValue}
 use Rattle.ref_semantics.specs.Store.{give}
 use Rattle.ref_semantics.specs.Meaning.{Calls, value}
 use Rattle.ref_semantics.specs.First.{around_of}

@@ -13,9 +13,9 @@ use Rattle.c_well_typed.specs.Expressions.{type_of}
 use Rattle.c_well_typed.specs.Programs.{IsWellTyped}
 use Rattle.c_well_typed.specs.Sizes.{makes, is_storable}
 use Rattle.ref_semantics.specs.Values as V
-use Rattle.ref_semantics.specs.Values.{Scalar, IntegerValue}
+use Rattle.ref_semantics.specs.Values.{IntegerValue}
 use Rattle.ref_semantics.specs.Store as S
-use Rattle.ref_semantics.specs.Store.{Eval, Then, ◌>>=◌, continue_with, give}
+use Rattle.ref_semantics.specs.Store.{Then, ◌>>=◌, continue_with, give}
 use Rattle.ref_semantics.specs.Pointers as P
 use Rattle.ref_semantics.specs.Meaning.{Calls, value, is_true}
 use Rattle.ref_semantics.specs.First.{around_of}

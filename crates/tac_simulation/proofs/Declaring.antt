@@ -13,7 +13,7 @@ use Rattle.c_well_typed.specs.Statements.{is_of_type, if_any}
 use Rattle.ref_semantics.specs.Values as V
 use Rattle.ref_semantics.specs.Values.{Place, Scalar, LocalObject, object_place}
 use Rattle.ref_semantics.specs.Store as S
-use Rattle.ref_semantics.specs.Store.{Outcome, Then, Stopped, Eval, continue_with, give, offset_of, size_of}
+use Rattle.ref_semantics.specs.Store.{Outcome, Then, Stopped, Eval, continue_with, give, offset_of}
 use Rattle.ref_semantics.specs.Meaning.{Calls, Completion, Normal, value, optional_value, stored_first}
 use Rattle.ref_semantics.specs.First.{around_of}
 use Rattle.ref_typing.specs.Sound.{HasType}
@@ -22,7 +22,7 @@ use Rattle.ref_typing.proofs.Lasting.{element_lasts}
 use Rattle.ref_typing.proofs.Storing.{new_local_keeps, write_keeps}
 use Rattle.ref_typing.proofs.StatementsKeep.{holds_for-some}
 use Rattle.tac_ir.specs.declared.register.Register.TheVariants as R
-use Rattle.tac_ir.specs.Code.{Op, Tac, Path, Operand, AtLocal, IntegerOperand, PointerOperand, LocalObject as OwnObject}
+use Rattle.tac_ir.specs.Code.{Op, Tac, Operand, AtLocal, IntegerOperand, PointerOperand, LocalObject as OwnObject}
 use Rattle.tac_ir.specs.Code as O
 use Rattle.tac_ir.specs.Values as M
 use Rattle.tac_ir.specs.Values.{OfActivation}
@@ -34,7 +34,7 @@ use Rattle.tac_build.specs.Homes.{Home, Scope}
 use Rattle.tac_build.specs.Spots.{Spot, behind, with_variable, Lowered, AsInteger, AsPointer, AsObject, AsNothing, Kept}
 use Rattle.tac_build.specs.Code.{HasOp, path_from}
 use Rattle.tac_build.specs.StatementCode as Codes
-use Rattle.tac_build.specs.StatementCode.{with_home, new_home, FirstCode, LocalCode}
+use Rattle.tac_build.specs.StatementCode.{with_home, FirstCode}
 use Rattle.tac_build.specs.Forms.{scope_types, context_of}
 use Rattle.tac_simulation.specs.Standing.{Placement, Frame, At, ScalarStands, HomeStands, HomesStand, PathStands, LoweredStands, surroundings}
 use Rattle.tac_simulation.proofs.Paths.{Stand, Passage as Passing, Does, comes, start, allows, eased}

@@ -43,7 +43,7 @@ use Rattle.tac_simulation.proofs.Bodied.{in_body, begun, body_ends, body_stops}
 use Rattle.tac_simulation.proofs.Completing.{MayEnd, body_may}
 use Rattle.tac_simulation.proofs.Through.{Behind}
 use Rattle.tac_simulation.proofs.Returning.{Closes, body_closes, closes_passing}
-use Rattle.tac_simulation.proofs.Watching.{IsWatched, Watched, watched_steps, still_holds}
+use Rattle.tac_simulation.proofs.Watching.{IsWatched, watched_steps, still_holds}
 use Rattle.tac_simulation.proofs.Watching as Watching
 
 -- the value of a call that is used, from what the function gives back

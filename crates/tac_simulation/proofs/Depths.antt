@@ -11,7 +11,7 @@ use Rattle.c_well_typed.specs.Sizes.{HasStorableTypes}
 use Rattle.ref_semantics.specs.Values as V
 use Rattle.ref_semantics.specs.Values.{Scalar, IntegerValue, NullValue, FunctionValue, PointerValue, RawPointer}
 use Rattle.ref_semantics.specs.Store as S
-use Rattle.ref_semantics.specs.Store.{Eval, ◌>>=◌, undefined}
+use Rattle.ref_semantics.specs.Store.{◌>>=◌, undefined}
 use Rattle.ref_semantics.specs.Meaning as Meaning
 use Rattle.ref_semantics.specs.Meaning.{used_value, function_from, Bodies, call_known, call_named, bodies_within}
 use Rattle.ref_semantics.specs.First.{around_of}

@@ -7,7 +7,7 @@ use Rattle.run_theory.specs.Runs.{Called}
 use Rattle.c_typed.specs.Types.{CType}
 use Rattle.c_typed.specs.Typed.{Program}
 use Rattle.ref_semantics.specs.Values as V
-use Rattle.ref_semantics.specs.Values.{Name, Heap, GlobalObject, LiteralObject, LocalObject}
+use Rattle.ref_semantics.specs.Values.{Name, LocalObject}
 use Rattle.ref_semantics.specs.Store as S
 use Rattle.ref_semantics.specs.Meaning.{Calls}
 use Rattle.ref_typing.specs.Sound.{AreLocals, Sound, Later}

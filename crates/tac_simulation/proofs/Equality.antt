@@ -12,7 +12,7 @@ use Rattle.ref_semantics.specs.Values.{Scalar, IntegerValue, NullValue, Function
 use Rattle.ref_semantics.specs.Store as S
 use Rattle.ref_semantics.specs.Store.{Then, give, premise, unless, offset_of, is_dead_pointer}
 use Rattle.ref_semantics.specs.Pointers as P
-use Rattle.ref_semantics.specs.Pointers.{is_into_object, is_past, is_end_beside, is_equality, truth_of_equality, are_in_one_row, index_of, compared_pointers}
+use Rattle.ref_semantics.specs.Pointers.{is_into_object, is_past, is_end_beside, is_equality, compared_pointers}
 use Rattle.ref_semantics.specs.First.{around_of}
 use Rattle.ref_typing.specs.Sound.{PointsTo, Sound}
 use Rattle.tac_ir.specs.Trees.{truth}

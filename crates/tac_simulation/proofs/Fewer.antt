@@ -2,7 +2,7 @@
 use Rattle.std.proofs.Common.{◌≡◌, Option, Some, sym, ◌∙◌, subst}
 use Rattle.c_typed.specs.Typed.{Program}
 use Rattle.ref_semantics.specs.Values as V
-use Rattle.ref_semantics.specs.Values.{Name, Heap, Place, Scalar, IntegerValue, NullValue, FunctionValue, PointerValue, RawPointer}
+use Rattle.ref_semantics.specs.Values.{Name, Heap, Scalar, IntegerValue, NullValue, FunctionValue, PointerValue, RawPointer}
 use Rattle.ref_semantics.specs.Store as S
 use Rattle.tac_ir.specs.Values.{Object, Value, Content, Objects}
 use Rattle.tac_simulation.specs.Standing.{Placement, image, WhereAlive, ScalarStands, HoldsFor, ContentStands, IsAlive, MemoryStands}

@@ -10,7 +10,7 @@ use Rattle.c_typed.specs.Types.{CType, literal_type}
 use Rattle.c_typed.specs.Typed as T
 use Rattle.c_typed.specs.Typed.{Value, Object, Program}
 use Rattle.c_well_typed.specs.Context.{literal_bytes}
-use Rattle.c_well_typed.specs.Expressions.{given, type_of_object}
+use Rattle.c_well_typed.specs.Expressions.{type_of_object}
 use Rattle.c_well_typed.specs.Expressions as W
 use Rattle.c_well_typed.specs.Programs.{IsWellTyped}
 use Rattle.c_well_typed.specs.Sizes.{object_makes, is_storable}

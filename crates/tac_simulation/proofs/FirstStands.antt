@@ -18,7 +18,7 @@ use Rattle.c_well_typed.specs.Expressions.{given, is_scalar}
 use Rattle.c_well_typed.specs.Programs.{IsWellTyped, RowType, one_of, row_at, is_place, is_first, is_held, all_held, is_global, are_globals}
 use Rattle.c_well_typed.specs.Programs as rules
 use Rattle.ref_semantics.specs.Values as V
-use Rattle.ref_semantics.specs.Values.{Name, Heap, GlobalObject, LiteralObject, LocalObject, Place, Scalar, IntegerValue, NullValue, FunctionValue, PointerValue, object_place}
+use Rattle.ref_semantics.specs.Values.{Name, Heap, GlobalObject, LiteralObject, LocalObject, Scalar, IntegerValue, NullValue, FunctionValue, PointerValue, object_place}
 use Rattle.ref_semantics.specs.Store as S
 use Rattle.ref_semantics.specs.Store.{scalar_or, offset_of}
 use Rattle.ref_semantics.specs.First as R
@@ -26,7 +26,7 @@ use Rattle.ref_semantics.specs.First.{around_of, type_of_global, literal_at, nam
 use Rattle.ref_typing.proofs.Beginning.{if_some}
 use Rattle.ref_typing.proofs.Objects.{same_place-true}
 use Rattle.ref_typing.proofs.WellTyped.{well_globals}
-use Rattle.tac_ir.specs.Values.{Object, OfHeap, OfGlobal, OfLiteral, OfActivation, Value, Number, NoAddress, Address, Content, Typed, Objects}
+use Rattle.tac_ir.specs.Values.{Object, OfHeap, OfGlobal, OfLiteral, OfActivation, Number, NoAddress, Address, Content, Typed, Objects}
 use Rattle.tac_ir.specs.Values as T
 use Rattle.tac_ir.specs.Layouts.{leaf_at, size_of}
 use Rattle.tac_ir.specs.Code.{Tac}

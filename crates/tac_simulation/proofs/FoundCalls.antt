@@ -9,9 +9,9 @@ use Rattle.c_well_typed.specs.Sizes.{HasStorableTypes}
 use Rattle.ref_semantics.specs.Values as V
 use Rattle.ref_semantics.specs.Values.{Scalar}
 use Rattle.ref_semantics.specs.Store as S
-use Rattle.ref_semantics.specs.Store.{Outcome, continue_with, undefined, tick, ◌>>=◌}
+use Rattle.ref_semantics.specs.Store.{continue_with, tick}
 use Rattle.ref_semantics.specs.Meaning as Meaning
-use Rattle.ref_semantics.specs.Meaning.{Calls, Completion, bind, used_value, function_from, call_known, call_named, bodies_within}
+use Rattle.ref_semantics.specs.Meaning.{Calls, bind, used_value, function_from, call_named, bodies_within}
 use Rattle.ref_semantics.specs.First.{around_of}
 use Rattle.ref_typing.specs.Sound.{HaveTypes}
 use Rattle.ref_typing.proofs.WellTyped.{well_functions}

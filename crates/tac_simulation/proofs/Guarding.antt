@@ -11,7 +11,7 @@ use Rattle.c_typed.specs.Types.{CType, same_type, is_like_void}
 use Rattle.ref_semantics.specs.Values as V
 use Rattle.ref_semantics.specs.Values.{Heap, Scalar, IntegerValue, NullValue, FunctionValue, PointerValue, RawPointer, place_of, at_index, first_of_row, whole_row}
 use Rattle.ref_semantics.specs.Store as S
-use Rattle.ref_semantics.specs.Store.{TypeEnvironment, Outcome, Then, Stopped, Eval, Premise, premise, give, undefined, unless, store_content, with_content, size_of, is_dead_pointer, is_null_pointer}
+use Rattle.ref_semantics.specs.Store.{TypeEnvironment, Outcome, Then, Eval, Premise, premise, give, undefined, unless, store_content, with_content, size_of, is_dead_pointer, is_null_pointer}
 use Rattle.ref_semantics.specs.Pointers.{truth, index_moved, is_negative, is_above, or_zero, is_equality, truth_of_equality, are_equal, is_end_beside, are_in_one_row, index_of, tested, added, compared_pointers, difference, retyped, of_allocation, repointed}
 use Rattle.tac_ir.specs.States as M
 use Rattle.tac_ir.specs.Code.{Tac}

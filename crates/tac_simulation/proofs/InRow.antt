@@ -15,11 +15,11 @@ use Rattle.c_typed.specs.Typed.{Program}
 use Rattle.c_typed.proofs.Same.{same_type-true}
 use Rattle.c_well_typed.specs.Programs.{IsWellTyped}
 use Rattle.ref_semantics.specs.Values as V
-use Rattle.ref_semantics.specs.Values.{Name, Heap, Place, Scalar, IntegerValue, NullValue, FunctionValue, PointerValue, RawPointer, place_of, same_name, same_row, whole_row, first_of_row}
+use Rattle.ref_semantics.specs.Values.{Heap, Place, Scalar, IntegerValue, NullValue, FunctionValue, PointerValue, RawPointer, same_name, same_row, whole_row, first_of_row}
 use Rattle.ref_semantics.specs.Store as S
 use Rattle.ref_semantics.specs.Store.{Then, give, premise, unless, offset_of, is_dead_pointer}
 use Rattle.ref_semantics.specs.Pointers as P
-use Rattle.ref_semantics.specs.Pointers.{is_equality, is_end_beside, truth_of_equality, are_in_one_row, is_one_row, as_typed, to_first, index_of, compared_pointers, difference}
+use Rattle.ref_semantics.specs.Pointers.{is_equality, are_in_one_row, is_one_row, as_typed, to_first, index_of, compared_pointers, difference}
 use Rattle.ref_semantics.specs.First.{around_of}
 use Rattle.ref_typing.specs.Rows.{size_in}
 use Rattle.ref_typing.specs.Sound.{PointsTo, Sound, IsSoundContent}
@@ -28,7 +28,7 @@ use Rattle.ref_typing.proofs.WellTyped.{well_structs, complete_known}
 use Rattle.tac_ir.specs.Values.{Object, OfHeap, Value, Number, Address, Objects, same_object}
 use Rattle.tac_ir.specs.Objects.{Surroundings, is_there}
 use Rattle.tac_ir.specs.Pointers as C
-use Rattle.tac_ir.specs.Pointers.{is_alive, compared, in_order}
+use Rattle.tac_ir.specs.Pointers.{compared, in_order}
 use Rattle.tac_simulation.specs.Standing.{Placement, image, ScalarStands, MemoryStands}
 use Rattle.tac_simulation.proofs.Memory.{same_object-refl}
 use Rattle.tac_simulation.proofs.Looking.{looked_at_alive, living_raw}

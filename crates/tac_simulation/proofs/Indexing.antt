@@ -41,7 +41,7 @@ use Rattle.tac_simulation.specs.Standing.{Placement, Frame, KeepsBefore, At, IsA
 use Rattle.tac_simulation.proofs.Paths.{Passage as Passing, Does, comes, eased, eases, allows}
 use Rattle.tac_simulation.proofs.Spotting.{Runs}
 use Rattle.tac_simulation.proofs.Evaluating
-use Rattle.tac_simulation.proofs.Evaluating.{ValueDoes, laid_by, left_for, value_units}
+use Rattle.tac_simulation.proofs.Evaluating.{ValueDoes, laid_by, value_units}
 use Rattle.tac_simulation.proofs.Combining.{ticked, then_value}
 use Rattle.tac_simulation.proofs.Constants.{left_most}
 use Rattle.tac_build.proofs.Forms.{value_form}

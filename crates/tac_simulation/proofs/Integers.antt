@@ -21,7 +21,7 @@ use Rattle.c_well_typed.specs.Sizes.{makes, is_storable}
 use Rattle.ref_semantics.specs.Values as V
 use Rattle.ref_semantics.specs.Values.{Scalar, IntegerValue, integer_of}
 use Rattle.ref_semantics.specs.Store as S
-use Rattle.ref_semantics.specs.Store.{Outcome, Then, Eval, ◌>>=◌, continue_with, give}
+use Rattle.ref_semantics.specs.Store.{Eval, ◌>>=◌, continue_with, give}
 use Rattle.ref_semantics.specs.Pointers as P
 use Rattle.ref_semantics.specs.Meaning.{Calls, value, is_true, converted, arithmetic, outcome_at, kind_of}
 use Rattle.ref_semantics.specs.First.{around_of}

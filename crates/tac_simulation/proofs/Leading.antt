@@ -7,7 +7,7 @@ use Rattle.c_typed.specs.Types.{CType}
 use Rattle.c_typed.specs.Typed.{Program, GlobalDef, LiteralDef}
 use Rattle.c_well_typed.specs.Context.{literal_bytes}
 use Rattle.ref_semantics.specs.Values as V
-use Rattle.ref_semantics.specs.Values.{Name, LocalObject, Place, Scalar, object_place}
+use Rattle.ref_semantics.specs.Values.{Name, LocalObject, Scalar, object_place}
 use Rattle.ref_semantics.specs.Store as S
 use Rattle.ref_semantics.specs.Store.{Then}
 use Rattle.ref_semantics.specs.Meaning.{local_name, named, local_place}

@@ -17,12 +17,12 @@ use Rattle.c_well_typed.specs.Expressions.{given, given_two, library_result, typ
 use Rattle.c_well_typed.specs.Programs.{IsWellTyped}
 use Rattle.c_well_typed.specs.Sizes.{makes, is_storable}
 use Rattle.ref_semantics.specs.Values as V
-use Rattle.ref_semantics.specs.Values.{Name, Heap, GlobalObject, LiteralObject, LocalObject, Place, Scalar, IntegerValue, NullValue, FunctionValue, PointerValue, RawPointer, integer_of}
+use Rattle.ref_semantics.specs.Values.{Name, Heap, GlobalObject, LiteralObject, LocalObject, Scalar, IntegerValue, NullValue, FunctionValue, PointerValue, RawPointer, integer_of}
 use Rattle.ref_semantics.specs.Store as S
 use Rattle.ref_semantics.specs.Store.{TypeEnvironment, Outcome, Then, Stopped, Eval, ◌>>=◌, give, continue_with, ticks, premise, is_dead, offset_of}
 use Rattle.ref_semantics.specs.Pointers.{access}
 use Rattle.ref_semantics.specs.Library as Library
-use Rattle.ref_semantics.specs.Library.{low_byte, next_byte, allocated, is_heap, is_unfreeable, freed, library}
+use Rattle.ref_semantics.specs.Library.{next_byte, allocated, is_heap, is_unfreeable, freed, library}
 use Rattle.ref_semantics.specs.Meaning.{Calls, value, values}
 use Rattle.ref_semantics.specs.First.{around_of}
 use Rattle.ref_typing.specs.Sound.{HasType}
@@ -53,7 +53,7 @@ use Rattle.tac_simulation.specs.Standing.{Placement, Frame, KeepsBefore, At, IsA
 use Rattle.tac_simulation.proofs.Paths.{Stand, Passage as Passing, Does, Passes, comes, stops, stepped, eased, ends_seen}
 use Rattle.tac_simulation.proofs.Spotting.{Runs, kept_write, written_there, before_at, around_is}
 use Rattle.tac_simulation.proofs.Evaluating
-use Rattle.tac_simulation.proofs.Evaluating.{ValueDoes, laid_by, left_for, value_units, values_units}
+use Rattle.tac_simulation.proofs.Evaluating.{ValueDoes, laid_by, values_units}
 use Rattle.tac_build.proofs.Naming.{call_grows, before_more}
 use Rattle.tac_build.proofs.Forms.{value_form}
 use Rattle.tac_simulation.proofs.Answered.{past, gave}

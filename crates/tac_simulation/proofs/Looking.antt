@@ -3,7 +3,7 @@ use Rattle.std.proofs.Common.{◌≡◌, ℕ, true, false, Some, refl, ap, ◌�
 use Rattle.std.proofs.lemmas.Bool.{true≢false}
 use Rattle.c_typed.specs.Typed.{Program}
 use Rattle.ref_semantics.specs.Values as V
-use Rattle.ref_semantics.specs.Values.{Name, Heap, Place, Scalar, IntegerValue, NullValue, FunctionValue, PointerValue, RawPointer}
+use Rattle.ref_semantics.specs.Values.{Heap, Place, Scalar, IntegerValue, NullValue, FunctionValue, PointerValue, RawPointer}
 use Rattle.ref_semantics.specs.Store as S
 use Rattle.ref_semantics.specs.Store.{offset_of, is_dead, is_dead_pointer, is_null_pointer}
 use Rattle.ref_semantics.specs.First.{around_of}

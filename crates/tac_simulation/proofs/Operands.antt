@@ -11,7 +11,7 @@ use Rattle.c_well_typed.specs.Sizes.{makes, is_storable}
 use Rattle.ref_semantics.specs.Values as V
 use Rattle.ref_semantics.specs.Values.{Scalar, IntegerValue}
 use Rattle.ref_semantics.specs.Store as S
-use Rattle.ref_semantics.specs.Store.{Outcome, Then, Stopped, Eval, ◌>>=◌, continue_with}
+use Rattle.ref_semantics.specs.Store.{Outcome, Stopped, Eval, ◌>>=◌, continue_with}
 use Rattle.ref_semantics.specs.Meaning.{Calls, value}
 use Rattle.ref_semantics.specs.First.{around_of}
 use Rattle.ref_typing.specs.Sound.{Sound}

@@ -17,7 +17,7 @@ use Rattle.c_well_typed.specs.Expressions.{type_of, is_right}
 use Rattle.c_well_typed.specs.Programs.{IsWellTyped}
 use Rattle.c_well_typed.specs.Sizes.{makes, is_storable}
 use Rattle.ref_semantics.specs.Values as V
-use Rattle.ref_semantics.specs.Values.{Scalar, IntegerValue, integer_of}
+use Rattle.ref_semantics.specs.Values.{integer_of}
 use Rattle.ref_semantics.specs.Store.{◌>>=◌, give}
 use Rattle.ref_semantics.specs.Pointers as P
 use Rattle.ref_semantics.specs.Meaning.{Calls, value, arithmetic}

@@ -18,9 +18,9 @@ use Rattle.c_well_typed.specs.Expressions.{type_of, type_of_object}
 use Rattle.c_well_typed.specs.Programs.{IsWellTyped}
 use Rattle.c_well_typed.specs.Sizes.{makes, is_storable}
 use Rattle.ref_semantics.specs.Values as V
-use Rattle.ref_semantics.specs.Values.{Place, Scalar, IntegerValue, LocalObject, object_place}
+use Rattle.ref_semantics.specs.Values.{Scalar, IntegerValue, LocalObject, object_place}
 use Rattle.ref_semantics.specs.Store as S
-use Rattle.ref_semantics.specs.Store.{Outcome, Then, Eval, ◌>>=◌, continue_with, undefined, give}
+use Rattle.ref_semantics.specs.Store.{Outcome, Then, ◌>>=◌, continue_with, undefined, give}
 use Rattle.ref_semantics.specs.Pointers.{read, write}
 use Rattle.ref_semantics.specs.Meaning as Meaning
 use Rattle.ref_semantics.specs.Meaning.{Calls, value, find, arithmetic, converted, step_result}
@@ -28,7 +28,7 @@ use Rattle.ref_semantics.specs.First.{around_of}
 use Rattle.ref_typing.specs.Keeping.{CallsKeep}
 use Rattle.c_well_typed.proofs.Splitting.{same_parts}
 use Rattle.ref_typing.proofs.Operating.{integer_scalar}
-use Rattle.tac_ir.specs.Code.{Op, Tac, Tree, Path}
+use Rattle.tac_ir.specs.Code.{Op, Tac}
 use Rattle.tac_ir.specs.Code as O
 use Rattle.tac_ir.specs.Values as M
 use Rattle.tac_ir.specs.Trees.{computes, integer_in}
@@ -36,7 +36,7 @@ use Rattle.tac_ir.specs.States.{State}
 use Rattle.tac_build.specs.Homes.{Home, Scope, register_home, is_pure}
 use Rattle.tac_build.specs.Spots.{Spot, behind, with_temporary, temporary, Lowered, AsInteger, Mode, Kept, Dropped, Behind, Row, is_used}
 use Rattle.tac_build.specs.Code as Code
-use Rattle.tac_build.specs.Code.{HasOp, Stores, AssignCode, CompoundCode, SteppingCode, compound_tree, gives_old, ValueCode, ObjectCode}
+use Rattle.tac_build.specs.Code.{HasOp, AssignCode, CompoundCode, SteppingCode, compound_tree, gives_old, ValueCode, ObjectCode}
 use Rattle.tac_build.specs.Forms.{context_of}
 use Rattle.tac_simulation.specs.Comparing.{ticks_per_unit}
 use Rattle.tac_simulation.specs.Standing.{Placement, Frame, At, ScalarStands, LoweredStands}

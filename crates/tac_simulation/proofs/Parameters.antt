@@ -6,9 +6,8 @@ use Rattle.c_typed.specs.Typed.{Block, Program}
 use Rattle.c_well_typed.specs.Expressions.{is_scalar}
 use Rattle.c_well_typed.specs.Programs.{IsWellTyped, are_scalars, function_of}
 use Rattle.ref_semantics.specs.Values as V
-use Rattle.ref_semantics.specs.Values.{Name, Place, Scalar, IntegerValue, NullValue, FunctionValue, PointerValue, RawPointer, LocalObject, object_place}
+use Rattle.ref_semantics.specs.Values.{Name, Scalar, LocalObject, object_place}
 use Rattle.ref_semantics.specs.Store as S
-use Rattle.ref_semantics.specs.Store.{continue_with, give, offset_of}
 use Rattle.ref_semantics.specs.Meaning.{Calls, Completion, Normal, bind, stored_first}
 use Rattle.ref_semantics.specs.First.{around_of}
 use Rattle.ref_typing.specs.Sound.{WasGiven, HaveTypes, Later}

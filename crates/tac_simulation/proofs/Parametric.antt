@@ -6,7 +6,7 @@ use Rattle.c_typed.specs.Typed.{Block, Program}
 use Rattle.c_well_typed.specs.Expressions.{is_scalar}
 use Rattle.c_well_typed.specs.Programs.{IsWellTyped}
 use Rattle.ref_semantics.specs.Values as V
-use Rattle.ref_semantics.specs.Values.{Name, Place, Scalar, IntegerValue, NullValue, FunctionValue, PointerValue, RawPointer, LocalObject, object_place}
+use Rattle.ref_semantics.specs.Values.{Place, Scalar, IntegerValue, NullValue, FunctionValue, PointerValue, RawPointer, LocalObject, object_place}
 use Rattle.ref_semantics.specs.Store as S
 use Rattle.ref_semantics.specs.Store.{continue_with, give, offset_of}
 use Rattle.ref_semantics.specs.Meaning.{Calls, Completion, Normal, stored_first}

@@ -13,7 +13,6 @@ use Rattle.c_well_typed.specs.Statements.{Within, is_condition, is_local, is_stm
 use Rattle.c_well_typed.specs.Programs.{IsWellTyped}
 use Rattle.c_well_typed.specs.Sizes.{makes, local_makes, stmt_makes, block_makes, is_storable}
 use Rattle.ref_semantics.specs.Values as V
-use Rattle.ref_semantics.specs.Values.{Scalar, IntegerValue}
 use Rattle.ref_semantics.specs.Store as S
 use Rattle.ref_semantics.specs.Store.{Outcome, Then, Eval, ◌>>=◌, give, continue_with}
 use Rattle.ref_semantics.specs.Meaning as Meaning
@@ -43,7 +42,7 @@ use Rattle.tac_simulation.proofs.Combining.{ticked, then_value}
 use Rattle.tac_simulation.proofs.Constants.{left_most}
 use Rattle.tac_simulation.proofs.Going.{gone, at_gone, jumps}
 use Rattle.tac_simulation.proofs.Executing
-use Rattle.tac_simulation.proofs.Executing.{left_behind, optional_units, stmt_units, block_units, AreNumbered, HaveObjects, Extends}
+use Rattle.tac_simulation.proofs.Executing.{left_behind}
 use Rattle.tac_simulation.proofs.Widens.{numbers_later, objects_before, local_widens, local_numbered, branch_widens, stmt_widens, block_widens}
 
 module _ (tac : Tac) (program : Program) (calls : Calls) (worth : ℕ) (points : List Op) (hidden : ℕ → Option V.Content) (frame : Frame)

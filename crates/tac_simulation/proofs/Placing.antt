@@ -6,7 +6,7 @@ use Rattle.c_typed.specs.Types.{CType}
 use Rattle.c_typed.specs.Typed.{Program}
 use Rattle.c_well_typed.specs.Programs.{IsWellTyped}
 use Rattle.ref_semantics.specs.Values as V
-use Rattle.ref_semantics.specs.Values.{Name, Place, Scalar, PointerValue, at_index}
+use Rattle.ref_semantics.specs.Values.{Place, Scalar, PointerValue, at_index}
 use Rattle.ref_semantics.specs.Store as S
 use Rattle.ref_semantics.specs.Store.{offset_of, is_dead, scalar_or}
 use Rattle.ref_semantics.specs.First.{around_of}

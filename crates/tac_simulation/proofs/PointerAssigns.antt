@@ -12,16 +12,16 @@ use Rattle.c_well_typed.specs.Expressions.{is_pointer_to_complete, type_of, type
 use Rattle.c_well_typed.specs.Programs.{IsWellTyped}
 use Rattle.c_well_typed.specs.Sizes.{makes, object_makes, is_storable}
 use Rattle.ref_semantics.specs.Values as V
-use Rattle.ref_semantics.specs.Values.{Place, Scalar, IntegerValue, LocalObject, object_place, integer_of}
+use Rattle.ref_semantics.specs.Values.{Scalar, LocalObject, object_place, integer_of}
 use Rattle.ref_semantics.specs.Store as S
-use Rattle.ref_semantics.specs.Store.{Outcome, Then, Eval, ◌>>=◌, continue_with, give}
+use Rattle.ref_semantics.specs.Store.{◌>>=◌, continue_with, give}
 use Rattle.ref_semantics.specs.Pointers.{read, write, added}
 use Rattle.ref_semantics.specs.Meaning.{Calls, value, find, step_amount, step_result}
 use Rattle.ref_semantics.specs.First.{around_of}
 use Rattle.ref_typing.specs.Keeping.{CallsKeep, IsElement}
 use Rattle.c_well_typed.proofs.Splitting.{first_parts, same_parts, to_complete}
 use Rattle.ref_typing.proofs.Lasting.{element_lasts}
-use Rattle.tac_ir.specs.Code.{Op, Tac, Tree, Path}
+use Rattle.tac_ir.specs.Code.{Op, Tac}
 use Rattle.tac_ir.specs.Code as O
 use Rattle.tac_ir.specs.Trees.{Registers, computes, tree_nodes}
 use Rattle.tac_ir.specs.States.{State}

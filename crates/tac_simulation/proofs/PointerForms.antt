@@ -13,7 +13,7 @@ use Rattle.c_well_typed.specs.Expressions.{is_conversion, is_pointer_to_complete
 use Rattle.c_well_typed.specs.Sizes.{makes, is_storable}
 use Rattle.c_well_typed.specs.Programs.{IsWellTyped}
 use Rattle.ref_semantics.specs.Values as V
-use Rattle.ref_semantics.specs.Values.{Name, LocalObject, Scalar, IntegerValue, NullValue, integer_of}
+use Rattle.ref_semantics.specs.Values.{LocalObject, Scalar, IntegerValue, NullValue, integer_of}
 use Rattle.ref_semantics.specs.Store as S
 use Rattle.ref_semantics.specs.Store.{Then, give, tick, ◌>>=◌}
 use Rattle.ref_semantics.specs.Pointers.{tested, repointed, added, is_equality, compared_pointers, difference}
@@ -22,7 +22,7 @@ use Rattle.ref_semantics.specs.First.{around_of}
 use Rattle.ref_typing.specs.Sound.{PointsTo, Sound}
 use Rattle.ref_typing.specs.Keeping.{CallsKeep}
 use Rattle.c_well_typed.proofs.Splitting.{other_parts, first_parts, both_parts}
-use Rattle.tac_ir.specs.Code.{Op, Tac, Tree, Held}
+use Rattle.tac_ir.specs.Code.{Op, Tac, Held}
 use Rattle.tac_ir.specs.Code as O
 use Rattle.tac_ir.specs.Values as M
 use Rattle.tac_ir.specs.Values.{Objects, OfActivation}

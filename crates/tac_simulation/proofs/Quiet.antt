@@ -16,7 +16,7 @@ use Rattle.c_well_typed.specs.Sizes.{makes, is_storable}
 use Rattle.ref_semantics.specs.Values as V
 use Rattle.ref_semantics.specs.Values.{LocalObject, Place, Scalar, IntegerValue, NullValue, FunctionValue, PointerValue, RawPointer, object_place}
 use Rattle.ref_semantics.specs.Store as S
-use Rattle.ref_semantics.specs.Store.{TypeEnvironment, Outcome, Then, Eval, premise, unless, is_dead, offset_of, size_of, scalar_or, scalar_at}
+use Rattle.ref_semantics.specs.Store.{TypeEnvironment, Outcome, Then, premise, unless, is_dead, offset_of, size_of, scalar_or, scalar_at}
 use Rattle.ref_semantics.specs.Pointers.{read, loaded}
 use Rattle.ref_semantics.specs.Meaning.{Calls, value}
 use Rattle.ref_semantics.specs.First.{around_of}
@@ -37,7 +37,7 @@ use Rattle.tac_simulation.specs.Standing.{Placement, Frame, At, HomeStands, Hold
 use Rattle.tac_simulation.proofs.Spotting.{Runs}
 use Rattle.tac_simulation.proofs.Evaluating
 use Rattle.tac_simulation.specs.Standing
-use Rattle.tac_simulation.proofs.Evaluating.{ValueDoes, AtSpot, object_units, laid_by, left_for}
+use Rattle.tac_simulation.proofs.Evaluating.{ValueDoes, object_units, laid_by}
 use Rattle.tac_simulation.proofs.Paths.{Stand, Passage as Passing, Does, comes, stops, eases, allows, bind, stray}
 use Rattle.tac_build.proofs.Forms.{value_form}
 use Rattle.tac_simulation.proofs.Leading.{found_home}

@@ -13,7 +13,7 @@ use Rattle.c_well_typed.specs.Programs.{IsWellTyped}
 use Rattle.ref_semantics.specs.Values as V
 use Rattle.ref_semantics.specs.Values.{Place, Scalar, IntegerValue, NullValue, FunctionValue, PointerValue, RawPointer, place_of, is_end}
 use Rattle.ref_semantics.specs.Store as S
-use Rattle.ref_semantics.specs.Store.{Then, Eval, premise, give, continue_with, offset_of, member_at, is_dead, is_dead_pointer, is_null_pointer}
+use Rattle.ref_semantics.specs.Store.{Then, premise, give, continue_with, offset_of, member_at, is_dead, is_dead_pointer, is_null_pointer}
 use Rattle.ref_semantics.specs.Meaning.{Calls, value}
 use Rattle.ref_semantics.specs.Pointers.{accessed}
 use Rattle.ref_semantics.specs.First.{around_of}
@@ -34,7 +34,7 @@ use Rattle.tac_simulation.specs.Standing.{Placement, Frame, IsAlive, MemoryStand
 use Rattle.tac_simulation.proofs.Paths.{Passage as Passing, Does, comes, eases, bind, allows}
 use Rattle.tac_simulation.proofs.Spotting.{Runs}
 use Rattle.tac_simulation.proofs.Evaluating
-use Rattle.tac_simulation.proofs.Evaluating.{ValueDoes, laid_by, value_units}
+use Rattle.tac_simulation.proofs.Evaluating.{ValueDoes, laid_by}
 use Rattle.tac_simulation.proofs.Combining.{ticked, then_value}
 use Rattle.tac_build.proofs.Forms.{value_form, object_form}
 use Rattle.tac_simulation.proofs.Looking.{not_dead, when_alive, living_place}

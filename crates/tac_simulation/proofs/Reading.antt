@@ -28,11 +28,11 @@ use Rattle.ref_typing.proofs.Storing.{read_keeps}
 use Rattle.ref_typing.proofs.ValuesKeep.{find_keeps}
 use Rattle.tac_ir.specs.declared.register.Register.{Register}
 use Rattle.tac_ir.specs.declared.register.Register.TheVariants as R
-use Rattle.tac_ir.specs.Code.{Op, Tac, Tree, Path, Held}
+use Rattle.tac_ir.specs.Code.{Op, Tac, Path, Held}
 use Rattle.tac_ir.specs.Code as O
 use Rattle.tac_ir.specs.Events.{TacEvent, ReadFrom, seen}
 use Rattle.tac_ir.specs.Values as M
-use Rattle.tac_ir.specs.Values.{Number, Address, OfActivation}
+use Rattle.tac_ir.specs.Values.{Number, Address}
 use Rattle.tac_ir.specs.Objects.{fits, leads, stands_at, held_at}
 use Rattle.tac_ir.specs.Trees.{Registers, integer_in, with_register}
 use Rattle.tac_ir.specs.Costs.{path_cost}
@@ -55,7 +55,7 @@ use Rattle.tac_simulation.proofs.Combining.{puts, has_come}
 use Rattle.tac_build.proofs.Forms.{value_form, object_form}
 use Rattle.tac_simulation.proofs.Accessing.{access_stands, read_stands}
 use Rattle.tac_simulation.proofs.Fitting.{stands_fits}
-use Rattle.tac_simulation.proofs.Placing.{Placed, placed}
+use Rattle.tac_simulation.proofs.Placing.{placed}
 use Rattle.tac_simulation.proofs.Placing as Placing
 use Rattle.tac_simulation.proofs.Leading.{found_home}
 use Rattle.tac_build.proofs.Named.{object_named}

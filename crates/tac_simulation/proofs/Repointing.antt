@@ -9,9 +9,9 @@ use Rattle.c_typed.specs.Layouts.{is_complete}
 use Rattle.c_typed.specs.Typed.{Program}
 use Rattle.c_well_typed.specs.Programs.{IsWellTyped}
 use Rattle.ref_semantics.specs.Values as V
-use Rattle.ref_semantics.specs.Values.{Name, Heap, LocalObject, Place, Scalar, IntegerValue, NullValue, FunctionValue, PointerValue, RawPointer, whole_row, first_of_row}
+use Rattle.ref_semantics.specs.Values.{Heap, LocalObject, Scalar, IntegerValue, NullValue, FunctionValue, PointerValue, RawPointer, whole_row, first_of_row}
 use Rattle.ref_semantics.specs.Store as S
-use Rattle.ref_semantics.specs.Store.{Then, Eval, give, premise, unless, offset_of, is_dead_pointer, scalar_or}
+use Rattle.ref_semantics.specs.Store.{Then, give, offset_of, is_dead_pointer}
 use Rattle.ref_semantics.specs.Pointers.{repointed, retyped, of_allocation}
 use Rattle.ref_semantics.specs.First.{around_of}
 use Rattle.ref_typing.specs.Rows.{size_in}

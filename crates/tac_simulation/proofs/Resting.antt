@@ -9,13 +9,13 @@ use Rattle.c_well_typed.specs.Sizes.{makes, is_storable}
 use Rattle.ref_semantics.specs.Values as V
 use Rattle.ref_semantics.specs.Values.{Scalar}
 use Rattle.ref_semantics.specs.Store as S
-use Rattle.ref_semantics.specs.Store.{Outcome, Then, Eval, continue_with}
+use Rattle.ref_semantics.specs.Store.{Outcome, Eval, continue_with}
 use Rattle.ref_semantics.specs.Meaning.{Calls, value}
 use Rattle.ref_semantics.specs.First.{around_of}
 use Rattle.ref_typing.specs.Sound.{HasType}
 use Rattle.ref_typing.specs.Keeping.{Keeps, CallsKeep}
 use Rattle.ref_typing.proofs.ValuesKeep.{value_keeps}
-use Rattle.tac_ir.specs.Code.{Op, Tac, Tree, Held}
+use Rattle.tac_ir.specs.Code.{Op, Tac, Tree}
 use Rattle.tac_ir.specs.Code as O
 use Rattle.tac_ir.specs.Values.{Number}
 use Rattle.tac_ir.specs.Trees.{Registers, computes, integer_in, tree_nodes}

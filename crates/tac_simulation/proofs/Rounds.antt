@@ -10,11 +10,11 @@ use Rattle.c_well_typed.specs.Statements.{Within, in_loop, if_any, is_expression
 use Rattle.c_well_typed.specs.Programs.{IsWellTyped}
 use Rattle.c_well_typed.specs.Sizes.{any_makes, start_makes, stmt_makes, is_storable}
 use Rattle.ref_semantics.specs.Values as V
-use Rattle.ref_semantics.specs.Values.{Scalar, IntegerValue}
+use Rattle.ref_semantics.specs.Values.{Scalar}
 use Rattle.ref_semantics.specs.Store as S
-use Rattle.ref_semantics.specs.Store.{Outcome, Then, Eval, ◌>>=◌, continue_with, give}
+use Rattle.ref_semantics.specs.Store.{Outcome, Eval, ◌>>=◌, give}
 use Rattle.ref_semantics.specs.Meaning as Meaning
-use Rattle.ref_semantics.specs.Meaning.{Calls, Completion, Normal, Break, Continue, Return, turns, loop, after_body, for_step, leave, scoped, value, stmt, holds, optional_value}
+use Rattle.ref_semantics.specs.Meaning.{Calls, Completion, Normal, loop, after_body, for_step, leave, scoped, value, stmt, holds, optional_value}
 use Rattle.ref_semantics.specs.First.{around_of}
 use Rattle.ref_typing.specs.Sound.{Sound}
 use Rattle.ref_typing.specs.Keeping.{CallsKeep}
@@ -36,9 +36,8 @@ use Rattle.tac_simulation.proofs.Combining.{ticked}
 use Rattle.tac_simulation.proofs.Going.{gone}
 use Rattle.tac_simulation.proofs.Widening.{Wider, wider_same, wider_then, wider_behind, have_before, numbered_behind, start_numbered, test_wider, step_wider, stmt_wider}
 use Rattle.tac_simulation.proofs.Executing.{optional_units, start_units, stmt_units, left_behind, AreNumbered, Executes, LeavesWithin, Starts}
-use Rattle.tac_simulation.proofs.Statements.{After, some_type, nested, counted, ends_with}
+use Rattle.tac_simulation.proofs.Statements.{some_type, nested, counted}
 use Rattle.tac_simulation.proofs.Statements
-use Rattle.tac_simulation.proofs.Turns.{at_head}
 use Rattle.tac_simulation.proofs.Turns
 
 -- ---- what is in scope behind the start

@@ -16,9 +16,9 @@ use Rattle.c_well_typed.specs.Statements.{in_switch, is_label, is_condition, is_
 use Rattle.c_well_typed.specs.Programs.{IsWellTyped}
 use Rattle.c_well_typed.specs.Sizes.{makes, stmt_makes, items_make, is_storable}
 use Rattle.ref_semantics.specs.Values as V
-use Rattle.ref_semantics.specs.Values.{Scalar, IntegerValue, integer_of}
+use Rattle.ref_semantics.specs.Values.{integer_of}
 use Rattle.ref_semantics.specs.Store as S
-use Rattle.ref_semantics.specs.Store.{Outcome, Then, Eval, ◌>>=◌, continue_with, give}
+use Rattle.ref_semantics.specs.Store.{Then, Eval, ◌>>=◌, give}
 use Rattle.ref_semantics.specs.Meaning.{Calls, Completion, Normal, Break, Continue, Return, Entry, NoEntry, At, later_entry, default_at, case_at, entry_or, broken_out, block_rest, switch_from, value}
 use Rattle.ref_semantics.specs.First.{around_of}
 use Rattle.ref_typing.specs.Keeping.{CallsKeep}

@@ -10,9 +10,9 @@ use Rattle.c_typed.specs.Typed.{Program, GlobalDef, LiteralDef}
 use Rattle.c_well_typed.specs.Expressions.{is_scalar}
 use Rattle.c_well_typed.specs.Programs.{IsWellTyped}
 use Rattle.ref_semantics.specs.Values as V
-use Rattle.ref_semantics.specs.Values.{Name, Heap, GlobalObject, LiteralObject, LocalObject, Place, Scalar, PointerValue, same_name}
+use Rattle.ref_semantics.specs.Values.{Name, Heap, GlobalObject, LiteralObject, LocalObject, Place, Scalar, same_name}
 use Rattle.ref_semantics.specs.Store as S
-use Rattle.ref_semantics.specs.Store.{Outcome, Then, Stopped, Eval, continue_with, undefined, offset_of, is_dead, scalar_at}
+use Rattle.ref_semantics.specs.Store.{Outcome, Then, Eval, continue_with, undefined, offset_of, is_dead, scalar_at}
 use Rattle.ref_semantics.specs.Pointers as P
 use Rattle.ref_semantics.specs.Pointers.{read, write, loaded}
 use Rattle.ref_semantics.specs.First.{around_of}

@@ -22,7 +22,7 @@ use Rattle.c_well_typed.specs.Sizes.{makes, object_makes, is_storable}
 use Rattle.ref_semantics.specs.Values as V
 use Rattle.ref_semantics.specs.Values.{Place, Scalar, IntegerValue}
 use Rattle.ref_semantics.specs.Store as S
-use Rattle.ref_semantics.specs.Store.{Outcome, Then, Eval, ◌>>=◌, continue_with, undefined, give}
+use Rattle.ref_semantics.specs.Store.{Outcome, Then, ◌>>=◌, continue_with, undefined, give}
 use Rattle.ref_semantics.specs.Pointers.{read, write}
 use Rattle.ref_semantics.specs.Meaning as Meaning
 use Rattle.ref_semantics.specs.Meaning.{Calls, value, find, arithmetic, converted, step_result}

@@ -26,7 +26,7 @@ use Rattle.ref_typing.proofs.Lasting.{element_lasts}
 use Rattle.tac_ir.specs.declared.program.Counts.{Counts}
 use Rattle.tac_ir.specs.declared.register.Register.{Register}
 use Rattle.tac_ir.specs.declared.register.Register.TheVariants as R
-use Rattle.tac_ir.specs.Code.{Op, Tac, Tree, Path}
+use Rattle.tac_ir.specs.Code.{Op, Tac, Path}
 use Rattle.tac_ir.specs.Code as O
 use Rattle.tac_ir.specs.Values as M
 use Rattle.tac_ir.specs.Trees.{Registers, with_register, same_register, integer_in}

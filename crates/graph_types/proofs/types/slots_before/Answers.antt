@@ -1,4 +1,4 @@
-use Rattle.std.proofs.Common.{refl, ap, ◌∙◌}
+use Rattle.std.proofs.Common.{ap, ◌∙◌}
 use Rattle.c_typed.specs.Types.{CType}
 use Rattle.c_typed.specs.Table.{structs_in, type_in}
 use Rattle.heap_graph.specs.Targets.{slots_before}

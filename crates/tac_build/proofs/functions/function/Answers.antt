@@ -1,4 +1,4 @@
-use Rattle.std.proofs.Common.{◌≡◌, ◌<◌, true, Some, [], length, map, slice_get, refl, sym, ap, ◌∙◌, subst, arith}
+use Rattle.std.proofs.Common.{◌≡◌, true, Some, [], length, map, refl, sym, ap, ◌∙◌, subst, arith}
 use Rattle.c_typed.specs.Table.{type_in}
 use Rattle.c_typed.specs.StatementViews.{block_in}
 use Rattle.c_typed.specs.DefinitionViews.{TypesStand}

@@ -1,4 +1,4 @@
-use Rattle.std.proofs.Common.{◌≡◌, ◌≤◌, true, Some, map, sym, ap, ◌∙◌, subst}
+use Rattle.std.proofs.Common.{◌≡◌, ◌≤◌, true, Some, map, sym, ap, subst}
 use Rattle.std.specs.Prelude.{is_some, codes}
 use Rattle.c_typed.specs.declared.definition.Program as memory_program
 use Rattle.c_typed.specs.Table.{structs_in}

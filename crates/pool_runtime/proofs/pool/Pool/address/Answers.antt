@@ -5,7 +5,7 @@ use Rattle.pool_runtime.specs.Lookup.{IsSized}
 use Rattle.pool_runtime.proofs.Places.{run_inside, place_high}
 use Rattle.pool_runtime.proofs.Addresses.{cell_addressed, none_addressed}
 use Rattle.pool_runtime.proofs.pool.Pool.address.Goals as goal
-use Rattle.pool_runtime.proofs.pool.Pool.address.Goals.{Then-number-made, Else-number-made, After-place}
+use Rattle.pool_runtime.proofs.pool.Pool.address.Goals.{Else-number-made}
 
 pub returns-then-number-made : goal.returns-then-number-made
 returns-then-number-made c = λ bytes.

@@ -1,7 +1,7 @@
 use Rattle.std.proofs.Common.{◌<◌, ◌≤◌, length, refl, sym, ap, subst, ◌∙◌, arith}
 use Rattle.std.specs.Prelude.{slice_index_or}
 use Rattle.slab_space.specs.Runs.{need}
-use Rattle.slab_space.specs.Pool.{has_room, no_cells, cells_per_run}
+use Rattle.slab_space.specs.Pool.{has_room, no_cells}
 use Rattle.slab_space.specs.Pool as seen
 use Rattle.pool_runtime.specs.Seen.{class_seen, pool_seen}
 use Rattle.pool_runtime.proofs.Places.{some_per_run}

@@ -1,4 +1,4 @@
-use Rattle.std.proofs.Common.{rules, ◌≡◌, suc, true, Some, refl, sym, ap, subst, ◌∙◌, false, IfOk, not, ℕ, Bool, ◌||◌, is_some, OnOk, ◌+◌, List, drop, add-one, arith}
+use Rattle.std.proofs.Common.{rules, ◌≡◌, suc, true, Some, refl, sym, ap, subst, ◌∙◌, false, IfOk, not, ℕ, Bool, ◌||◌, is_some, ◌+◌, List, drop, add-one, arith}
 use Rattle.c_typed.specs.declared.typed.Value.{the_lemmas as value_lemmas}
 use Rattle.c_typed.specs.Types.{CTypes, is_integer, is_pointer}
 use Rattle.c_typed.specs.Table.{Stands, type_in}
@@ -26,11 +26,9 @@ use Rattle.tac_build.proofs.ObjectLowering.{pure_here, room_first as object_lowe
 use Rattle.tac_build.specs.Code.{ObjectCode, function_number}
 use Rattle.tac_build.proofs.Forms.{object_form}
 use Rattle.tac_build.proofs.ObjectForms.{object_found, place_stands as object_forms_place_stands}
-use Rattle.c_typed.specs.declared.typed.Object.{the_lemmas as object_lemmas}
 use Rattle.tac_ir.specs.First.{named_global}
 use Rattle.tac_build.proofs.builder.Builder.+values.Goals.{object-then-is_followed, object-else-is_followed}
 use Rattle.std.specs.Prelude.{is_some, true, ◌≡◌}
-use Rattle.c_typed.specs.declared.typed.Designator.{the_lemmas as designator_lemmas}
 use Rattle.tac_build.proofs.Calling.{named_is, named_there, named_code, named_adds, grouped_is as calling_grouped_is, grouped_typed as calling_grouped_typed, grouped_lives as calling_grouped_lives, grouped_room, grouped_code as calling_grouped_code, grouped_adds, pointed_is as calling_pointed_is, pointed_typed as calling_pointed_typed, pointed_lives as calling_pointed_lives, pointed_room, pointed_kind, pointed_code as calling_pointed_code, pointed_adds, through_is, through_typed, through_lives, through_room, through_kind, through_pointer_code, through_adds, passes_none, passes_one, passes_typed, passes_lives, passes_room, passes_kind, passes_more, passes_all, passes_adds, only_item, no_item, library_many, library_typed as calling_library_typed, library_lives as calling_library_lives, library_room, library_adds, library_takes, library_code, getchar_code}
 use Rattle.std.proofs.lemmas.List.{drop_all}
 use Rattle.tac_ir.specs.declared.register.Register.{Register}

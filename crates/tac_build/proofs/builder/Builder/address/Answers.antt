@@ -1,8 +1,6 @@
-use Rattle.std.proofs.Common.{Some, ◌∙◌, if◌then◌else◌}
 use Rattle.tac_ir.specs.declared.op.Op.TheVariants as M
 use Rattle.tac_ir.specs.Code as C
-use Rattle.c_typed.specs.Table.{type_in}
-use Rattle.tac_ir.specs.Views.{tree_of, path_in, scalar_in, operand_of}
+use Rattle.tac_ir.specs.Views.{path_in}
 use Rattle.tac_build.proofs.Points.{gives_pointer}
 use Rattle.tac_build.proofs.builder.Builder.address.Goals as goal
 

@@ -1,6 +1,5 @@
 use Rattle.tac_ir.specs.declared.op.Op.TheVariants as M
 use Rattle.tac_ir.specs.Code as C
-use Rattle.c_typed.specs.Table.{type_in}
 use Rattle.c_num.specs.declared.IntType.TheVariants as I
 use Rattle.tac_build.proofs.Points.{gives_integer}
 use Rattle.tac_build.proofs.builder.Builder.compare_pointers.Goals as goal

@@ -1,5 +1,5 @@
-use Rattle.std.proofs.Common.{◌≡◌, ◌+◌, Bool, true, List, [], ◌∷◌, ◌++◌, Some, length, slice_get, refl, sym, ap, ◌∙◌, subst, arith}
-use Rattle.c_typed.specs.Table.{Interned, Stands, type_in}
+use Rattle.std.proofs.Common.{◌+◌, Bool, true, List, [], ◌∷◌, ◌++◌, sym, ◌∙◌, subst, arith}
+use Rattle.c_typed.specs.Table.{Stands, type_in}
 use Rattle.c_typed.specs.Views.{value_in}
 use Rattle.c_typed.specs.StatementViews.{local_in}
 use Rattle.tac_build.specs.declared.lowered.Mode.TheVariants as N
@@ -10,7 +10,7 @@ use Rattle.tac_build.specs.StatementCode as codes
 use Rattle.tac_build.specs.Building.{lowered_in, home_in, IsScalarType, LeadsIn}
 use Rattle.tac_build.specs.Lowering.{types_of_source, scope_of, IsScope, ValueTyped, ValueLives, ValueLowers}
 use Rattle.tac_build.proofs.Points.{on_ok_then, grows_on, grows_equal}
-use Rattle.tac_build.proofs.Declaring.{new_home_in, new_stands, new_scope, new_lie, FirstTyped, first_typed, scalar_type, first_scalar, first_lives, first_room, first_adds, home_adds, home_spot, begin_keeps, first_keeps, home_counts, none_lowers, first_lowers, on_ok_two, home_room}
+use Rattle.tac_build.proofs.Declaring.{new_home_in, new_stands, new_scope, new_lie, first_typed, scalar_type, first_scalar, first_lives, first_room, first_adds, home_adds, home_spot, begin_keeps, first_keeps, home_counts, none_lowers, first_lowers, on_ok_two, home_room}
 use Rattle.tac_build.proofs.builder.Builder.declare.Goals as goal
 
 pub new_home-home-requires-clause-stands : goal.new_home-home-requires-clause-stands

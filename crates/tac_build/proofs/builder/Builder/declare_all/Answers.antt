@@ -1,4 +1,4 @@
-use Rattle.std.proofs.Common.{◌≡◌, ◌+◌, List, [], ◌∷◌, drop, subst, sym, arith}
+use Rattle.std.proofs.Common.{◌+◌, List, [], ◌∷◌, drop, subst, arith}
 use Rattle.c_typed.specs.declared.statement.LocalDef as memory_local
 use Rattle.tac_build.proofs.LocalsSoFar.{LocalsSoFar, drop_next, drop_past, locals_begin, locals_at, local_typed, local_lives, local_own, local_room, locals_turn, locals_lower, locals_depth, locals_add, locals_count}
 use Rattle.tac_build.proofs.builder.Builder.declare_all.Goals as goal

@@ -1,4 +1,4 @@
-use Rattle.std.proofs.Common.{◌≡◌, Some, None, sym, ◌∙◌}
+use Rattle.std.proofs.Common.{Some, None, sym, ◌∙◌}
 use Rattle.std.specs.Prelude.{pos}
 use Rattle.tac_ir.specs.declared.op.Op.TheVariants as M
 use Rattle.tac_ir.specs.declared.op.Operand.TheVariants as P

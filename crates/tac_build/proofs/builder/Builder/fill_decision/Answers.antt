@@ -1,8 +1,7 @@
 use Rattle.std.proofs.Common.{Some, ◌∙◌, if◌then◌else◌}
 use Rattle.tac_ir.specs.declared.op.Op.TheVariants as M
 use Rattle.tac_ir.specs.Code as C
-use Rattle.c_typed.specs.Table.{type_in}
-use Rattle.tac_ir.specs.Views.{tree_of, path_in, scalar_in, operand_of}
+use Rattle.tac_ir.specs.Views.{tree_of}
 use Rattle.tac_build.proofs.builder.Builder.fill_decision.Goals as goal
 
 pub returns-clause-code : goal.returns-clause-code

@@ -1,6 +1,5 @@
 use Rattle.tac_ir.specs.declared.op.Op.TheVariants as M
 use Rattle.tac_ir.specs.Code as C
-use Rattle.c_typed.specs.Table.{type_in}
 use Rattle.tac_build.proofs.Points.{gives_pointer}
 use Rattle.tac_build.proofs.builder.Builder.null.Goals as goal
 

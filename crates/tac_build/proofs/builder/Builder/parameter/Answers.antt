@@ -1,4 +1,4 @@
-use Rattle.std.proofs.Common.{◌≡◌, refl, sym, ap, ◌∙◌, subst}
+use Rattle.std.proofs.Common.{◌≡◌, sym, ◌∙◌, subst}
 use Rattle.c_typed.specs.Table.{Stands, type_in}
 use Rattle.tac_ir.specs.Code as C
 use Rattle.tac_ir.specs.Views.{path_in, scalar_in, operand_of}

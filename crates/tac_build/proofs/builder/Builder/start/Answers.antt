@@ -1,11 +1,11 @@
-use Rattle.std.proofs.Common.{◌≡◌, ◌+◌, false, List, [], ◌∷◌, ◌++◌, map, refl, sym, ap, ◌∙◌, subst}
+use Rattle.std.proofs.Common.{false, List, [], ◌∷◌, map, sym, ap, ◌∙◌, subst}
 use Rattle.std.proofs.lemmas.List.{append-nil}
 use Rattle.c_typed.specs.Typed as T
 use Rattle.c_typed.specs.StatementViews.{local_in, LocalsStand, StartStands, start_in}
 use Rattle.c_typed.specs.Views.{value_in}
 use Rattle.tac_build.specs.Homes.{takes}
 use Rattle.tac_build.specs.Lowering.{types_of_source, scope_of, IsScope, LieInMemory, ValueTyped}
-use Rattle.tac_build.specs.LoweringStatements.{EffectLowers, LocalsLower}
+use Rattle.tac_build.specs.LoweringStatements.{EffectLowers}
 use Rattle.tac_build.proofs.Points.{on_ok_then, grows_same}
 use Rattle.tac_build.proofs.Starting.{nothing_lowers, nothing_depth, nothing_adds, nothing_declares, expression_typed, expression_lives, expression_room, expression_lowers, expression_depth, expression_adds, expression_declares, locals_typed, locals_lives, locals_told, locals_room, locals_lowers, locals_behind, locals_adds, locals_declare}
 use Rattle.tac_build.proofs.builder.Builder.start.Goals as goal

@@ -1,13 +1,11 @@
-use Rattle.std.proofs.Common.{◌≡◌, Some, ap, ◌∙◌, length, subst, refl}
+use Rattle.std.proofs.Common.{Some, ◌∙◌}
 use Rattle.tac_ir.specs.declared.op.Op.TheVariants as M
 use Rattle.tac_ir.specs.Code as C
-use Rattle.c_typed.specs.Table.{type_in}
-use Rattle.tac_ir.specs.Views.{tree_of, path_in, scalar_in, operand_of}
-use Rattle.c_typed.specs.Types.{Integer}
+use Rattle.tac_ir.specs.Views.{tree_of}
 use Rattle.tac_build.specs.Spots.{behind, with_temporary, AsInteger}
-use Rattle.tac_build.specs.Code.{HasOp, compound_tree}
-use Rattle.tac_build.specs.Building.{spot_of, points_in}
-use Rattle.tac_build.proofs.Points.{emits_as, if_ok, on_ok, grows_on, grows_equal, fills_grown, named_then, emits_from}
+use Rattle.tac_build.specs.Code.{compound_tree}
+use Rattle.tac_build.specs.Building.{spot_of}
+use Rattle.tac_build.proofs.Points.{if_ok, on_ok, grows_on, grows_equal, fills_grown, named_then, emits_from}
 use Rattle.tac_build.proofs.builder.Builder.step_behind.Goals as goal
 
 pub returns-clause-code : goal.returns-clause-code

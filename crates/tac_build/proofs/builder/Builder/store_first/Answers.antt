@@ -1,4 +1,4 @@
-use Rattle.std.proofs.Common.{◌≡◌, refl, sym, ap, ◌∙◌, subst}
+use Rattle.std.proofs.Common.{refl, sym, ap, subst}
 use Rattle.tac_ir.specs.declared.op.Operand.TheVariants as P
 use Rattle.tac_ir.specs.Code.{IntegerOperand}
 use Rattle.tac_ir.specs.Views.{tree_of, operand_of}

@@ -2,7 +2,7 @@ use Rattle.std.proofs.Common.{IfOk, subst, sym}
 use Rattle.c_typed.specs.Types.{Integer}
 use Rattle.tac_ir.specs.Views.{tree_of, path_in}
 use Rattle.tac_build.specs.declared.objects.Target.TheVariants as Targets
-use Rattle.tac_build.specs.Spots.{behind, with_temporary, temporary, AsInteger}
+use Rattle.tac_build.specs.Spots.{temporary, AsInteger}
 use Rattle.tac_build.specs.Code.{Stores, compound_tree}
 use Rattle.tac_build.specs.Building.{lowered_in, spot_of, Lowers, UpdatesTarget}
 use Rattle.tac_build.proofs.Points.{if_on_ok, on_ok_then, grows_on, fills_grown}
