@@ -1,5 +1,5 @@
 -- In a graph that is only read the edges of each node stand in the order of their slots.
-use Rattle.std.proofs.Common.{◌≡◌, ℕ, List, [], ◌∷◌, Option, Some, None, ap, subst, ◌∙◌}
+use Rattle.std.proofs.Common.{ℕ, List, [], ◌∷◌, Option, Some, None, ap, subst, ◌∙◌}
 use Rattle.tac_ir.specs.declared.register.FunctionId.{FunctionId}
 use Rattle.heap_graph.specs.Graphs.{Node, Graph, node_at}
 use Rattle.frozen_graphs.specs.declared.frozen.Edge as memory_edge

@@ -29,6 +29,7 @@ use Rattle.graph_premises.proofs.Fitting.{found_below}
 use Rattle.function_groups.specs.GroupViews.{groups_of}
 use Rattle.inner_calls.specs.Members.{is_numbered}
 use Rattle.made_groups.specs.Made.{AreClassesOne}
+use Rattle.group_statics.specs.declared.statics.GroupStatics.{GroupStatics}
 use Rattle.group_crossings.specs.declared.live.LiveTargets.{LiveTargets}
 use Rattle.group_crossings.specs.Before.{GraphsBefore, IsReached, is_inside, is_out}
 use Rattle.group_crossings.specs.Crossings.{AllReached}
@@ -223,14 +224,14 @@ module _ (before after : GraphsBefore) (number : ℕ) (members : List FunctionId
       ∙ adds.own place member at
 
 -- what was made, with other graphs and lists
-abbrev with_lists : GraphsBefore → List FrozenGraph → List FunctionGraph → List (List ℕ) → LiveTargets → GraphsBefore
-with_lists before graphs functions escaping live = record { tac = before.tac; groups = before.groups; graphs = graphs; functions = functions; escaping = escaping; live = live }
+abbrev with_lists : GraphsBefore → List FrozenGraph → List FunctionGraph → List (List ℕ) → LiveTargets → List GroupStatics → GraphsBefore
+with_lists before graphs functions escaping live statics = record { tac = before.tac; groups = before.groups; graphs = graphs; functions = functions; escaping = escaping; live = live; statics = statics }
 
-module _ (before : GraphsBefore) (graphs : List FrozenGraph) (own : List FunctionGraph) (escaping : List (List ℕ)) (live : LiveTargets) (number : ℕ) (members : List FunctionId) (begun : Graph) (graph : FrozenGraph) (functions : List FunctionGraph)
+module _ (before : GraphsBefore) (graphs : List FrozenGraph) (own : List FunctionGraph) (escaping : List (List ℕ)) (live : LiveTargets) (statics : List GroupStatics) (number : ℕ) (members : List FunctionId) (begun : Graph) (graph : FrozenGraph) (functions : List FunctionGraph)
     (grouped : IsGrouped before.tac before.groups) (making : IsMaking before number) (row : slice_get (groups_of before.groups) number ≡ Some (numbers_of members))
-    (assembled : IsAssembled before (Some number) (map Some members) begun graph functions) (adds : AddsGroup before (with_lists before graphs own escaping live) members graph functions) where
+    (assembled : IsAssembled before (Some number) (map Some members) begun graph functions) (adds : AddsGroup before (with_lists before graphs own escaping live statics) members graph functions) where
   abbrev made : GraphsBefore
-  made = with_lists before graphs own escaping live
+  made = with_lists before graphs own escaping live statics
 
   begins_still : (all : ProgramGraphs) → BeginsWith made (suc number) all → BeginsWith before number all
   begins_still = begins_before before made number members graph functions grouped row making.graphs adds
@@ -317,10 +318,10 @@ pub making_grows : (before after : GraphsBefore) (number : ℕ) (members : List 
     → IsMaking after (suc number)
 making_grows before after number members begun graph functions grouped making row assembled adds closes =
     subst (λ made. IsMaking made (suc number)) (sym same)
-    (grows before after.graphs after.functions after.escaping after.live number members begun graph functions grouped making row assembled (subst (λ made. AddsGroup before made members graph functions) same adds)
+    (grows before after.graphs after.functions after.escaping after.live after.statics number members begun graph functions grouped making row assembled (subst (λ made. AddsGroup before made members graph functions) same adds)
     (subst
     (λ (made : GraphsBefore). (all : ProgramGraphs) → BeginsWith made (suc number) all → GroupClosed (family_at made all) number × AreClassesOne (family_at made all) (is_inside made.groups (Some number)))
     same closes))
   where
-    same : after ≡ with_lists before after.graphs after.functions after.escaping after.live
-    same = λ i. record { tac = adds.tac i; groups = adds.groups i; graphs = after.graphs; functions = after.functions; escaping = after.escaping; live = after.live }
+    same : after ≡ with_lists before after.graphs after.functions after.escaping after.live after.statics
+    same = λ i. record { tac = adds.tac i; groups = adds.groups i; graphs = after.graphs; functions = after.functions; escaping = after.escaping; live = after.live; statics = after.statics }

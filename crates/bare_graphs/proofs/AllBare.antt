@@ -15,6 +15,7 @@ use Rattle.program_graphs.specs.declared.program.ProgramGraphs as memory_graphs
 use Rattle.program_graphs.proofs.GroupNumbers.{stands, is_then_in}
 use Rattle.function_groups.specs.GroupViews.{groups_of}
 use Rattle.reached_nodes.specs.Complete.{numbers}
+use Rattle.group_statics.specs.declared.statics.GroupStatics.{GroupStatics}
 use Rattle.group_crossings.specs.declared.live.LiveTargets.{LiveTargets}
 use Rattle.group_crossings.specs.Before.{GraphsBefore}
 use Rattle.assembled_groups.specs.Assembled.{IsAssembled}
@@ -32,8 +33,8 @@ use Rattle.bare_graphs.proofs.StartBare.{start_bare}
 
 -- ---- group after group
 
-abbrev with_lists : GraphsBefore → List FrozenGraph → List FunctionGraph → List (List ℕ) → LiveTargets → GraphsBefore
-with_lists before graphs functions escaping live = record { tac = before.tac; groups = before.groups; graphs = graphs; functions = functions; escaping = escaping; live = live }
+abbrev with_lists : GraphsBefore → List FrozenGraph → List FunctionGraph → List (List ℕ) → LiveTargets → List GroupStatics → GraphsBefore
+with_lists before graphs functions escaping live statics = record { tac = before.tac; groups = before.groups; graphs = graphs; functions = functions; escaping = escaping; live = live; statics = statics }
 
 module _ (before : GraphsBefore) (start : (tac_of before.tac).start.parameters ≡ 0) (grouped : IsGrouped before.tac before.groups) (number : ℕ) (making : IsMaking before number) (begun : Graph) (graph : FrozenGraph)
     (functions : List FunctionGraph) where
@@ -41,9 +42,9 @@ module _ (before : GraphsBefore) (start : (tac_of before.tac).start.parameters �
   some_function : slice_get (groups_of before.groups) number ≡ Some [] → ⊥
   some_function row = let at = stands (groups_of before.groups) number [] row in grouped.groups.ascending at.before at.after [] at.is
 
-  module _ (least : AreLeast before number) (bare : AreBare before number) (graphs : List FrozenGraph) (known : List FunctionGraph) (escaping : List (List ℕ)) (live : LiveTargets) where
+  module _ (least : AreLeast before number) (bare : AreBare before number) (graphs : List FrozenGraph) (known : List FunctionGraph) (escaping : List (List ℕ)) (live : LiveTargets) (statics : List GroupStatics) where
     abbrev after : GraphsBefore
-    after = with_lists before graphs known escaping live
+    after = with_lists before graphs known escaping live statics
 
     grows : (members : List FunctionId) → slice_get (groups_of before.groups) number ≡ Some (numbers_of members) → IsAssembled before (Some number) (map Some members) begun graph functions
         → IsBegun before (Some number) (map Some members) begun → AddsGroup before after members graph functions → IsMaking after (suc number) → (all : memory_graphs.ProgramGraphs) → BeginsWith after (suc number) all
@@ -74,10 +75,10 @@ module _ (before : GraphsBefore) (start : (tac_of before.tac).start.parameters �
       → AreBare after (suc number)
   bare_grows members row assembled begins_so after adds grown least bare =
       subst (λ made. AreBare made (suc number)) (sym same)
-      (all_grow least bare after.graphs after.functions after.escaping after.live members row assembled begins_so (subst (λ made. AddsGroup before made members graph functions) same adds) (subst (λ made. IsMaking made (suc number)) same grown))
+      (all_grow least bare after.graphs after.functions after.escaping after.live after.statics members row assembled begins_so (subst (λ made. AddsGroup before made members graph functions) same adds) (subst (λ made. IsMaking made (suc number)) same grown))
     where
-      same : after ≡ with_lists before after.graphs after.functions after.escaping after.live
-      same = λ i. record { tac = adds.tac i; groups = adds.groups i; graphs = after.graphs; functions = after.functions; escaping = after.escaping; live = after.live }
+      same : after ≡ with_lists before after.graphs after.functions after.escaping after.live after.statics
+      same = λ i. record { tac = adds.tac i; groups = adds.groups i; graphs = after.graphs; functions = after.functions; escaping = after.escaping; live = after.live; statics = after.statics }
 
 -- no group has its graph yet
 pub bare_begins : (before : GraphsBefore) → AreBare before 0

@@ -139,7 +139,8 @@ impl Classes {
     }
 }
 
-fn functions(alloc: Global, numbers: &[usize]) -> Result<Vec<FunctionId>, AllocError>
+/// The functions that have these numbers.
+pub fn functions(alloc: Global, numbers: &[usize]) -> Result<Vec<FunctionId>, AllocError>
     ensures { IfOk result (λ made. numbers_of made.items ≡ numbers.now) }
 {
     let mut functions = Vec::new(alloc);

@@ -1,6 +1,6 @@
 // The types of the functions whose address is taken.
 
-ghost use Rattle.std.specs.Prelude.{◌≡◌, length, IfOk};
+ghost use Rattle.std.specs.Prelude.{IfOk};
 ghost use Rattle.tac_ir.specs.Views.{tac_of};
 ghost use Rattle.call_targets.specs.TakenLists.{TellsTaken};
 ghost use Rattle.call_targets.specs.ClassLists.{AreKeys};

@@ -8,4 +8,4 @@ mod function_keys;
 mod names;
 mod taken;
 
-pub use class_table::Classes;
+pub use class_table::{Classes, functions};

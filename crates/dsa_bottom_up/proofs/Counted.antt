@@ -14,7 +14,7 @@ use Rattle.least_graphs.proofs.Mapped.{none_below, below_more}
 use Rattle.bare_graphs.specs.Bare.{AreBare}
 use Rattle.bare_graphs.proofs.AllBare.{bare_begins}
 use Rattle.dsa_bottom_up.specs.declared.making.Making.{Making}
-use Rattle.dsa_bottom_up.specs.Making.{made_in, AreLiveBelow}
+use Rattle.dsa_bottom_up.specs.Making.{made_in, AreKeptBelow}
 use Rattle.dsa_bottom_up.specs.Refused.{limit, AreFew, GroupCounts, StartCounts, IsRefused, in_group, in_start}
 use Rattle.dsa_bottom_up.proofs.ClosedSoFar.{closed_so_far}
 
@@ -26,7 +26,7 @@ all_so_far making = record { graphs = making.graphs; functions = making.function
 -- closed below this number, or a smaller one, and no flag can be taken away.
 pub record SoFar (tac : memory_tac.Tac) (groups : Groups) (counts : List ℕ) (making : Making) (number : ℕ) : Type 0 where
   pub made : IsMaking (made_in tac groups making) number
-  pub live : AreLiveBelow (made_in tac groups making) number
+  pub kept : AreKeptBelow (made_in tac groups making) number
   pub few : (all : ProgramGraphs) → BeginsWith (made_in tac groups making) number all → AreFew (family_at (made_in tac groups making) all) counts number
   pub least : (tac_of tac).start.parameters ≡ 0 → AreLeast (made_in tac groups making) number
   pub below : (tac_of tac).start.parameters ≡ 0 → (all : ProgramGraphs) → BeginsWith (made_in tac groups making) number all → LeastBelow (family_at (made_in tac groups making) all) number
@@ -36,18 +36,18 @@ module _ (tac : memory_tac.Tac) (groups : Groups) (counts : List ℕ) where
   pub begins_itself : (making : Making) (number : ℕ) → IsMaking (made_in tac groups making) number → BeginsWith (made_in tac groups making) number (all_so_far making)
   begins_itself making number made = record { functions = made.functions; graphs = λ at less. refl; own = λ called group is less. refl }
 
-  pub none_so_far : (making : Making) → IsMaking (made_in tac groups making) 0 → AreLiveBelow (made_in tac groups making) 0 → SoFar tac groups counts making 0
-  none_so_far making made live = record { made = made; live = live; few = λ all begins at less. absurd (omega (arith, less)); least = λ start. least_begins (made_in tac groups making); below = λ start all begins. none_below (family_at (made_in tac groups making) all); bare = λ start. bare_begins (made_in tac groups making) }
+  pub none_so_far : (making : Making) → IsMaking (made_in tac groups making) 0 → AreKeptBelow (made_in tac groups making) 0 → SoFar tac groups counts making 0
+  none_so_far making made kept = record { made = made; kept = kept; few = λ all begins at less. absurd (omega (arith, less)); least = λ start. least_begins (made_in tac groups making); below = λ start all begins. none_below (family_at (made_in tac groups making) all); bare = λ start. bare_begins (made_in tac groups making) }
 
   -- one group more
-  pub one_more : (old new : Making) (number : ℕ) → SoFar tac groups counts old number → IsMaking (made_in tac groups new) (suc number) → AreLiveBelow (made_in tac groups new) (suc number)
+  pub one_more : (old new : Making) (number : ℕ) → SoFar tac groups counts old number → IsMaking (made_in tac groups new) (suc number) → AreKeptBelow (made_in tac groups new) (suc number)
       → ((all : ProgramGraphs) → BeginsWith (made_in tac groups new) (suc number) all → BeginsWith (made_in tac groups old) number all)
       → ((all : ProgramGraphs) → BeginsWith (made_in tac groups old) number all → (count : ℕ) × GroupCounts (family_at (made_in tac groups old) all) counts number count × (count ≤ limit))
       → ((tac_of tac).start.parameters ≡ 0 → AreLeast (made_in tac groups old) number → AreLeast (made_in tac groups new) (suc number))
       → ((tac_of tac).start.parameters ≡ 0 → AreLeast (made_in tac groups old) number → AreBare (made_in tac groups old) number → AreBare (made_in tac groups new) (suc number)) → SoFar tac groups counts new (suc number)
-  one_more old new number so_far made live begins counted least bare = record {
+  one_more old new number so_far made kept begins counted least bare = record {
     made = made;
-    live = live;
+    kept = kept;
     least = λ start. least start (so_far.least start);
     below = λ start all begun. below_more (made_in tac groups new) number (least start (so_far.least start)) all begun (so_far.below start all (begins all begun));
     bare = λ start. bare start (so_far.least start) (so_far.bare start);

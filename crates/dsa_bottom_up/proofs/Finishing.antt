@@ -47,17 +47,19 @@ use Rattle.least_graphs.proofs.Smallest.{program_smallest}
 use Rattle.bare_graphs.specs.Bare.{AreBare}
 use Rattle.bare_graphs.proofs.AllBare.{program_least}
 use Rattle.dsa_bottom_up.specs.declared.making.Making.{Making}
+use Rattle.group_statics.specs.Groups.{HaveStatics}
 use Rattle.group_crossings.specs.Live.{AreLive}
-use Rattle.dsa_bottom_up.specs.Making.{made_in, AreLiveBelow}
+use Rattle.dsa_bottom_up.specs.Making.{made_in, AreKeptBelow}
 
 -- ---- what is known before
 
-pub known_of : (before : Before) (tac : memory_tac.Tac) (groups : Groups) (making : Making) → graphs_before before ≡ made_in tac groups making → IsGrouped tac groups → (number : ℕ) → AreLiveBelow (made_in tac groups making) number → IsKnown before
+pub known_of : (before : Before) (tac : memory_tac.Tac) (groups : Groups) (making : Making) → graphs_before before ≡ made_in tac groups making → IsGrouped tac groups → (number : ℕ) → AreKeptBelow (made_in tac groups making) number → IsKnown before
 known_of before tac groups making same grouped number below = record {
   code = subst (λ (g : GraphsBefore). CodeStands (tac_of g.tac)) (sym same) grouped.stands.code;
   literals = subst (λ (g : GraphsBefore). LiteralsStand g.tac.types g.tac.literals.items) (sym same) grouped.literals;
   groups = subst (λ (g : GraphsBefore). IsOf g.tac g.groups) (sym same) grouped.of;
   live = subst (λ (g : GraphsBefore). AreLive g.tac g.escaping g.live) (sym same) below.live;
+  statics = subst (λ (g : GraphsBefore). HaveStatics g.tac.types g.graphs g.statics) (sym same) below.statics;
 }
 
 pub reached_of : (before : Before) (tac : memory_tac.Tac) (groups : Groups) (making : Making) → graphs_before before ≡ made_in tac groups making → IsGrouped tac groups

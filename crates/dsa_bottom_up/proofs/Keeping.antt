@@ -3,7 +3,7 @@ use Rattle.std.proofs.Common.{◌≡◌, ◌↔◌, ◌⊎◌, inl, inr, ℕ, ze
 use Rattle.std.specs.Prelude.{get_or, slice_get}
 use Rattle.std.specs.Vec.{with_item}
 use Rattle.std.proofs.lemmas.Bool.{false≢true, cases_lt}
-use Rattle.std.proofs.lemmas.List.{length-map, length-set, at_drop_all}
+use Rattle.std.proofs.lemmas.List.{length-map, length-append, length-set, at_drop_all}
 use Rattle.std.proofs.lemmas.Option.{none-some, same_Some, slice_get-get_or, slice_get-map, slice_get_within, get_or_from_slice_get}
 use Rattle.graph_rows.specs.Lists.{Has}
 use Rattle.graph_rows.proofs.Lists.{has_at, at_has}
@@ -47,7 +47,10 @@ use Rattle.least_graphs.proofs.Adding.{IsBegun, least_grows}
 use Rattle.bare_graphs.specs.Bare.{AreBare}
 use Rattle.bare_graphs.proofs.AllBare.{bare_grows}
 use Rattle.dsa_bottom_up.specs.declared.making.Making.{Making}
-use Rattle.dsa_bottom_up.specs.Making.{made_in, IsEmpty, AreLiveBelow, AreApart, KeepsOne, KeepsMembers}
+use Rattle.group_statics.specs.declared.statics.GroupStatics.{GroupStatics}
+use Rattle.group_statics.specs.Groups.{IsTold, HaveStatics}
+use Rattle.dsa_bottom_up.specs.Making.{made_in, IsEmpty, AreKeptBelow, AreApart, KeepsOne, KeepsMembers}
+use Rattle.dsa_bottom_up.proofs.KeptStatics.{statics_added}
 
 -- ---- marks that are set
 
@@ -141,9 +144,10 @@ marked_all numbers number marks past is = sym (no_more numbers) ∙ (sym (at_dro
 -- a function's row and list, where the others stay
 pub keeps_one : (old : Making) (member : ℕ) (graph : FrozenGraph) (own : FunctionGraph) (escaping : SharedLists) (numbers : List ℕ) → member < length old.functions.items → length (rows_in old.escaping) ≡ length old.functions.items
     → rows_in escaping ≡ set (rows_in old.escaping) member numbers → ((tac : memory_tac.Tac) (called : ℕ) → ListsEscaping tac called graph own.names numbers)
-    → KeepsOne old (record { graphs = old.graphs; functions = with_item old.functions member own; escaping = escaping; live = old.live; start = old.start; start_function = old.start_function }) member graph own
+    → KeepsOne old (record { graphs = old.graphs; functions = with_item old.functions member own; escaping = escaping; live = old.live; statics = old.statics; start = old.start; start_function = old.start_function }) member graph own
 keeps_one old member graph own escaping numbers within lists is listed = record {
   graphs = refl;
+  statics = refl;
   live = refl;
   size = length-set old.functions.items member own;
   own' = set_same old.functions.items member own within;
@@ -162,6 +166,7 @@ keeps_one old member graph own escaping numbers within lists is listed = record 
 -- so it is for the first of a group
 pub record KeepsSome (old new : Making) (members : List FunctionId) (graph : FrozenGraph) (functions : List FunctionGraph) (count : ℕ) : Type 0 where
   pub graphs : new.graphs ≡ old.graphs
+  pub statics : new.statics ≡ old.statics
   pub live : new.live ≡ old.live
   pub size : length new.functions.items ≡ length old.functions.items
   pub own' : (place : ℕ) (member : FunctionId) → place < count → slice_get members place ≡ Some member → slice_get new.functions.items member.0 ≡ slice_get functions place
@@ -174,6 +179,7 @@ pub record KeepsSome (old new : Making) (members : List FunctionId) (graph : Fro
 pub keeps_none : (old : Making) (members : List FunctionId) (graph : FrozenGraph) (functions : List FunctionGraph) → KeepsSome old old members graph functions 0
 keeps_none old members graph functions = record {
   graphs = refl;
+  statics = refl;
   live = refl;
   size = refl;
   own' = λ place member less. absurd (omega (arith, less));
@@ -215,6 +221,7 @@ module _ (old mid new : Making) (members : List FunctionId) (graph : FrozenGraph
   pub keeps_more : KeepsSome old new members graph functions (suc count)
   keeps_more = record {
     graphs = one.graphs ∙ some.graphs;
+    statics = one.statics ∙ some.statics;
     live = one.live ∙ some.live;
     size = one.size ∙ some.size;
     own' = own_more;
@@ -226,13 +233,14 @@ module _ (old mid new : Making) (members : List FunctionId) (graph : FrozenGraph
 
 -- with other functions from which something escapes
 abbrev pub with_live : Making → LiveTargets → Making
-with_live making live = record { graphs = making.graphs; functions = making.functions; escaping = making.escaping; live = live; start = making.start; start_function = making.start_function }
+with_live making live = record { graphs = making.graphs; functions = making.functions; escaping = making.escaping; live = live; statics = making.statics; start = making.start; start_function = making.start_function }
 
 -- that is all where there is no other, and those from which something escapes are added
 pub keeps_all : (old new : Making) (live : LiveTargets) (members : List FunctionId) (graph : FrozenGraph) (functions : List FunctionGraph) (count : ℕ) → length functions ≡ length members → length functions ≡ count
     → AddsMembers (rows_in new.escaping) (numbers_of members) new.live live → KeepsSome old new members graph functions count → KeepsMembers old (with_live new live) members graph functions
 keeps_all old new live members graph functions count size all adds some = record {
   graphs = some.graphs;
+  statics = some.statics;
   live = subst (λ l. AddsMembers (rows_in new.escaping) (numbers_of members) l live) some.live adds;
   size = some.size;
   own = λ place member at. some.own' place member (less place member at) at;
@@ -332,13 +340,14 @@ module _ (tac : memory_tac.Tac) (groups : Groups) (number : ℕ) (members : List
       by place (Some member) at same = member_group called place member at (same_Some member.0 called same)
 
   -- the graphs of the groups with one more
-  abbrev pub with_graphs : Making → Vec FrozenGraph Global → Making
-  with_graphs mid graphs = record { graphs = graphs; functions = mid.functions; escaping = mid.escaping; live = mid.live; start = mid.start; start_function = mid.start_function }
+  abbrev pub with_graphs : Making → Vec GroupStatics Global → Vec FrozenGraph Global → Making
+  with_graphs mid statics graphs = record { graphs = graphs; functions = mid.functions; escaping = mid.escaping; live = mid.live; statics = statics; start = mid.start; start_function = mid.start_function }
 
   -- no node escapes the functions of the group before, and none those of later groups still
-  pub live_added : (old mid : Making) (graphs : Vec FrozenGraph Global) (graph : FrozenGraph) (functions : List FunctionGraph) → AreLiveBelow (made_in tac groups old) number → KeepsMembers old mid members graph functions
-      → AreLiveBelow (made_in tac groups (with_graphs mid graphs)) (suc number)
-  live_added old mid graphs graph functions below keeps = record {
+  pub kept_added : (old mid : Making) (statics : Vec GroupStatics Global) (graphs : Vec FrozenGraph Global) (graph : FrozenGraph) (functions : List FunctionGraph) (its : GroupStatics) → AreKeptBelow (made_in tac groups old) number
+      → KeepsMembers old mid members graph functions → statics.items ≡ mid.statics.items ++ its ∷ [] → graphs.items ≡ mid.graphs.items ++ graph ∷ [] → IsTold tac.types old.graphs.items (length old.graphs.items) graph its
+      → AreKeptBelow (made_in tac groups (with_graphs mid statics graphs)) (suc number)
+  kept_added old mid statics graphs graph functions its below keeps one_more pushed told = record {
     live =
         lives_more tac (rows_in old.escaping) (rows_in mid.escaping) (numbers_of members) old.live mid.live below.live keeps.live
         (λ called apart. keeps.same_lists called (λ place member at same. apart (member_has called place member at same)))
@@ -350,15 +359,31 @@ module _ (tac : memory_tac.Tac) (groups : Groups) (number : ℕ) (members : List
         let its : number ≡ group = same_Some number group (sym (member_group called place member at same) ∙ of) in
         omega (arith, later, its)))
         ∙ below.below called group of (omega (arith, later));
+    many =
+        let long = length-append old.statics.items (its ∷ []) in
+        let most = length-append old.graphs.items (graph ∷ []) in
+        let same = below.many in
+        let now = ap length all_statics in
+        let then = ap length all_graphs in
+        omega (arith, long, most, same, now, then);
+    statics =
+        subst (HaveStatics tac.types graphs.items) (sym all_statics)
+        (subst (λ gs. HaveStatics tac.types gs (old.statics.items ++ its ∷ [])) (sym all_graphs) (statics_added tac.types old.graphs.items graph old.statics.items its below.many below.statics told));
   }
     where
+      all_statics : statics.items ≡ old.statics.items ++ its ∷ []
+      all_statics = one_more ∙ ap (λ (v : Vec GroupStatics Global). v.items ++ its ∷ []) keeps.statics
+
+      all_graphs : graphs.items ≡ old.graphs.items ++ graph ∷ []
+      all_graphs = pushed ∙ ap (λ (v : Vec FrozenGraph Global). v.items ++ graph ∷ []) keeps.graphs
+
       once : IsOnce (numbers_of members)
       once = let place = stands (groups_of groups) number (numbers_of members) row in ascends_once (numbers_of members) (grouped.groups.ascending place.before place.after (numbers_of members) place.is)
 
   -- with what is kept of the group it has its graph
-  adds_group : (old mid : Making) (graphs : Vec FrozenGraph Global) (graph : FrozenGraph) (functions : List FunctionGraph) → KeepsMembers old mid members graph functions → graphs.items ≡ mid.graphs.items ++ graph ∷ []
-      → AddsGroup (made_in tac groups old) (made_in tac groups (with_graphs mid graphs)) members graph functions
-  adds_group old mid graphs graph functions keeps pushed = record {
+  adds_group : (old mid : Making) (statics : Vec GroupStatics Global) (graphs : Vec FrozenGraph Global) (graph : FrozenGraph) (functions : List FunctionGraph) → KeepsMembers old mid members graph functions → graphs.items ≡ mid.graphs.items ++ graph ∷ []
+      → AddsGroup (made_in tac groups old) (made_in tac groups (with_graphs mid statics graphs)) members graph functions
+  adds_group old mid statics graphs graph functions keeps pushed = record {
     tac = refl;
     groups = refl;
     graphs = pushed ∙ ap (λ (v : Vec FrozenGraph Global). v.items ++ graph ∷ []) keeps.graphs;
@@ -370,33 +395,33 @@ module _ (tac : memory_tac.Tac) (groups : Groups) (number : ℕ) (members : List
     listed = keeps.listed tac;
   }
 
-  pub group_added : (old mid : Making) (graphs : Vec FrozenGraph Global) (begun : Graph) (graph : FrozenGraph) (functions : List FunctionGraph) → IsMaking (made_in tac groups old) number
+  pub group_added : (old mid : Making) (statics : Vec GroupStatics Global) (graphs : Vec FrozenGraph Global) (begun : Graph) (graph : FrozenGraph) (functions : List FunctionGraph) → IsMaking (made_in tac groups old) number
       → IsAssembled (made_in tac groups old) (Some number) (map Some members) begun graph functions → KeepsMembers old mid members graph functions → graphs.items ≡ mid.graphs.items ++ graph ∷ []
-      → IsMaking (made_in tac groups (with_graphs mid graphs)) (suc number)
-  group_added old mid graphs begun graph functions making assembled keeps pushed =
-      whole.group_added (made_in tac groups old) number members begun graph functions grouped making row assembled (made_in tac groups (with_graphs mid graphs)) (adds_group old mid graphs graph functions keeps pushed)
+      → IsMaking (made_in tac groups (with_graphs mid statics graphs)) (suc number)
+  group_added old mid statics graphs begun graph functions making assembled keeps pushed =
+      whole.group_added (made_in tac groups old) number members begun graph functions grouped making row assembled (made_in tac groups (with_graphs mid statics graphs)) (adds_group old mid statics graphs graph functions keeps pushed)
 
   -- so the groups so far are mapped to each other closed family
-  pub least_added : (old mid : Making) (graphs : Vec FrozenGraph Global) (begun : Graph) (graph : FrozenGraph) (functions : List FunctionGraph) → (tac_of tac).start.parameters ≡ 0 → IsMaking (made_in tac groups old) number
+  pub least_added : (old mid : Making) (statics : Vec GroupStatics Global) (graphs : Vec FrozenGraph Global) (begun : Graph) (graph : FrozenGraph) (functions : List FunctionGraph) → (tac_of tac).start.parameters ≡ 0 → IsMaking (made_in tac groups old) number
       → IsAssembled (made_in tac groups old) (Some number) (map Some members) begun graph functions → IsBegun (made_in tac groups old) (Some number) (map Some members) begun
-      → KeepsMembers old mid members graph functions → graphs.items ≡ mid.graphs.items ++ graph ∷ [] → AreLeast (made_in tac groups old) number → AreLeast (made_in tac groups (with_graphs mid graphs)) (suc number)
-  least_added old mid graphs begun graph functions start making assembled begins_so keeps pushed =
-      least_grows (made_in tac groups old) start grouped number making begun graph functions members row assembled begins_so (made_in tac groups (with_graphs mid graphs)) (adds_group old mid graphs graph functions keeps pushed)
+      → KeepsMembers old mid members graph functions → graphs.items ≡ mid.graphs.items ++ graph ∷ [] → AreLeast (made_in tac groups old) number → AreLeast (made_in tac groups (with_graphs mid statics graphs)) (suc number)
+  least_added old mid statics graphs begun graph functions start making assembled begins_so keeps pushed =
+      least_grows (made_in tac groups old) start grouped number making begun graph functions members row assembled begins_so (made_in tac groups (with_graphs mid statics graphs)) (adds_group old mid statics graphs graph functions keeps pushed)
 
   -- and no flag of theirs can be taken away
-  pub bare_added : (old mid : Making) (graphs : Vec FrozenGraph Global) (begun : Graph) (graph : FrozenGraph) (functions : List FunctionGraph) → (tac_of tac).start.parameters ≡ 0 → IsMaking (made_in tac groups old) number
+  pub bare_added : (old mid : Making) (statics : Vec GroupStatics Global) (graphs : Vec FrozenGraph Global) (begun : Graph) (graph : FrozenGraph) (functions : List FunctionGraph) → (tac_of tac).start.parameters ≡ 0 → IsMaking (made_in tac groups old) number
       → IsAssembled (made_in tac groups old) (Some number) (map Some members) begun graph functions → IsBegun (made_in tac groups old) (Some number) (map Some members) begun
       → KeepsMembers old mid members graph functions → graphs.items ≡ mid.graphs.items ++ graph ∷ [] → AreLeast (made_in tac groups old) number → AreBare (made_in tac groups old) number
-      → AreBare (made_in tac groups (with_graphs mid graphs)) (suc number)
-  bare_added old mid graphs begun graph functions start making assembled begins_so keeps pushed =
-      bare_grows (made_in tac groups old) start grouped number making begun graph functions members row assembled begins_so (made_in tac groups (with_graphs mid graphs)) (adds_group old mid graphs graph functions keeps pushed)
-      (group_added old mid graphs begun graph functions making assembled keeps pushed)
+      → AreBare (made_in tac groups (with_graphs mid statics graphs)) (suc number)
+  bare_added old mid statics graphs begun graph functions start making assembled begins_so keeps pushed =
+      bare_grows (made_in tac groups old) start grouped number making begun graph functions members row assembled begins_so (made_in tac groups (with_graphs mid statics graphs)) (adds_group old mid statics graphs graph functions keeps pushed)
+      (group_added old mid statics graphs begun graph functions making assembled keeps pushed)
 
   -- graphs that begin with those begin with the ones before
-  pub begins_still : (old mid : Making) (graphs : Vec FrozenGraph Global) (graph : FrozenGraph) (functions : List FunctionGraph) → IsMaking (made_in tac groups old) number → KeepsMembers old mid members graph functions
-      → graphs.items ≡ mid.graphs.items ++ graph ∷ [] → (all : ProgramGraphs) → BeginsWith (made_in tac groups (with_graphs mid graphs)) (suc number) all → BeginsWith (made_in tac groups old) number all
-  begins_still old mid graphs graph functions making keeps pushed =
-      begins_before (made_in tac groups old) (made_in tac groups (with_graphs mid graphs)) number members graph functions grouped row making.graphs (adds_group old mid graphs graph functions keeps pushed)
+  pub begins_still : (old mid : Making) (statics : Vec GroupStatics Global) (graphs : Vec FrozenGraph Global) (graph : FrozenGraph) (functions : List FunctionGraph) → IsMaking (made_in tac groups old) number → KeepsMembers old mid members graph functions
+      → graphs.items ≡ mid.graphs.items ++ graph ∷ [] → (all : ProgramGraphs) → BeginsWith (made_in tac groups (with_graphs mid statics graphs)) (suc number) all → BeginsWith (made_in tac groups old) number all
+  begins_still old mid statics graphs graph functions making keeps pushed =
+      begins_before (made_in tac groups old) (made_in tac groups (with_graphs mid statics graphs)) number members graph functions grouped row making.graphs (adds_group old mid statics graphs graph functions keeps pushed)
 
 -- nothing escapes functions whose lists are empty
 pub none_listed : (count called : ℕ) → is_listed (replicate count []) called ≡ false
@@ -404,11 +429,13 @@ none_listed zero called = refl
 none_listed (suc count) zero = refl
 none_listed (suc count) (suc called) = none_listed count called
 
--- before all groups nothing escapes any function
-pub live_begins : (tac : memory_tac.Tac) (groups : Groups) (making : Making) → IsEmpty tac making → AreLiveBelow (made_in tac groups making) 0
-live_begins tac groups making empty = record {
+-- before all groups nothing escapes any function, and nothing is told
+pub kept_begins : (tac : memory_tac.Tac) (groups : Groups) (making : Making) → IsEmpty tac making → AreKeptBelow (made_in tac groups making) 0
+kept_begins tac groups making empty = record {
   live = lives_none tac (rows_in making.escaping) making.live empty.live empty.none;
   below = λ called group of from. empty.none called;
+  many = ap length empty.statics ∙ sym (ap length empty.graphs);
+  statics = λ number graph is. absurd (none-some graph (ap (λ gs. slice_get gs number) (sym empty.graphs) ∙ is));
 }
 
 -- ---- what is left of a list

@@ -3,6 +3,8 @@ pub mod Counted
 pub mod Crossed
 pub mod EachTold
 pub mod Finishing
+pub mod FrozenBases
+pub mod KeptStatics
 pub mod Leading
 pub mod Keeping
 pub mod Outside

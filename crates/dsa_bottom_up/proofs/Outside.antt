@@ -21,6 +21,7 @@ use Rattle.program_graphs.proofs.GroupNumbers.{is_then_in, own_number}
 use Rattle.function_groups.specs.GroupViews.{lists_of, groups_of, IsOf}
 use Rattle.group_crossings.specs.declared.before.Before.{Before}
 use Rattle.group_crossings.specs.Before.{GraphsBefore, IsReached, graphs_before, is_inside}
+use Rattle.group_statics.specs.Groups.{HaveStatics}
 use Rattle.group_crossings.specs.Live.{AreLive}
 use Rattle.group_crossings.specs.Crossings.{owners_in}
 use Rattle.group_counts.specs.Counting.{total, group_count, start_count}
@@ -29,7 +30,7 @@ use Rattle.group_counts.specs.Sums.{outside_of, graph_at, graph_before, told_in,
 use Rattle.assembled_groups.specs.Making.{IsGrouped, family_at, BeginsWith, IsMaking}
 use Rattle.assembled_groups.proofs.Growing.{begins_shows}
 use Rattle.assembled_groups.proofs.Members.{inside_is}
-use Rattle.dsa_bottom_up.specs.Making.{AreLiveBelow}
+use Rattle.dsa_bottom_up.specs.Making.{AreKeptBelow}
 use Rattle.dsa_bottom_up.specs.Refused.{AreEscaping, IsOutsideOf, GroupCounts, StartCounts}
 
 -- ---- nodes that are there
@@ -200,10 +201,11 @@ row_read lists number list members less is same =
     ∙ (ap (option_map (λ (l : Vec FunctionId Global). numbers_of l.items)) (slice_get_read lists (length lists) number list refl less is) ∙ ap (λ (l : List FunctionId). Some (numbers_of l)) (sym same))
 
 -- what is known of the functions of groups before
-pub known_of : (before : Before) (made : GraphsBefore) → graphs_before before ≡ made → IsGrouped made.tac made.groups → (number : ℕ) → IsMaking made number → AreLiveBelow made number → IsKnown before
+pub known_of : (before : Before) (made : GraphsBefore) → graphs_before before ≡ made → IsGrouped made.tac made.groups → (number : ℕ) → IsMaking made number → AreKeptBelow made number → IsKnown before
 known_of before made same grouped number making below = record {
   groups = subst (λ (g : GraphsBefore). IsOf g.tac g.groups) (sym same) grouped.of;
   live = subst (λ (g : GraphsBefore). AreLive g.tac g.escaping g.live) (sym same) below.live;
+  statics = subst (λ (g : GraphsBefore). HaveStatics g.tac.types g.graphs g.statics) (sym same) below.statics;
   reached = subst (λ (g : GraphsBefore). (called group : ℕ) → slice_get g.groups.group_of.items called ≡ Some group → group < length g.graphs → IsReached g called) (sym same)
       (λ called group of less. let long = making.graphs in making.reached called group of (omega (arith, less, long)));
 }

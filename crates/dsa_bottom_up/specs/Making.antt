@@ -7,6 +7,7 @@ use Rattle.program_graphs.specs.declared.program.FunctionGraph.{FunctionGraph}
 use Rattle.function_groups.specs.declared.group_lists.Groups.{Groups}
 use Rattle.call_targets.specs.ClassLists.{numbers_of}
 use Rattle.shared_lists.specs.Lists.{rows_in}
+use Rattle.group_statics.specs.Groups.{HaveStatics}
 use Rattle.group_crossings.specs.Before.{GraphsBefore, is_listed, is_live}
 use Rattle.group_crossings.specs.Live.{AreNoneLive, AddsMembers, AreLive}
 use Rattle.assembled_groups.specs.Making.{AreAt, ListsEscaping, SameOthers}
@@ -20,6 +21,7 @@ made_in tac groups making = record {
   functions = making.functions.items;
   escaping = rows_in making.escaping;
   live = making.live;
+  statics = making.statics.items;
 }
 
 -- no group has a graph yet
@@ -29,11 +31,15 @@ pub record IsEmpty (tac : memory_tac.Tac) (making : Making) : Type 0 where
   pub escaping : length (rows_in making.escaping) ≡ length tac.functions.items
   pub none : (called : ℕ) → is_listed (rows_in making.escaping) called ≡ false
   pub live : AreNoneLive tac making.live
+  pub statics : making.statics.items ≡ []
 
--- Those functions from which something escapes are known by their classes; they are of groups below a number.
-pub record AreLiveBelow (before : GraphsBefore) (number : ℕ) : Type 0 where
+-- Those functions from which something escapes are known by their classes; they are of groups below a number. Of each group is known what its
+-- graph tells of variables and literals.
+pub record AreKeptBelow (before : GraphsBefore) (number : ℕ) : Type 0 where
   pub live : AreLive before.tac before.escaping before.live
   pub below : (called group : ℕ) → slice_get before.groups.group_of.items called ≡ Some group → number ≤ group → is_live before called ≡ false
+  pub many : length before.statics ≡ length before.graphs
+  pub statics : HaveStatics before.tac.types before.graphs before.statics
 
 -- each function stands once
 abbrev pub AreApart : List FunctionId → Type 0
@@ -42,6 +48,7 @@ AreApart members = (a b : ℕ) (one other : FunctionId) → slice_get members a 
 -- what is told of a function is kept at its number, and which nodes escape it
 pub record KeepsOne (old new : Making) (member : ℕ) (graph : FrozenGraph) (own : FunctionGraph) : Type 0 where
   pub graphs : new.graphs ≡ old.graphs
+  pub statics : new.statics ≡ old.statics
   pub live : new.live ≡ old.live
   pub size : length new.functions.items ≡ length old.functions.items
   pub own' : slice_get new.functions.items member ≡ Some own
@@ -53,6 +60,7 @@ pub record KeepsOne (old new : Making) (member : ℕ) (graph : FrozenGraph) (own
 -- so it is for each function of a group, and those from which something escapes are added to their classes
 pub record KeepsMembers (old new : Making) (members : List FunctionId) (graph : FrozenGraph) (functions : List FunctionGraph) : Type 0 where
   pub graphs : new.graphs ≡ old.graphs
+  pub statics : new.statics ≡ old.statics
   pub live : AddsMembers (rows_in new.escaping) (numbers_of members) old.live new.live
   pub size : length new.functions.items ≡ length old.functions.items
   pub own : AreAt new.functions.items members functions

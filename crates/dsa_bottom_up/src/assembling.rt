@@ -11,23 +11,25 @@ ghost use Rattle.dsa_local.specs.Local.{AreScopes, IsJoinedGroup};
 ghost use Rattle.group_crossings.specs.Before.{graphs_before, is_inside};
 ghost use Rattle.group_crossings.specs.Crossings.{owners_in, AllReached, IsKnown};
 ghost use Rattle.assembled_groups.specs.Assembled.{IsAssembled};
-ghost use Rattle.dsa_bottom_up.specs.Assembling.{TellEach};
+ghost use Rattle.dsa_bottom_up.specs.Assembling.{HasBases, TellEach};
 
 use dsa_local::LocalGraph;
 use frozen_graphs::{FrozenGraph, FunctionNames};
 use graph_memory::Graph;
-use group_crossings::{Before, Crossings, frozen_crossings};
+use group_crossings::{Before, Crossings, JoinedCalls, frozen_crossings};
 use group_freezing::{Frozen, freeze_group};
 use group_rounds::{settle, tell_sizes};
 use program_graphs::FunctionGraph;
 use std::alloc::{AllocError, Global};
 use tac_ir::FunctionId;
 
-/// What was made of a group: its graph, and what that tells of its functions, in the order of the group.
+/// What was made of a group: its graph; what that tells of its functions, in the order of the group; and the groups of the functions that these
+/// call, of all of whose variables outside functions and literals the graph tells.
 #[derive(Drop)]
 pub(crate) struct Assembled {
     pub(crate) graph: FrozenGraph,
     pub(crate) functions: Vec<FunctionGraph>,
+    pub(crate) bases: Vec<usize>,
 }
 
 /// Closes the graph of a group that was begun.
@@ -46,10 +48,12 @@ pub(crate) fn assemble(
     requires copies { NoCopies (graph_in before.tac.now.types local.graph) }
     requires owned { owners_of local.scopes.items ≡ owners_in owners.now }
     requires scopes { AreScopes before.tac.now local.scopes.items }
-    ensures { IfOk result (λ made. IsAssembled (graphs_before before.entry) group owners.now (graph_in before.entry.tac.now.types local.graph) made.graph made.functions.items) }
+    ensures assembled { IfOk result (λ made. IsAssembled (graphs_before before.entry) group owners.now (graph_in before.entry.tac.now.types local.graph) made.graph made.functions.items) }
+    ensures bases { IfOk result (λ made. HasBases (graphs_before before.entry) made.bases.items made.graph) }
 {
     let LocalGraph { mut graph, scopes } = local;
-    let crossings = before.cross_all(alloc, &mut graph, owners, group)?;
+    let joined = before.cross_all(alloc, &mut graph, owners, group)?;
+    let JoinedCalls { crossings, bases } = joined;
     settle(before.tac, &scopes, &mut graph)?;
     tell_sizes(before.tac, &scopes, &mut graph);
     before.tell_all(&mut graph, &crossings);
@@ -61,6 +65,7 @@ pub(crate) fn assemble(
     Ok(Assembled {
         graph: frozen,
         functions,
+        bases,
     })
 }
 

@@ -6,7 +6,7 @@ ghost use Rattle.group_counts.specs.Counting.{total};
 ghost use Rattle.program_graphs.specs.declared.program.ProgramGraphs as memory;
 ghost use Rattle.function_groups.specs.GroupViews.{groups_of};
 ghost use Rattle.assembled_groups.specs.Making.{IsGrouped, family_at, BeginsWith, IsMaking};
-ghost use Rattle.dsa_bottom_up.specs.Making.{made_in, AreLiveBelow};
+ghost use Rattle.dsa_bottom_up.specs.Making.{made_in, AreKeptBelow};
 ghost use Rattle.dsa_bottom_up.specs.Refused.{limit, GroupCounts, StartCounts};
 
 use crate::making::{Making, owners_of};
@@ -31,7 +31,7 @@ impl Making {
     ) -> Result<(), GraphErr>
         requires grouped { IsGrouped tac.now groups.now }
         requires making { IsMaking (made_in tac.now groups.now self.now) number }
-        requires live { AreLiveBelow (made_in tac.now groups.now self.now) number }
+        requires kept { AreKeptBelow (made_in tac.now groups.now self.now) number }
         requires within { number < length groups.now.members.items }
         ensures few { OnOk result ((all : memory.ProgramGraphs) → BeginsWith (made_in tac.now groups.now self.now) number all
             → (count : ℕ) × GroupCounts (family_at (made_in tac.now groups.now self.now) all) counts.now.functions.items number count × (count ≤ limit)) }
@@ -55,7 +55,7 @@ impl Making {
     ) -> Result<(), GraphErr>
         requires grouped { IsGrouped tac.now groups.now }
         requires making { IsMaking (made_in tac.now groups.now self.now) (length (groups_of groups.now)) }
-        requires live { AreLiveBelow (made_in tac.now groups.now self.now) (length (groups_of groups.now)) }
+        requires kept { AreKeptBelow (made_in tac.now groups.now self.now) (length (groups_of groups.now)) }
         ensures few { OnOk result ((all : memory.ProgramGraphs) → BeginsWith (made_in tac.now groups.now self.now) (length (groups_of groups.now)) all
             → (count : ℕ) × StartCounts (family_at (made_in tac.now groups.now self.now) all) counts.now.start count × (count ≤ limit)) }
         ensures many { (count : ℕ) → result ≡ Err (GraphErr.TooMany count) → (limit < count) × ((all : memory.ProgramGraphs) → BeginsWith (made_in tac.now groups.now self.now) (length (groups_of groups.now)) all

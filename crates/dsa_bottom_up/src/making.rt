@@ -17,7 +17,7 @@ ghost use Rattle.least_graphs.specs.Making.{AreLeast};
 ghost use Rattle.least_graphs.specs.Smallest.{IsSmallest};
 ghost use Rattle.bare_graphs.specs.Bare.{AreBare};
 ghost use Rattle.dsa_bottom_up.specs.Ascending.{GraphsAscend};
-ghost use Rattle.dsa_bottom_up.specs.Making.{made_in, IsEmpty, AreLiveBelow, AreApart, KeepsOne, KeepsMembers};
+ghost use Rattle.dsa_bottom_up.specs.Making.{made_in, IsEmpty, AreKeptBelow, AreApart, KeepsOne, KeepsMembers};
 
 use crate::assembling::{Assembled, assemble};
 use dsa_local::{LocalGraph, joined_group, joined_start};
@@ -25,6 +25,7 @@ use first_values::apply_first;
 use frozen_graphs::{FrozenGraph, FunctionNames};
 use function_groups::Groups;
 use group_crossings::{Before, LiveTargets};
+use group_statics::GroupStatics;
 use indexmap::IndexMap;
 use inner_calls::CalledClasses;
 use program_graphs::{FunctionGraph, ProgramGraphs};
@@ -33,14 +34,15 @@ use shared_lists::SharedLists;
 use std::alloc::{AllocError, Global};
 use tac_ir::{FunctionId, Tac};
 
-/// The graphs of the groups so far, by their numbers; what they tell of functions, and which nodes escape each function, by the numbers of
-/// the functions; and of which functions some do.
+/// The graphs of the groups so far, and what they tell of variables outside functions and literals, by the numbers of the groups; what they
+/// tell of functions, and which nodes escape each function, by the numbers of the functions; and of which functions some do.
 #[derive(Drop)]
 pub(crate) struct Making {
     graphs: Vec<FrozenGraph>,
     functions: Vec<FunctionGraph>,
     escaping: SharedLists,
     live: LiveTargets,
+    statics: Vec<GroupStatics>,
     /// That of `start`, of which nothing is told as long as groups have none.
     start: FrozenGraph,
     start_function: FunctionGraph,
@@ -64,6 +66,7 @@ impl Making {
             functions,
             escaping: SharedLists::new(alloc, tac.functions.len())?,
             live: LiveTargets::new(alloc, tac, &groups.classes)?,
+            statics: Vec::new(alloc),
             start: blank_graph(alloc),
             start_function: blank_function(alloc),
         })
@@ -80,6 +83,7 @@ impl Making {
             functions: self.functions.as_slice(),
             escaping: &self.escaping,
             live: &self.live,
+            statics: self.statics.as_slice(),
         }
     }
 
@@ -95,10 +99,10 @@ impl Making {
         requires grouped { IsGrouped tac.now groups.now }
         requires called { AreCalled tac.now called.now }
         requires making { IsMaking (made_in tac.now groups.now self.old) number }
-        requires live { AreLiveBelow (made_in tac.now groups.now self.old) number }
+        requires kept { AreKeptBelow (made_in tac.now groups.now self.old) number }
         requires within { number < length groups.now.members.items }
         ensures making { OnOk result (IsMaking (made_in tac.now groups.now self.new) (suc number)) }
-        ensures live { OnOk result (AreLiveBelow (made_in tac.now groups.now self.new) (suc number)) }
+        ensures kept { OnOk result (AreKeptBelow (made_in tac.now groups.now self.new) (suc number)) }
         ensures begins { OnOk result ((all : memory_program.ProgramGraphs) → BeginsWith (made_in tac.now groups.now self.new) (suc number) all → BeginsWith (made_in tac.now groups.now self.old) number all) }
         ensures least { OnOk result ((tac_of tac.now).start.parameters ≡ 0 → AreLeast (made_in tac.now groups.now self.old) number → AreLeast (made_in tac.now groups.now self.new) (suc number)) }
         ensures bare { OnOk result ((tac_of tac.now).start.parameters ≡ 0 → AreLeast (made_in tac.now groups.now self.old) number → AreBare (made_in tac.now groups.now self.old) number → AreBare (made_in tac.now groups.now self.new) (suc number)) }
@@ -113,8 +117,17 @@ impl Making {
             &owners,
             Some(number),
         )?;
-        let Assembled { graph, functions } = made;
+        let Assembled {
+            graph,
+            functions,
+            bases,
+        } = made;
+        let statics = GroupStatics::of_graph(alloc, self.statics.as_slice(), &graph, bases)?;
         self.keep(alloc, members, &graph, functions)?;
+        match self.statics.push(statics) {
+            Ok(()) => {}
+            Err(_) => return Err(AllocError),
+        }
         match self.graphs.push(graph) {
             Ok(()) => Ok(()),
             Err(_) => Err(AllocError),
@@ -170,7 +183,7 @@ impl Making {
     ) -> Result<ProgramGraphs, AllocError>
         requires grouped { IsGrouped tac.now groups.now }
         requires making { IsMaking (made_in tac.now groups.now self) (length (groups_of groups.now)) }
-        requires live { AreLiveBelow (made_in tac.now groups.now self) (length (groups_of groups.now)) }
+        requires kept { AreKeptBelow (made_in tac.now groups.now self) (length (groups_of groups.now)) }
         ensures closed { IfOk result (λ graphs. Closed (family_in tac.now (groups_of groups.now) graphs)) }
         ensures smallest { IfOk result (λ graphs. (tac_of tac.now).start.parameters ≡ 0 → AreLeast (made_in tac.now groups.now self) (length (groups_of groups.now)) → IsSmallest (family_in tac.now (groups_of groups.now) graphs)) }
         ensures least { IfOk result (λ graphs. (tac_of tac.now).start.parameters ≡ 0 → AreLeast (made_in tac.now groups.now self) (length (groups_of groups.now)) → AreBare (made_in tac.now groups.now self) (length (groups_of groups.now))
@@ -188,7 +201,9 @@ impl Making {
         let Assembled {
             graph: start,
             mut functions,
+            bases,
         } = made;
+        drop(bases);
         let start_function = match functions.pop() {
             Some(own) => own,
             None => return Err(AllocError),
@@ -198,11 +213,13 @@ impl Making {
             functions,
             escaping,
             live,
+            statics,
             start: blank,
             start_function: blank_function,
         } = self;
         drop(escaping);
         drop(live);
+        drop(statics);
         drop(blank);
         drop(blank_function);
         Ok(ProgramGraphs {

@@ -6,7 +6,7 @@ ghost use Rattle.function_groups.specs.GroupViews.{groups_of};
 ghost use Rattle.heap_graph.specs.Closed.{Closed};
 ghost use Rattle.heap_graph.specs.Least.{Least};
 ghost use Rattle.program_graphs.specs.Programs.{family_in};
-ghost use Rattle.assembled_groups.specs.Making.{IsGrouped, IsMaking};
+ghost use Rattle.assembled_groups.specs.Making.{IsGrouped};
 ghost use Rattle.least_graphs.specs.Smallest.{IsSmallest};
 ghost use Rattle.dsa_bottom_up.specs.Ascending.{GraphsAscend};
 ghost use Rattle.least_graphs.specs.Below.{LeastBelow};

@@ -7,4 +7,4 @@ mod mark_list;
 mod row_lists;
 
 pub use mark_list::marks;
-pub use row_lists::rows;
+pub use row_lists::{add_edge, rows};

@@ -30,7 +30,8 @@ fn empty_rows(alloc: Global, nodes: usize) -> Result<Vec<Vec<usize>>, AllocError
     Ok(rows)
 }
 
-fn add_edge(rows: &mut Vec<Vec<usize>>, edge: (usize, usize)) -> Result<(), AllocError>
+/// Adds an edge. One from another node is left out.
+pub fn add_edge(rows: &mut Vec<Vec<usize>>, edge: (usize, usize)) -> Result<(), AllocError>
     ensures { OnOk result (AddsEdge edge rows.old rows.new) }
 {
     if let Some(row) = rows.get_mut(edge.0) {

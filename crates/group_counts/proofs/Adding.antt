@@ -29,6 +29,23 @@ adds_same names other old new same adds = record {
   literals = marks_same (λ number. names (OfLiteral number)) (λ number. other (OfLiteral number)) old.literals.items new.literals.items (λ number. same (OfLiteral number)) adds.literals;
 }
 
+-- in a loop over numbers: adding the names of those that are left adds all
+module _ (names : ℕ → Name → Bool) (numbers : List ℕ) (start : Mentions) where
+  pub record NamesLeft (i : ℕ) (now : Mentions) : Type 0 where
+    pub to : (final : Mentions) → Adds (any_of names (drop i numbers)) now final → Adds (any_of names numbers) start final
+
+  pub names_start : NamesLeft 0 start
+  names_start = record { to = λ final adds. adds }
+
+  pub names_more : (i : ℕ) → i < length numbers → (now mid : Mentions) → Adds (names (get_or numbers i 0)) now mid → NamesLeft i now → NamesLeft (i + 1) mid
+  names_more i within now mid adds left = record {
+    to = λ final rest. left.to final (subst (λ l. Adds (any_of names l) now final) (sym (drop_more numbers i 0 within))
+        (adds_both (names (get_or numbers i 0)) (any_of names (drop (i + 1) numbers)) now mid final adds rest));
+  }
+
+  pub names_end : (i : ℕ) (now : Mentions) → length numbers ≤ i → NamesLeft i now → Adds (any_of names numbers) start now
+  names_end i now out left = left.to now (subst (λ l. Adds (any_of names l) now now) (sym (drop_all i numbers out)) (adds_nothing (λ name. false) now (λ name. refl)))
+
 -- ---- with counts
 
 pub counts_nothing : (before : Before) (names : Name → Bool) (tally : Tally) → ((name : Name) → names name ≡ false) → Counts before 0 names tally tally

@@ -1,5 +1,7 @@
+pub mod Among
 pub mod MarkSteps
 pub mod Adding
+pub mod GroupNames
 pub mod ToldGroups
 pub mod Totals
 pub mod TargetSums

@@ -1,12 +1,7 @@
 -- Marks that are set one after another.
-use Rattle.std.proofs.Common.{◌≡◌, ℕ, zero, suc, ◌+◌, ◌<◌, ◌≤◌, ◌==◌, ◌||◌, Bool, true, false, if◌then◌else◌, List, [], ◌∷◌, length, drop, get_or, Some, refl, sym, ap, subst, ◌∙◌, arith, eqb-true, eq-eqb}
-use Rattle.std.proofs.lemmas.Bool.{true≢false, ne_eqb}
+use Rattle.std.proofs.Common.{◌≡◌, ℕ, zero, suc, ◌+◌, ◌<◌, ◌≤◌, ◌==◌, ◌||◌, Bool, true, false, if◌then◌else◌, List, length, drop, get_or, refl, sym, ap, subst, ◌∙◌, arith}
 use Rattle.std.proofs.lemmas.List.{drop_more, drop_all}
-use Rattle.std.specs.Map.{keys_of, lookup}
-use Rattle.heap_graph.specs.declared.graph.Target as memory_target
-use Rattle.heap_graph.specs.Targets.{has_target}
 use Rattle.graph_rows.specs.Lists.{is_among}
-use Rattle.frozen_graphs.specs.Frozen.{optional_target}
 use Rattle.group_counts.specs.Counting.{count_below}
 use Rattle.group_counts.specs.Marks.{is_marked, AddsMarks, AreUnmarked}
 
@@ -19,13 +14,6 @@ or_false false = refl
 pub or_assoc : (a b c : Bool) → ((a || b) || c) ≡ (a || (b || c))
 or_assoc true b c = refl
 or_assoc false b c = refl
-
-pub eqb_sym : (a b : ℕ) → (a == b) ≡ (b == a)
-eqb_sym a b = by (a == b) refl
-  where
-    by : (t : Bool) → (a == b) ≡ t → (a == b) ≡ (b == a)
-    by true e = e ∙ sym (eq-eqb b a (sym (eqb-true a b e)))
-    by false e = e ∙ sym (ne_eqb b a (λ same. true≢false (sym (eq-eqb a b (sym same)) ∙ e)))
 
 -- ---- more of them
 
@@ -68,17 +56,6 @@ marks_more numbers start i now mid less adds left = record {
 
 pub marks_end : (numbers : List ℕ) (start : List Bool) (i : ℕ) (now : List Bool) → length numbers ≤ i → MarksLeft numbers start i now → AddsMarks (λ number. is_among number numbers) start now
 marks_end numbers start i now long left = left.to now (marks_nothing (λ number. is_among number (drop i numbers)) now (λ number. ap (is_among number) (drop_all i numbers long)))
-
--- ---- numbers that have targets
-
-pub among_keys : (entries : List (ℕ × memory_target.Target)) (number : ℕ) → is_among number (keys_of entries) ≡ has_target (optional_target (lookup (λ key. number == key) entries))
-among_keys [] number = refl
-among_keys (entry ∷ entries) number = ap (λ t. t || is_among number (keys_of entries)) (eqb_sym entry.0 number) ∙ by (number == entry.0) (among_keys entries number)
-  where
-    by : (t : Bool) → is_among number (keys_of entries) ≡ has_target (optional_target (lookup (λ key. number == key) entries))
-        → (t || is_among number (keys_of entries)) ≡ has_target (optional_target (if t then Some entry.1 else lookup (λ key. number == key) entries))
-    by true e = refl
-    by false e = e
 
 -- ---- how many
 

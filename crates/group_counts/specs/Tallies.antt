@@ -1,7 +1,7 @@
 -- Marks of the variables outside functions and the literals that are mentioned, and counts that go on with them.
-use Rattle.std.specs.Prelude.{◌≡◌, ℕ, ◌+◌, ◌<◌, ◌&&◌, Bool, true, false, if◌then◌else◌, nat_lt, nat_eq, List, length, slice_get, Option, Some, None}
+use Rattle.std.specs.Prelude.{◌≡◌, ℕ, ◌+◌, ◌<◌, ◌&&◌, Bool, true, false, if◌then◌else◌, nat_lt, List, length, slice_get, Contains, Option, Some, None}
 use Rattle.std.specs.List.{list_any}
-use Rattle.indexmap.specs.IndexSet.{contains, IsEmpty}
+use Rattle.indexmap.specs.IndexSet.{IsEmpty}
 use Rattle.tac_ir.specs.Code.{Base, Callee, Op, Tac}
 use Rattle.tac_ir.specs.States.{Owner, function_of, points_of}
 use Rattle.tac_ir.specs.Views.{tac_of}
@@ -10,12 +10,17 @@ use Rattle.group_begins.specs.Mentioned.{is_global, is_literal}
 use Rattle.group_crossings.specs.declared.before.Before.{Before}
 use Rattle.function_groups.specs.GroupViews.{IsOf}
 use Rattle.shared_lists.specs.Lists.{rows_in}
+use Rattle.graph_rows.specs.Lists.{is_among}
 use Rattle.group_crossings.specs.Before.{IsReached, graphs_before}
 use Rattle.group_crossings.specs.Live.{AreLive}
+use Rattle.group_statics.specs.declared.statics.Statics.{Statics}
+use Rattle.group_statics.specs.declared.statics.GroupStatics.{GroupStatics}
+use Rattle.group_statics.specs.Groups.{HaveStatics}
+use Rattle.group_statics.specs.Searched.{AreClosed}
 use Rattle.group_counts.specs.declared.mentions.Mentions.{Mentions}
 use Rattle.group_counts.specs.declared.tally.Tally.{Tally}
 use Rattle.group_counts.specs.Counting.{Outside, any_below, comes_out, mentions}
-use Rattle.group_counts.specs.Sums.{told_in, outside_of}
+use Rattle.group_counts.specs.Sums.{outside_of}
 use Rattle.group_counts.specs.Marks.{is_marked, AddsMarks, AreUnmarked}
 
 -- these variables outside functions and these literals are marked beside those that were
@@ -44,15 +49,26 @@ begins name = λ base. false
 abbrev pub any_of : {X : Type 0} → (X → Name → Bool) → List X → Name → Bool
 any_of mentions xs name = list_any (λ x. mentions x name) xs
 
--- the graph of a group tells of it
-abbrev pub group_names : Before → ℕ → Name → Bool
-group_names before group name = told_in (slice_get before.graphs.now group) name
+-- it is listed
+abbrev pub is_listed : Statics → Name → Bool
+is_listed statics (OfGlobal number) = is_among number statics.globals.items
+is_listed statics (OfLiteral number) = is_among number statics.literals.items
+is_listed statics name = false
+
+abbrev pub listed_in : Option GroupStatics → Name → Bool
+listed_in None name = false
+listed_in (Some its) name = is_listed its.own name
+
+-- a group lists it as its own
+abbrev pub own_names : List GroupStatics → ℕ → Name → Bool
+own_names all group name = listed_in (slice_get all group) name
 
 -- ---- counts
 
--- the names of which the graphs of the groups in `told` tell are marked
+-- With each group in `told` its bases are there, and what these groups list as their own is marked: so all is of which their graphs tell.
 pub record AreTold (before : Before) (tally : Tally) : Type 0 where
-  pub are : (group : ℕ) → contains nat_eq tally.told group ≡ true → AreMarked (group_names before group) tally.mentions
+  pub closed : AreClosed before.statics.now tally.told.keys
+  pub own : (group : ℕ) → Contains tally.told.keys group → AreMarked (own_names before.statics.now group) tally.mentions
 
 -- So many nodes more are counted; and where the names of the groups in `told` are marked, these names are mentioned, and the names of the groups
 -- that are in `told` then are marked.
@@ -73,6 +89,7 @@ pub record IsNew (tac : Tac) (own : ℕ) (tally : Tally) : Type 0 where
 pub record IsKnown (before : Before) : Type 0 where
   pub groups : IsOf before.tac.now before.groups.now
   pub live : AreLive before.tac.now (rows_in before.escaping.now) before.live.now
+  pub statics : HaveStatics before.tac.now.types before.graphs.now before.statics.now
   pub reached : (called group : ℕ) → slice_get before.groups.now.group_of.items called ≡ Some group → group < length before.graphs.now → IsReached (graphs_before before) called
 
 abbrev pub code_of : Before → Tac

@@ -1,13 +1,9 @@
 // Marks of numbers.
 
 ghost use Rattle.std.specs.Prelude.{◌≡◌, ◌==◌, length};
-ghost use Rattle.heap_graph.specs.Targets.{has_target};
-ghost use Rattle.frozen_graphs.specs.Frozen.{static_in};
+ghost use Rattle.graph_rows.specs.Lists.{is_among};
 ghost use Rattle.group_counts.specs.Counting.{count_below};
 ghost use Rattle.group_counts.specs.Marks.{is_marked, AddsMarks};
-
-use heap_graph::Target;
-use indexmap::IndexMap;
 
 /// Marks a number, where it has a mark.
 pub(crate) fn mark(marks: &mut Vec<bool>, number: usize)
@@ -18,11 +14,11 @@ pub(crate) fn mark(marks: &mut Vec<bool>, number: usize)
     }
 }
 
-/// Marks the numbers that have targets.
-pub(crate) fn mark_all(marks: &mut Vec<bool>, targets: &IndexMap<usize, Target>)
-    ensures { AddsMarks (λ number. has_target (static_in targets.now number)) marks.old.items marks.new.items }
+/// Marks these numbers, where they have marks.
+pub(crate) fn mark_all(marks: &mut Vec<bool>, numbers: &[usize])
+    ensures { AddsMarks (λ number. is_among number numbers.now) marks.old.items marks.new.items }
 {
-    for number in targets.keys().as_slice() {
+    for number in numbers {
         mark(marks, *number);
     }
 }

@@ -6,13 +6,12 @@ ghost use Rattle.tac_ir.specs.Code.{AtGlobal, AtLiteral};
 ghost use Rattle.tac_ir.specs.Views.{tac_of, base_in, path_in, op_in};
 ghost use Rattle.group_begins.specs.Mentioned.{path_of, op_begins};
 ghost use Rattle.group_counts.specs.Counting.{count_below};
-ghost use Rattle.group_counts.specs.Sums.{is_told};
 ghost use Rattle.group_counts.specs.Marks.{is_marked};
-ghost use Rattle.group_counts.specs.Tallies.{Adds, AreNone, begins};
+ghost use Rattle.group_counts.specs.Tallies.{Adds, AreNone, any_of, begins, is_listed, own_names};
 
 use crate::marks::{mark, mark_all, marked};
 use crate::sums::sum;
-use frozen_graphs::FrozenGraph;
+use group_statics::{GroupStatics, Statics};
 use std::alloc::{AllocError, Global};
 use tac_ir::{Base, GlobalId, LiteralId, Op, Path, Tac};
 
@@ -71,12 +70,31 @@ impl Mentions {
         }
     }
 
-    /// Adds those of which a graph tells.
-    pub(crate) fn add_graph(&mut self, graph: &FrozenGraph)
-        ensures { Adds (is_told graph.now) self.old self.new }
+    /// Adds those that are listed.
+    fn add_statics(&mut self, statics: &Statics)
+        ensures { Adds (is_listed statics.now) self.old self.new }
     {
-        mark_all(&mut self.globals, &graph.globals);
-        mark_all(&mut self.literals, &graph.literals);
+        mark_all(&mut self.globals, statics.globals.as_slice());
+        mark_all(&mut self.literals, statics.literals.as_slice());
+    }
+
+    /// Adds those that a group lists as its own.
+    fn add_group(&mut self, all: &[GroupStatics], group: usize)
+        ensures { Adds (own_names all.now group) self.old self.new }
+    {
+        match all.get(group) {
+            Some(its) => self.add_statics(&its.own),
+            None => {}
+        }
+    }
+
+    /// The same of some groups.
+    pub(crate) fn add_groups(&mut self, all: &[GroupStatics], groups: &[usize])
+        ensures { Adds (any_of (own_names all.now) groups.now) self.old self.new }
+    {
+        for group in groups {
+            self.add_group(all, *group);
+        }
     }
 
     /// How many there are.

@@ -1,13 +1,12 @@
 // What is known of functions outside a group.
 
-ghost use Rattle.std.specs.Prelude.{◌≡◌, MatchOption, None, Some};
+ghost use Rattle.std.specs.Prelude.{◌≡◌, None};
 ghost use Rattle.tac_ir.specs.Views.{tac_of};
 ghost use Rattle.function_groups.specs.GroupViews.{IsOf};
 ghost use Rattle.group_crossings.specs.Before.{graphs_before};
 ghost use Rattle.group_counts.specs.Sums as S;
 ghost use Rattle.group_counts.specs.Tallies.{is_apart};
 
-use frozen_graphs::FrozenGraph;
 use group_crossings::Before;
 
 /// Whether a number is that of a function outside the group.
@@ -21,16 +20,6 @@ pub(crate) fn is_apart(before: Before<'_>, group: Option<usize>, called: usize) 
             None => true,
         },
         None => false,
-    }
-}
-
-/// The graph of a function's group, where it has one.
-pub(crate) fn graph_before<'a>(before: Before<'a>, called: usize) -> Option<&'a FrozenGraph>
-    ensures { MatchOption result (S.graph_before (graphs_before before.entry) called ≡ None) (λ graph. S.graph_before (graphs_before before.entry) called ≡ Some graph.now) }
-{
-    match before.groups.group_of.get(called) {
-        Some(group) => before.graphs.get(*group),
-        None => None,
     }
 }
 

@@ -9,9 +9,10 @@ ghost use Rattle.group_counts.specs.Marks.{is_marked};
 ghost use Rattle.group_counts.specs.Tallies.{IsKnown, code_of, beyond, IsNew, Counts, any_of, copies_from, told_from, call_names, called_names, op_mentions, owner_mentions};
 
 use crate::mentions::Mentions;
-use crate::outside::{escaping, graph_before, is_apart};
+use crate::outside::{escaping, is_apart};
 use crate::sums::sum;
 use group_crossings::Before;
+use group_statics::tell_group;
 use indexmap::IndexSet;
 use std::alloc::{AllocError, Global};
 use tac_ir::{Callee, FunctionId, Op, Tac};
@@ -21,7 +22,7 @@ use tac_ir::{Callee, FunctionId, Op, Tac};
 pub(crate) struct Tally {
     pub(crate) count: u64,
     pub(crate) mentions: Mentions,
-    /// The groups whose graphs tell of nothing that isn't mentioned.
+    /// The groups whose graphs tell of nothing that isn't mentioned; with each of them its bases.
     told: IndexSet<usize>,
 }
 
@@ -111,12 +112,13 @@ impl Tally {
         ensures { OnOk result (Counts before.entry (copies_to (code_of before.entry) (beyond before.entry group) (length (code_of before.entry).functions) (callee_in before.entry.tac.now.types callee)) (call_names (code_of before.entry) (beyond before.entry group) (callee_in before.entry.tac.now.types callee)) self.old self.new) }
     {
         let targets = before.live_targets(alloc, callee)?;
-        self.add_targets(before, group, targets.as_slice())
+        self.add_targets(alloc, before, group, targets.as_slice())
     }
 
     /// The same of these functions.
     fn add_targets(
         &mut self,
+        alloc: Global,
         before: Before<'_>,
         group: Option<usize>,
         targets: &[FunctionId],
@@ -125,7 +127,7 @@ impl Tally {
         ensures { OnOk result (Counts before.entry (total (copies_from (code_of before.entry) (beyond before.entry group)) (numbers_of targets.now)) (any_of (told_from (code_of before.entry) (beyond before.entry group)) (numbers_of targets.now)) self.old self.new) }
     {
         for target in targets {
-            self.add_called(before, group, target.0)?;
+            self.add_called(alloc, before, group, target.0)?;
         }
         Ok(())
     }
@@ -133,6 +135,7 @@ impl Tally {
     /// The same of one function, if it is outside the group.
     fn add_called(
         &mut self,
+        alloc: Global,
         before: Before<'_>,
         group: Option<usize>,
         called: usize,
@@ -144,21 +147,27 @@ impl Tally {
             return Ok(());
         }
         self.count = sum(self.count, escaping(before, called) as u64)?;
-        self.add_told(before, called)
+        self.add_told(alloc, before, called)
     }
 
-    /// Adds what the graph of a function's group tells of, unless a function of that group was called before.
-    fn add_told(&mut self, before: Before<'_>, called: usize) -> Result<(), AllocError>
+    /// Adds what the graph of a function's group tells of: what this and the groups behind it list as their own, each of them once.
+    fn add_told(
+        &mut self,
+        alloc: Global,
+        before: Before<'_>,
+        called: usize,
+    ) -> Result<(), AllocError>
+        requires { IsKnown before }
         ensures { OnOk result (Counts before.entry 0 (called_names before.entry called) self.old self.new) }
     {
         let Some(group) = before.groups.group_of.get(called) else {
             return Ok(());
         };
-        if self.told.insert(*group)? {
-            if let Some(graph) = graph_before(before, called) {
-                self.mentions.add_graph(graph);
-            }
+        if *group >= before.graphs.len() {
+            return Ok(());
         }
+        let added = tell_group(alloc, before.statics, &mut self.told, *group)?;
+        self.mentions.add_groups(before.statics, added.as_slice());
         Ok(())
     }
 }

@@ -11,4 +11,5 @@ pub mod ToldCopies
 pub mod AskedCalls
 pub mod LiveClasses
 pub mod LiveRows
-pub mod KnownJoined
+pub mod ListedGroups
+pub mod ToldGroups

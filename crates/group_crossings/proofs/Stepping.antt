@@ -7,7 +7,7 @@ use Rattle.c_typed.specs.Layouts.{StructDef}
 use Rattle.c_typed.specs.Table.{structs_in}
 use Rattle.tac_ir.specs.declared.register.Register.{Register}
 use Rattle.tac_ir.specs.Code as O
-use Rattle.tac_ir.specs.Code.{Callee, Function, Op, Tac}
+use Rattle.tac_ir.specs.Code.{Callee, Function, Op}
 use Rattle.tac_ir.specs.States.{Owner, function_of}
 use Rattle.tac_ir.specs.Views.{tac_of}
 use Rattle.heap_graph.specs.Structures.{AreMade}

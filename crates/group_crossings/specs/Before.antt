@@ -22,6 +22,7 @@ use Rattle.reached_nodes.specs.Edges.{EdgesAreFound}
 use Rattle.shared_lists.specs.Lists.{rows_in}
 use Rattle.function_groups.specs.declared.group_lists.Groups.{Groups}
 use Rattle.call_copies.specs.Adding.{HaveSlots, AreClosed}
+use Rattle.group_statics.specs.declared.statics.GroupStatics.{GroupStatics}
 use Rattle.inner_calls.specs.Members.{is_numbered}
 use Rattle.group_crossings.specs.declared.before.Before.{Before}
 use Rattle.group_crossings.specs.declared.live.LiveTargets.{LiveTargets}
@@ -35,6 +36,7 @@ pub record GraphsBefore : Type 0 where
   pub functions : List FunctionGraph
   pub escaping : List (List ℕ)
   pub live : LiveTargets
+  pub statics : List GroupStatics
 
 abbrev pub graphs_before : Before → GraphsBefore
 graphs_before before = record {
@@ -44,6 +46,7 @@ graphs_before before = record {
   functions = before.functions.now;
   escaping = rows_in before.escaping.now;
   live = before.live.now;
+  statics = before.statics.now;
 }
 
 -- a list has a number

@@ -22,6 +22,7 @@ use Rattle.call_copies.specs.Telling.{CopiesTold}
 use Rattle.shared_lists.specs.Lists.{rows_in}
 use Rattle.function_groups.specs.GroupViews.{IsOf}
 use Rattle.graph_premises.specs.Standing.{CodeStands}
+use Rattle.group_statics.specs.Groups.{HaveStatics}
 use Rattle.group_freezing.specs.Copies.{TellsCopies}
 use Rattle.outer_calls.specs.Crossed.{IsCrossed}
 use Rattle.group_crossings.specs.declared.before.Before.{Before}
@@ -50,6 +51,7 @@ pub record IsKnown (before : Before) : Type 0 where
   pub literals : LiteralsStand before.tac.now.types before.tac.now.literals.items
   pub groups : IsOf before.tac.now before.groups.now
   pub live : AreLive before.tac.now (rows_in before.escaping.now) before.live.now
+  pub statics : HaveStatics before.tac.now.types before.graphs.now before.statics.now
 
 -- ---- one call, to one function
 

@@ -1,40 +1,41 @@
 -- Groups before whose variables outside functions and literals are joined with copies in a graph that is made.
-use Rattle.std.specs.Prelude.{◌≡◌, ℕ, ◌==◌, ◌⊎◌, slice_get, Option, Some}
-use Rattle.indexmap.specs.IndexMap.{get_by}
+use Rattle.std.specs.Prelude.{◌≡◌, ℕ, List, slice_get, Contains, Option, Some}
 use Rattle.heap_graph.specs.Graphs.{Graph}
-use Rattle.frozen_graphs.specs.Frozen.{bare}
-use Rattle.frozen_graphs.specs.declared.frozen.FrozenGraph.{FrozenGraph}
-use Rattle.outer_calls.specs.declared.statics.Representatives.{Representatives}
-use Rattle.outer_calls.specs.Statics.{AreJoined, Represents}
+use Rattle.group_statics.specs.declared.statics.GroupStatics.{GroupStatics}
+use Rattle.group_statics.specs.Searched.{AreClosed}
+use Rattle.outer_calls.specs.declared.crossed.Crossed.{Crossed}
+use Rattle.outer_calls.specs.Listed.{ListCome}
+use Rattle.group_crossings.specs.declared.before.Before.{Before}
 use Rattle.group_crossings.specs.declared.joined.JoinedGroups.{JoinedGroups}
-use Rattle.group_crossings.specs.Before.{GraphsBefore}
+use Rattle.group_crossings.specs.Before.{GraphsBefore, graphs_before}
+use Rattle.group_crossings.specs.Bases.{IsAligned}
 
--- those that stand for a group's, if it is one of these
-abbrev pub representatives_of : JoinedGroups → ℕ → Option Representatives
-representatives_of joined group = get_by (λ key. group == key) joined.groups
+-- With each group whose variables and literals are joined those are of its bases, and they lie in the graph as far apart as in its own. The
+-- groups that were called are among them.
+pub record AreKnownJoined (before : GraphsBefore) (joined : JoinedGroups) (graph : Graph) : Type 0 where
+  pub closed : AreClosed before.statics joined.told.keys
+  pub aligned : (group : ℕ) → Contains joined.told.keys group → IsAligned before graph group
+  pub bases : (group : ℕ) → Contains joined.bases.items group → Contains joined.told.keys group
 
--- all of which a group's graph tells are joined, and these stand for them
-pub record StandJoined (representatives : Representatives) (callee graph : Graph) : Type 0 where
-  pub represents : Represents representatives callee
-  pub joined : AreJoined callee graph
+-- the groups before, in the program of a call
+abbrev pub groups_of : Crossed → Before → GraphsBefore
+groups_of crossed before = record (graphs_before before) { tac = crossed.tac.now }
 
--- so it is where the group is one of these
-abbrev pub IsKnownJoined : JoinedGroups → ℕ → Graph → Graph → Type 0
-IsKnownJoined joined group callee graph = (representatives : Representatives) → representatives_of joined group ≡ Some representatives → StandJoined representatives callee graph
+-- ---- what comes to copies
 
--- so it is of a group before
-pub record IsJoinedGroup (before : GraphsBefore) (group : ℕ) (representatives : Representatives) (graph : Graph) : Type 0 where
-  pub frozen : FrozenGraph
-  pub is : slice_get before.graphs group ≡ Some frozen
-  pub stand : StandJoined representatives (bare before.tac.types frozen) graph
+module _ (all : List GroupStatics) (callee : Graph) (copies : ℕ → Option ℕ) where
+  -- those that stand for a group's
+  abbrev pub RepresentativesCome : ℕ → Graph → Type 0
+  RepresentativesCome group graph = (its : GroupStatics) → slice_get all group ≡ Some its → ListCome callee copies its.representatives graph
 
--- each is a group before of which that holds
-abbrev pub AreKnownJoined : GraphsBefore → JoinedGroups → Graph → Type 0
-AreKnownJoined before joined graph =
-    (group : ℕ) (representatives : Representatives) → representatives_of joined group ≡ Some representatives → IsJoinedGroup before group representatives graph
+  -- those of each of these groups
+  abbrev pub BasesCome : List ℕ → Graph → Type 0
+  BasesCome bases graph = (base : ℕ) → Contains bases base → RepresentativesCome base graph
 
--- each is one that was there before, or this one, with some that stand for its
-abbrev pub AddsJoined : ℕ → Graph → JoinedGroups → JoinedGroups → Type 0
-AddsJoined group callee old new =
-    (other : ℕ) (representatives : Representatives) → representatives_of new other ≡ Some representatives
-    → (representatives_of old other ≡ Some representatives) ⊎ ((group ≡ other) × Represents representatives callee)
+  -- those that functions of a group mention themselves, and those that stand for its bases'
+  abbrev pub GroupComes : ℕ → Graph → Type 0
+  GroupComes group graph = (its : GroupStatics) → slice_get all group ≡ Some its → ListCome callee copies its.own graph × BasesCome its.bases.items graph
+
+  -- those of each of these groups
+  abbrev pub GroupsCome : List ℕ → Graph → Type 0
+  GroupsCome groups graph = (group : ℕ) → Contains groups group → GroupComes group graph

@@ -4,6 +4,7 @@ use crate::live::LiveTargets;
 use call_copies::Copies;
 use frozen_graphs::FrozenGraph;
 use function_groups::Groups;
+use group_statics::GroupStatics;
 use indexmap::IndexMap;
 use program_graphs::{Crossing, FunctionGraph};
 use shared_lists::SharedLists;
@@ -19,6 +20,16 @@ pub struct Before<'a> {
     pub functions: &'a [FunctionGraph],
     pub escaping: &'a SharedLists,
     pub live: &'a LiveTargets,
+    /// What the graphs tell of variables outside functions and literals, by the numbers of the groups.
+    pub statics: &'a [GroupStatics],
+}
+
+/// The calls out of a group that were joined: the copies, by the places of the owners, and the groups of the functions that are called, each
+/// once.
+#[derive(Drop)]
+pub struct JoinedCalls {
+    pub crossings: Vec<Crossings>,
+    pub bases: Vec<usize>,
 }
 
 /// The copies at the calls that one function makes to functions of other groups.

@@ -14,9 +14,10 @@ ghost use Rattle.outer_calls.specs.Crossed.{CallNamed};
 ghost use Rattle.group_crossings.specs.Before.{graphs_before, is_inside, IsReached};
 ghost use Rattle.group_crossings.specs.Crossings.{owners_in, AreReached, AllReached, IsKnown, IsCalledFrom, AreCrossed, NumbersApart};
 ghost use Rattle.group_crossings.specs.Joined.{AreKnownJoined};
+ghost use Rattle.group_crossings.specs.Bases.{AreBases};
 ghost use Rattle.group_crossings.specs.CallSteps.{shown, IsPoint, OwnerNamed, CallOut, OwnStands, HasEntry, TargetCrosses, TargetsCross, PointCrosses, Crosses, OwnerCrosses, AllLead};
 
-use crate::before::{Before, Crossings};
+use crate::before::{Before, Crossings, JoinedCalls};
 use crate::joined::JoinedGroups;
 use call_copies::copy_escaping;
 use frozen_graphs::{FrozenGraph, FunctionNames};
@@ -42,7 +43,7 @@ impl<'a> Before<'a> {
         graph: &mut Graph,
         owners: &[Option<FunctionId>],
         group: Option<usize>,
-    ) -> Result<Vec<Crossings>, AllocError>
+    ) -> Result<JoinedCalls, AllocError>
         requires known { IsKnown self }
         requires owners { All (IsFunctionOf self.tac.now) owners.now }
         requires reached { AllReached (graphs_before self) group owners.now }
@@ -52,9 +53,10 @@ impl<'a> Before<'a> {
         ensures graph { OnOk result (IsGraph self.entry.tac.now.types graph.new) }
         ensures goes { OnOk result (GoesOn (structs_in self.entry.tac.now.types) (graph_in self.entry.tac.now.types graph.old) (graph_in self.entry.tac.now.types graph.new)) }
         ensures told { OnOk result (NamesTold (tac_of self.entry.tac.now) (owners_in owners.now) (graph_in self.entry.tac.now.types graph.new)) }
-        ensures crossed { IfOk result (λ all. AreCrossed (graphs_before self.entry) group owners.now all.items (graph_in self.entry.tac.now.types graph.new)) }
-        ensures apart { IfOk result (λ all. NumbersApart all.items) }
-        ensures leads { IfOk result (λ all. AllLead (graphs_before self.entry) group owners.now all.items (graph_in self.entry.tac.now.types graph.old) (graph_in self.entry.tac.now.types graph.new)) }
+        ensures crossed { IfOk result (λ all. AreCrossed (graphs_before self.entry) group owners.now all.crossings.items (graph_in self.entry.tac.now.types graph.new)) }
+        ensures apart { IfOk result (λ all. NumbersApart all.crossings.items) }
+        ensures leads { IfOk result (λ all. AllLead (graphs_before self.entry) group owners.now all.crossings.items (graph_in self.entry.tac.now.types graph.old) (graph_in self.entry.tac.now.types graph.new)) }
+        ensures bases { IfOk result (λ all. AreBases (graphs_before self.entry) all.bases.items (graph_in self.entry.tac.now.types graph.new)) }
     {
         let mut all = Vec::new(alloc);
         let mut joined = JoinedGroups::new(alloc);
@@ -68,7 +70,10 @@ impl<'a> Before<'a> {
             next = own.next;
             all.push(own)?;
         }
-        Ok(all)
+        Ok(JoinedCalls {
+            crossings: all,
+            bases: joined.bases,
+        })
     }
 
     /// Does so for one owner. The copies get the numbers from the first one on.
@@ -263,7 +268,16 @@ impl<'a> Before<'a> {
             copies,
         };
         let group = self.group_of(called);
-        joined.join(alloc, graph, crossed, group, caller.owner, site, arguments)?;
+        joined.join(
+            alloc,
+            graph,
+            crossed,
+            self,
+            group,
+            caller.owner,
+            site,
+            arguments,
+        )?;
         Ok(())
     }
 

@@ -11,6 +11,6 @@ mod joined;
 mod live;
 mod telling;
 
-pub use before::{Before, Crossings};
+pub use before::{Before, Crossings, JoinedCalls};
 pub use freezing::frozen_crossings;
 pub use live::LiveTargets;

@@ -2,7 +2,6 @@
 
 ghost use Rattle.std.specs.Prelude.{◌≡◌, [], IfOk, OnOk};
 ghost use Rattle.tac_ir.specs.Views.{callee_in};
-ghost use Rattle.graph_rows.specs.Rows.{AddsEdge};
 ghost use Rattle.call_targets.specs.ClassLists.{AreClasses, numbers_of};
 ghost use Rattle.function_groups.specs.GroupViews.{IsOf};
 ghost use Rattle.shared_lists.specs.Lists.{rows_in};
@@ -10,8 +9,8 @@ ghost use Rattle.group_crossings.specs.Before.{graphs_before, is_listed};
 ghost use Rattle.group_crossings.specs.Live.{class_in, row_in, TellClasses, AreNoneLive, AddsLive, AddsMembers, AreLive, AreLiveTargets};
 
 use crate::before::Before;
-use call_targets::Classes;
-use graph_rows::rows;
+use call_targets::{Classes, functions};
+use graph_rows::{add_edge, rows};
 use shared_lists::SharedLists;
 use std::alloc::{AllocError, Global};
 use tac_ir::{Callee, FunctionId, Tac};
@@ -148,23 +147,4 @@ fn no_classes(alloc: Global, count: usize) -> Result<Vec<Option<usize>>, AllocEr
         classes.push(None)?;
     }
     Ok(classes)
-}
-
-fn add_edge(rows: &mut Vec<Vec<usize>>, edge: (usize, usize)) -> Result<(), AllocError>
-    ensures { OnOk result (AddsEdge edge rows.old rows.new) }
-{
-    if let Some(row) = rows.get_mut(edge.0) {
-        row.push(edge.1)?;
-    }
-    Ok(())
-}
-
-fn functions(alloc: Global, numbers: &[usize]) -> Result<Vec<FunctionId>, AllocError>
-    ensures { IfOk result (λ made. numbers_of made.items ≡ numbers.now) }
-{
-    let mut functions = Vec::new(alloc);
-    for number in numbers {
-        functions.push(FunctionId(*number))?;
-    }
-    Ok(functions)
 }

@@ -28,6 +28,7 @@ use Rattle.group_begins.specs.Told.{NoCopies}
 use Rattle.group_begins.proofs.Completing.{closed_fits}
 use Rattle.group_freezing.proofs.ShownKept.{owners_are}
 use Rattle.dsa_local.specs.Local.{LeadsJoined}
+use Rattle.group_statics.specs.declared.statics.GroupStatics.{GroupStatics}
 use Rattle.group_crossings.specs.declared.live.LiveTargets.{LiveTargets}
 use Rattle.group_crossings.specs.Before.{GraphsBefore, is_inside, is_out}
 use Rattle.group_crossings.specs.Crossings.{owners_in}
@@ -203,16 +204,16 @@ pub record IsBegun (before : GraphsBefore) (group : Option ℕ) (owners : List (
   pub leads : LeadsJoined (tac_of before.tac) (owners_in owners) (is_inside before.groups group) begun
   pub copies : NoCopies begun
 
-abbrev with_lists : GraphsBefore → List FrozenGraph → List FunctionGraph → List (List ℕ) → LiveTargets → GraphsBefore
-with_lists before graphs functions escaping live = record { tac = before.tac; groups = before.groups; graphs = graphs; functions = functions; escaping = escaping; live = live }
+abbrev with_lists : GraphsBefore → List FrozenGraph → List FunctionGraph → List (List ℕ) → LiveTargets → List GroupStatics → GraphsBefore
+with_lists before graphs functions escaping live statics = record { tac = before.tac; groups = before.groups; graphs = graphs; functions = functions; escaping = escaping; live = live; statics = statics }
 
 module _ (before : GraphsBefore) (start : (tac_of before.tac).start.parameters ≡ 0) (grouped : IsGrouped before.tac before.groups) (number : ℕ) (making : IsMaking before number) (begun : Graph) (graph : FrozenGraph)
     (functions : List FunctionGraph) where
   grows : (members : List FunctionId) → slice_get (groups_of before.groups) number ≡ Some (numbers_of members) → IsAssembled before (Some number) (map Some members) begun graph functions
-      → IsBegun before (Some number) (map Some members) begun → AreLeast before number → (graphs : List FrozenGraph) (known : List FunctionGraph) (escaping : List (List ℕ)) (live : LiveTargets)
-      → AddsGroup before (with_lists before graphs known escaping live) members graph functions → AreLeast (with_lists before graphs known escaping live) (suc number)
-  grows members row assembled begins_so least graphs known escaping live adds all begins others closed full =
-      let after = with_lists before graphs known escaping live in
+      → IsBegun before (Some number) (map Some members) begun → AreLeast before number → (graphs : List FrozenGraph) (known : List FunctionGraph) (escaping : List (List ℕ)) (live : LiveTargets) (statics : List GroupStatics)
+      → AddsGroup before (with_lists before graphs known escaping live statics) members graph functions → AreLeast (with_lists before graphs known escaping live statics) (suc number)
+  grows members row assembled begins_so least graphs known escaping live statics adds all begins others closed full =
+      let after = with_lists before graphs known escaping live statics in
       let earlier = begins_before before after number members graph functions grouped row making.graphs adds all begins in
       let maps = least all earlier others (closed_less (other_at before others) (suc number) number (omega arith) closed) full in
       by members row assembled begins_so (record {
@@ -234,10 +235,10 @@ module _ (before : GraphsBefore) (start : (tac_of before.tac).start.parameters �
       → IsBegun before (Some number) (map Some members) begun → (after : GraphsBefore) → AddsGroup before after members graph functions → AreLeast before number → AreLeast after (suc number)
   least_grows members row assembled begins_so after adds least =
       subst (λ made. AreLeast made (suc number)) (sym same)
-      (grows members row assembled begins_so least after.graphs after.functions after.escaping after.live (subst (λ made. AddsGroup before made members graph functions) same adds))
+      (grows members row assembled begins_so least after.graphs after.functions after.escaping after.live after.statics (subst (λ made. AddsGroup before made members graph functions) same adds))
     where
-      same : after ≡ with_lists before after.graphs after.functions after.escaping after.live
-      same = λ i. record { tac = adds.tac i; groups = adds.groups i; graphs = after.graphs; functions = after.functions; escaping = after.escaping; live = after.live }
+      same : after ≡ with_lists before after.graphs after.functions after.escaping after.live after.statics
+      same = λ i. record { tac = adds.tac i; groups = adds.groups i; graphs = after.graphs; functions = after.functions; escaping = after.escaping; live = after.live; statics = after.statics }
 
 -- no group has its graph yet
 pub least_begins : (before : GraphsBefore) → AreLeast before 0

@@ -8,6 +8,4 @@ pub mod Closing
 pub mod Completing
 pub mod Escaping
 pub mod Fitting
-pub mod JoinedStatics
-pub mod Representing
-pub mod SeenNodes
+pub mod Aligning

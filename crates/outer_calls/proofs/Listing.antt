@@ -1,22 +1,17 @@
 -- The variables outside functions, or the literals, of a list, one after the other.
-use Rattle.std.proofs.Common.{◌≡◌, ℕ, ◌<◌, ◌≤◌, List, length, get_or, Contains, Option, Some, None, refl, sym, subst, ◌∙◌, arith}
-use Rattle.std.specs.Prelude.{nat_eq, IsSome}
-use Rattle.std.proofs.lemmas.Bool.{eqb-true}
+use Rattle.std.proofs.Common.{◌≡◌, ℕ, ◌<◌, ◌≤◌, List, length, get_or, Option, subst, ◌∙◌, arith}
 use Rattle.std.proofs.lemmas.List.{get_or_default}
 use Rattle.std.proofs.lemmas.List.Elements.{Contains-get_or}
-use Rattle.std.proofs.lemmas.Map.Views.{Contains-keys_from_lookup}
-use Rattle.std.proofs.lemmas.Option.{none-some}
-use Rattle.indexmap.specs.IndexMap.{IndexMap, keys, get_by}
-use Rattle.heap_graph.specs.declared.graph.Target as memory_target
 use Rattle.tac_ir.specs.Code.{Tac}
 use Rattle.heap_graph.specs.Structures.{AreMade}
-use Rattle.heap_graph.specs.Graphs.{Target, Name, Graph}
-use Rattle.frozen_graphs.specs.Frozen.{optional_target, static_in}
-use Rattle.outer_calls.specs.Crossed.{Comes, AllCome}
+use Rattle.heap_graph.specs.Graphs.{Name, OfGlobal, OfLiteral, Graph}
+use Rattle.heap_graph.specs.Merging.{IsSound}
+use Rattle.group_statics.specs.declared.statics.Statics.{Statics}
+use Rattle.outer_calls.specs.Crossed.{Comes}
 use Rattle.outer_calls.specs.Joins.{Joins}
-use Rattle.outer_calls.specs.Listed.{ListedCome}
+use Rattle.outer_calls.specs.Listed.{ListedCome, ListCome}
 use Rattle.outer_calls.proofs.Kept.{Keeps, comes_kept}
-use Rattle.outer_calls.proofs.Joining.{Below, joins_for}
+use Rattle.outer_calls.proofs.Joining.{Below, joins_then, joins_for}
 
 -- the one that stands at a place of the list
 abbrev pub ComesAt : Graph → (ℕ → Option ℕ) → (ℕ → Name) → List ℕ → ℕ → Graph → Type 0
@@ -47,18 +42,16 @@ module _ (tac : Tac) (made : AreMade tac.structs) (callee : Graph) (copies : ℕ
       subst (λ n. Comes callee copies (name n) (name n) new) there (below among.0 (omega (arith, within, out)) within))
       joins
 
--- a number that has a target is among the keys
-key_found : {S : Type 0} (map : IndexMap ℕ memory_target.Target S) (number : ℕ) (target : Target) → static_in map number ≡ Some target → Contains (keys map) number
-key_found map number target is = Contains-keys_from_lookup {eq = nat_eq} eqb-true number map.entries (by (get_by (nat_eq number) map) is)
+-- variables first, then literals
+pub statics_joined : (tac : Tac) (made : AreMade tac.structs) (callee : Graph) (copies : ℕ → Option ℕ) (statics : Statics) (one two three : Graph) → IsSound tac.structs one → IsSound tac.structs two
+    → Joins tac callee (ListedCome callee copies OfGlobal statics.globals.items) one two → Joins tac callee (ListedCome callee copies OfLiteral statics.literals.items) two three
+    → Joins tac callee (ListCome callee copies statics) one three
+statics_joined tac made callee copies statics one two three sound second globals literals =
+    joins_for tac made callee one three (λ g. Globals g × Literals g) (ListCome callee copies statics) (λ g its. (its.globals, its.literals)) (λ its. record { globals = its.0; literals = its.1 })
+    (joins_then tac made callee one two three sound second Globals Literals (λ g. Globals g × Literals g) (listed_kept tac made callee copies OfGlobal statics.globals.items) (λ g its. its) (λ g a b. (a, b)) globals literals)
   where
-    by : (found : Option memory_target.Target) → optional_target found ≡ Some target → IsSome found
-    by None e = absurd (none-some target e)
-    by (Some value) e = refl
+    Globals : Graph → Type 0
+    Globals = ListedCome callee copies OfGlobal statics.globals.items
 
--- where those of a list come to their copies in which all are that have targets, all do
-pub all_listed : {S : Type 0} (map : IndexMap ℕ memory_target.Target S) (tac : Tac) (made : AreMade tac.structs) (callee : Graph) (copies : ℕ → Option ℕ) (name : ℕ → Name)
-    → ((number : ℕ) → callee.targets (name number) ≡ static_in map number) → (numbers : List ℕ) → numbers ≡ keys map → (old new : Graph) → Joins tac callee (ListedCome callee copies name numbers) old new
-    → Joins tac callee (AllCome callee copies name) old new
-all_listed map tac made callee copies name shows numbers same old new joins =
-    joins_for tac made callee old new (ListedCome callee copies name numbers) (AllCome callee copies name) (λ graph all number among. all number)
-    (λ listed number target is. listed number (subst (λ l. Contains l number) (sym same) (key_found map number target (sym (shows number) ∙ is))) target is) joins
+    Literals : Graph → Type 0
+    Literals = ListedCome callee copies OfLiteral statics.literals.items

@@ -17,14 +17,13 @@ use Rattle.tac_ir.specs.Code.{Tac}
 use Rattle.tac_ir.specs.States.{Owner, InFunction}
 use Rattle.tac_ir.specs.Views.{tac_of, function_in}
 use Rattle.heap_graph.specs.Structures.{AreMade}
-use Rattle.heap_graph.specs.Graphs.{Target, Name, OfRegister, OfResult, OfGlobal, OfLiteral, Graph}
+use Rattle.heap_graph.specs.Graphs.{Target, Name, OfRegister, OfResult, Graph}
 use Rattle.heap_graph.specs.Points.{is_data_pointer}
 use Rattle.heap_graph.specs.Merging.{IsSound}
 use Rattle.heap_graph.specs.Closed.{parameters_of, result_of, type_of, function_type, formal}
-use Rattle.outer_calls.specs.Crossed.{IsImage, Comes, AllCome, IsPassed, ArePassed, IsGiven, IsCrossed}
+use Rattle.outer_calls.specs.Crossed.{IsImage, Comes, IsPassed, ArePassed, IsGiven, IsJoined}
 use Rattle.outer_calls.specs.Joins.{Joins}
-use Rattle.outer_calls.specs.Listed.{StaticsCome}
-use Rattle.outer_calls.proofs.Kept.{Keeps, passed_kept, are_passed_kept, given_kept, all_come_kept}
+use Rattle.outer_calls.proofs.Kept.{Keeps, passed_kept, are_passed_kept}
 use Rattle.outer_calls.proofs.Joining.{Below, joins_same, joins_then, joins_for}
 
 -- ---- what is read of functions in memory
@@ -142,28 +141,10 @@ module _ (tac : Tac) (made : AreMade tac.structs) (callee : Graph) (copies : ℕ
   abbrev Given : Graph → Type 0
   Given = IsGiven callee copies owner site called (function_type tac called)
 
-  abbrev Globals : Graph → Type 0
-  Globals = AllCome callee copies OfGlobal
-
-  abbrev Literals : Graph → Type 0
-  Literals = AllCome callee copies OfLiteral
-
-  -- arguments first, then the result, then variables and literals
-  pub crossed_joined : (one two three four : Graph) → IsSound tac.structs one → IsSound tac.structs two → IsSound tac.structs three → Joins tac callee Passed one two → Joins tac callee Given two three
-      → Joins tac callee (StaticsCome callee copies) three four → Joins tac callee (IsCrossed tac owner site arguments called callee copies) one four
-  crossed_joined one two three four sound second third passed given statics =
-      joins_for tac made callee one four (λ g. Passed g × (Given g × StaticsCome callee copies g)) (IsCrossed tac owner site arguments called callee copies)
-      (λ g its. (its.passed, (its.given, (its.globals, its.literals))))
-      (λ its. record { passed = its.0; given = its.1.0; globals = its.1.1.0; literals = its.1.1.1 })
-      (joins_then tac made callee one two four sound second Passed (λ g. Given g × StaticsCome callee copies g) (λ g. Passed g × (Given g × StaticsCome callee copies g))
-      (are_passed_kept tac.structs made callee copies owner called (parameters_of (function_type tac called)) arguments) (λ g its. its) (λ g a b. (a, b)) passed
-      (joins_then tac made callee two three four second third Given (StaticsCome callee copies) (λ g. Given g × StaticsCome callee copies g)
-      (given_kept tac.structs made callee copies owner site called (function_type tac called)) (λ g its. its) (λ g a b. (a, b)) given statics))
-
-  -- variables first, then literals
-  pub all_joined : (one two three four five : Graph) → IsSound tac.structs one → IsSound tac.structs two → IsSound tac.structs three → IsSound tac.structs four → Joins tac callee Passed one two
-      → Joins tac callee Given two three → Joins tac callee Globals three four → Joins tac callee Literals four five → Joins tac callee (IsCrossed tac owner site arguments called callee copies) one five
-  all_joined one two three four five sound second third fourth passed given globals literals =
-      crossed_joined one two three five sound second third passed given
-      (joins_then tac made callee three four five third fourth Globals Literals (StaticsCome callee copies)
-      (all_come_kept tac.structs made callee copies OfGlobal) (λ g its. its) (λ g a b. (a, b)) globals literals)
+  -- arguments first, then the result
+  pub call_joined : (one two three : Graph) → IsSound tac.structs one → IsSound tac.structs two → Joins tac callee Passed one two → Joins tac callee Given two three
+      → Joins tac callee (IsJoined tac owner site arguments called callee copies) one three
+  call_joined one two three sound second passed given =
+      joins_for tac made callee one three (λ g. Passed g × Given g) (IsJoined tac owner site arguments called callee copies) (λ g its. (its.passed, its.given)) (λ its. record { passed = its.0; given = its.1 })
+      (joins_then tac made callee one two three sound second Passed Given (λ g. Passed g × Given g)
+      (are_passed_kept tac.structs made callee copies owner called (parameters_of (function_type tac called)) arguments) (λ g its. its) (λ g a b. (a, b)) passed given)

@@ -54,6 +54,11 @@ ArePassed callee copies owner called types arguments graph =
 abbrev pub IsGiven : Graph → (ℕ → Option ℕ) → Owner → ℕ → ℕ → CType → Graph → Type 0
 IsGiven callee copies owner site called c_type graph = is_data_pointer (result_of c_type) ≡ true → Comes callee copies (OfRegister owner (R.Call site)) (OfResult (InFunction called)) graph
 
+-- what a call passes and is given comes to the copies of a function's nodes
+pub record IsJoined (tac : Tac) (owner : Owner) (site : ℕ) (arguments : List Register) (called : ℕ) (callee : Graph) (copies : ℕ → Option ℕ) (graph : Graph) : Type 0 where
+  pub passed : ArePassed callee copies owner called (parameters_of (function_type tac called)) arguments graph
+  pub given : IsGiven callee copies owner site called (function_type tac called) graph
+
 -- a call uses the copies of a function's nodes
 pub record IsCrossed (tac : Tac) (owner : Owner) (site : ℕ) (arguments : List Register) (called : ℕ) (callee : Graph) (copies : ℕ → Option ℕ) (graph : Graph) : Type 0 where
   pub passed : ArePassed callee copies owner called (parameters_of (function_type tac called)) arguments graph

@@ -2,5 +2,4 @@ pub mod Crossed
 pub mod Joins
 pub mod Shown
 pub mod Placed
-pub mod Statics
 pub mod Listed

@@ -1,33 +1,19 @@
 -- Lists of variables outside functions, or of literals, by their numbers.
-use Rattle.std.specs.Prelude.{◌≡◌, ◌⊎◌, ℕ, List, Contains, Option, Some}
-use Rattle.indexmap.specs.IndexMap.{IndexMap}
-use Rattle.heap_graph.specs.declared.graph.Target as memory_target
+use Rattle.std.specs.Prelude.{◌≡◌, ℕ, List, Contains, Option, Some}
 use Rattle.heap_graph.specs.Graphs.{Target, Name, OfGlobal, OfLiteral, Graph}
-use Rattle.frozen_graphs.specs.Frozen.{static_in}
-use Rattle.outer_calls.specs.Crossed.{Comes, AllCome}
-
--- ---- where they come to
+use Rattle.group_statics.specs.declared.statics.Statics.{Statics}
+use Rattle.outer_calls.specs.Crossed.{Comes}
 
 -- those of a list come to their copies
 abbrev pub ListedCome : Graph → (ℕ → Option ℕ) → (ℕ → Name) → List ℕ → Graph → Type 0
 ListedCome callee copies name numbers graph = (number : ℕ) → Contains numbers number → Comes callee copies (name number) (name number) graph
 
--- all variables outside functions and all literals do
-abbrev pub StaticsCome : Graph → (ℕ → Option ℕ) → Graph → Type 0
-StaticsCome callee copies graph = AllCome callee copies OfGlobal graph × AllCome callee copies OfLiteral graph
+-- those that are listed do
+pub record ListCome (callee : Graph) (copies : ℕ → Option ℕ) (statics : Statics) (graph : Graph) : Type 0 where
+  pub globals : ListedCome callee copies OfGlobal statics.globals.items graph
+  pub literals : ListedCome callee copies OfLiteral statics.literals.items graph
 
--- ---- the nodes in which they lie
-
-module _ {S : Type 0} (targets : IndexMap ℕ memory_target.Target S) where
-  -- one of a list lies in the node
-  pub record HasListed (numbers : List ℕ) (node : ℕ) : Type 0 where
-    pub number : ℕ
-    pub among : Contains numbers number
-    pub target : Target
-    pub is : static_in targets number ≡ Some target
-    pub there : target.node ≡ node
-
-  -- The nodes in which they lie are seen. In each that wasn't seen before lies one of the list.
-  pub record SeesNodes (before after numbers : List ℕ) : Type 0 where
-    pub seen : (number : ℕ) (target : Target) → static_in targets number ≡ Some target → Contains after target.node
-    pub first : (node : ℕ) → Contains after node → Contains before node ⊎ HasListed numbers node
+-- those do of which a graph tells
+pub record ToldCome (told callee : Graph) (copies : ℕ → Option ℕ) (graph : Graph) : Type 0 where
+  pub globals : (number : ℕ) (target : Target) → told.targets (OfGlobal number) ≡ Some target → Comes callee copies (OfGlobal number) (OfGlobal number) graph
+  pub literals : (number : ℕ) (target : Target) → told.targets (OfLiteral number) ≡ Some target → Comes callee copies (OfLiteral number) (OfLiteral number) graph

@@ -1,22 +1,21 @@
 // Names that come to copies of the nodes of a function that is called.
 
-ghost use Rattle.std.specs.Prelude.{◌≡◌, true, Some, None, option_map, OnOk};
+ghost use Rattle.std.specs.Prelude.{◌≡◌, true, Some, option_map, OnOk};
 ghost use Rattle.heap_graph.specs.Memory.{target_of};
 ghost use Rattle.heap_graph.specs.Targets.{has_target};
 ghost use Rattle.graph_memory.specs.Memory.{owner_of, name_of, IsGraph};
 ghost use Rattle.call_copies.specs.Copied.{image};
 ghost use Rattle.call_copies.specs.Steps.{LeadsToSlot};
-ghost use Rattle.outer_calls.specs.Crossed.{IsImage, IsCrossed, IsCopied, CallNamed};
+ghost use Rattle.outer_calls.specs.Listed.{ListCome};
+ghost use Rattle.outer_calls.specs.Crossed.{IsImage, IsJoined, IsCopied, CallNamed};
 ghost use Rattle.outer_calls.specs.Joins.{Joins};
-ghost use Rattle.outer_calls.specs.Statics.{AreJoined, Represents};
-ghost use Rattle.frozen_graphs.specs.Frozen.{bare};
 ghost use Rattle.outer_calls.specs.Shown.{code_of, shown, callee_of, copies_of, IsKnown, HasCopies};
 
-use crate::statics::Representatives;
 use call_copies::Copies;
 use frozen_graphs::{FrozenGraph, FunctionNames, is_collapsed};
 use graph_memory::{Graph, Name};
 use graph_steps::make_one;
+use group_statics::Statics;
 use heap_graph::Target;
 use std::alloc::AllocError;
 use tac_ir::{FunctionId, Register, Tac};
@@ -32,9 +31,8 @@ pub struct Crossed<'a> {
     pub copies: &'a Copies,
 }
 
-/// Makes what a call passes and is given one with the copies of the nodes of the function that is called, and so the variables outside
-/// functions and the literals of which the graph of that function tells. They get targets where they have none.
-pub fn join_outer(
+/// Makes what a call passes and is given one with the copies of the nodes of the function that is called.
+pub fn join_call(
     crossed: Crossed<'_>,
     graph: &mut Graph,
     owner: Option<FunctionId>,
@@ -48,40 +46,30 @@ pub fn join_outer(
     ensures graph { OnOk result (IsGraph crossed.entry.tac.now.types graph.new) }
     ensures copied { OnOk result (HasCopies crossed.entry graph.new) }
     ensures joins { OnOk result (Joins (code_of crossed.entry) (callee_of crossed.entry)
-        (IsCrossed (code_of crossed.entry) (owner_of owner) site arguments.now crossed.entry.called (callee_of crossed.entry) (copies_of crossed.entry))
+        (IsJoined (code_of crossed.entry) (owner_of owner) site arguments.now crossed.entry.called (callee_of crossed.entry) (copies_of crossed.entry))
         (shown crossed.entry graph.old) (shown crossed.entry graph.new)) }
 {
     crossed.pass_arguments(graph, owner, arguments)?;
-    crossed.take_result(graph, owner, site)?;
-    crossed.join_globals(graph)?;
-    crossed.join_literals(graph)
+    crossed.take_result(graph, owner, site)
 }
 
-/// Does the same for a call to a function of a group whose variables and literals are joined with copies already: it is enough to join with
-/// the new copies those that stand for the others.
-pub fn join_again(
+/// Makes variables outside functions and literals one with their copies. Those of which the graph of the function that is called doesn't tell are
+/// left as they are; the others get targets where they have none.
+pub fn join_statics(
     crossed: Crossed<'_>,
     graph: &mut Graph,
-    owner: Option<FunctionId>,
-    site: usize,
-    arguments: &[Register],
-    representatives: &Representatives,
+    statics: &Statics,
 ) -> Result<(), AllocError>
     requires known { IsKnown crossed }
     requires graph { IsGraph crossed.tac.now.types graph.old }
     requires copied { HasCopies crossed graph.old }
-    requires names { CallNamed (owner_of owner) site arguments.now (shown crossed graph.old) }
-    requires represents { Represents representatives.now (bare crossed.tac.now.types crossed.callee.now) }
-    requires joined { AreJoined (bare crossed.tac.now.types crossed.callee.now) (shown crossed graph.old) }
     ensures graph { OnOk result (IsGraph crossed.entry.tac.now.types graph.new) }
     ensures copied { OnOk result (HasCopies crossed.entry graph.new) }
-    ensures joins { OnOk result (Joins (code_of crossed.entry) (callee_of crossed.entry)
-        (IsCrossed (code_of crossed.entry) (owner_of owner) site arguments.now crossed.entry.called (callee_of crossed.entry) (copies_of crossed.entry))
+    ensures joins { OnOk result (Joins (code_of crossed.entry) (callee_of crossed.entry) (ListCome (callee_of crossed.entry) (copies_of crossed.entry) statics.now)
         (shown crossed.entry graph.old) (shown crossed.entry graph.new)) }
 {
-    crossed.pass_arguments(graph, owner, arguments)?;
-    crossed.take_result(graph, owner, site)?;
-    crossed.join_representatives(graph, representatives)
+    crossed.join_listed_globals(graph, statics.globals.as_slice())?;
+    crossed.join_listed_literals(graph, statics.literals.as_slice())
 }
 
 impl<'a> Crossed<'a> {

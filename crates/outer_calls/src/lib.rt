@@ -8,5 +8,4 @@ mod arguments;
 mod crossed;
 mod statics;
 
-pub use crossed::{Crossed, join_again, join_outer};
-pub use statics::Representatives;
+pub use crossed::{Crossed, join_call, join_statics};

@@ -1,76 +1,27 @@
 // Variables outside functions and literals.
 
-ghost use Rattle.std.specs.Prelude.{IfOk, OnOk};
-ghost use Rattle.c_typed.specs.Table.{Interned};
-ghost use Rattle.frozen_graphs.specs.Frozen.{bare};
+ghost use Rattle.std.specs.Prelude.{OnOk};
 ghost use Rattle.heap_graph.specs.Graphs.{OfGlobal, OfLiteral};
 ghost use Rattle.graph_memory.specs.Memory.{IsGraph};
-ghost use Rattle.outer_calls.specs.Crossed.{Comes, AllCome};
+ghost use Rattle.outer_calls.specs.Crossed.{Comes};
 ghost use Rattle.outer_calls.specs.Joins.{Joins};
-ghost use Rattle.outer_calls.specs.Listed.{ListedCome, StaticsCome, SeesNodes};
-ghost use Rattle.outer_calls.specs.Statics.{AreJoined, Represents};
+ghost use Rattle.outer_calls.specs.Listed.{ListedCome};
 ghost use Rattle.outer_calls.specs.Shown.{code_of, shown, callee_of, copies_of, IsKnown, HasCopies};
 
 use crate::crossed::Crossed;
-use frozen_graphs::FrozenGraph;
 use graph_memory::{Graph, Name};
 use graph_names::{add_global, add_literal};
-use heap_graph::Target;
-use indexmap::{IndexMap, IndexSet};
-use std::alloc::{AllocError, Global};
+use std::alloc::AllocError;
 use tac_ir::{GlobalId, LiteralId};
 
-/// Of each node of a group's graph in which variables outside functions or literals lie, one of these.
-#[derive(Drop)]
-pub struct Representatives {
-    globals: Vec<usize>,
-    literals: Vec<usize>,
-}
-
-impl Representatives {
-    /// Those of a graph.
-    pub fn of_graph(alloc: Global, graph: &FrozenGraph) -> Result<Representatives, AllocError>
-        ensures { IfOk result (λ made. (table : Interned) → Represents made (bare table graph.now)) }
-    {
-        let mut seen = IndexSet::new(alloc);
-        let globals = first_of_nodes(alloc, &mut seen, &graph.globals)?;
-        let literals = first_of_nodes(alloc, &mut seen, &graph.literals)?;
-        Ok(Representatives { globals, literals })
-    }
-}
-
-/// The numbers with targets in nodes that weren't seen yet, one of each node. These nodes are seen then.
-fn first_of_nodes(
-    alloc: Global,
-    seen: &mut IndexSet<usize>,
-    targets: &IndexMap<usize, Target>,
-) -> Result<Vec<usize>, AllocError>
-    ensures { IfOk result (λ numbers. SeesNodes targets.now seen.old.keys seen.new.keys numbers.items) }
-{
-    let mut numbers = Vec::new(alloc);
-    for (number, target) in targets.iter() {
-        let is_new = seen.insert(target.node)?;
-        if is_new {
-            numbers.push(*number)?;
-        }
-    }
-    Ok(numbers)
-}
-
 impl<'a> Crossed<'a> {
-    /// Makes the variables outside functions of which the graph of the function that is called tells one with their copies.
-    pub(crate) fn join_globals(self, graph: &mut Graph) -> Result<(), AllocError>
-        requires known { IsKnown self }
-        requires graph { IsGraph self.tac.now.types graph.old }
-        requires copied { HasCopies self graph.old }
-        ensures graph { OnOk result (IsGraph self.entry.tac.now.types graph.new) }
-        ensures joins { OnOk result (Joins (code_of self.entry) (callee_of self.entry) (AllCome (callee_of self.entry) (copies_of self.entry) OfGlobal) (shown self.entry graph.old) (shown self.entry graph.new)) }
-    {
-        self.join_listed_globals(graph, self.callee.globals.keys().as_slice())
-    }
-
-    /// The same of those with these numbers.
-    fn join_listed_globals(self, graph: &mut Graph, numbers: &[usize]) -> Result<(), AllocError>
+    /// Makes the variables outside functions with these numbers one with their copies, where the graph of the function that is called tells of
+    /// them.
+    pub(crate) fn join_listed_globals(
+        self,
+        graph: &mut Graph,
+        numbers: &[usize],
+    ) -> Result<(), AllocError>
         requires known { IsKnown self }
         requires graph { IsGraph self.tac.now.types graph.old }
         requires copied { HasCopies self graph.old }
@@ -102,19 +53,12 @@ impl<'a> Crossed<'a> {
         self.join_image(graph, Name::Global(global), target)
     }
 
-    /// Makes the literals of which the graph of the function that is called tells one with their copies.
-    pub(crate) fn join_literals(self, graph: &mut Graph) -> Result<(), AllocError>
-        requires known { IsKnown self }
-        requires graph { IsGraph self.tac.now.types graph.old }
-        requires copied { HasCopies self graph.old }
-        ensures graph { OnOk result (IsGraph self.entry.tac.now.types graph.new) }
-        ensures joins { OnOk result (Joins (code_of self.entry) (callee_of self.entry) (AllCome (callee_of self.entry) (copies_of self.entry) OfLiteral) (shown self.entry graph.old) (shown self.entry graph.new)) }
-    {
-        self.join_listed_literals(graph, self.callee.literals.keys().as_slice())
-    }
-
-    /// The same of those with these numbers.
-    fn join_listed_literals(self, graph: &mut Graph, numbers: &[usize]) -> Result<(), AllocError>
+    /// Makes the literals with these numbers one with their copies, where the graph of the function that is called tells of them.
+    pub(crate) fn join_listed_literals(
+        self,
+        graph: &mut Graph,
+        numbers: &[usize],
+    ) -> Result<(), AllocError>
         requires known { IsKnown self }
         requires graph { IsGraph self.tac.now.types graph.old }
         requires copied { HasCopies self graph.old }
@@ -144,23 +88,5 @@ impl<'a> Crossed<'a> {
         };
         add_literal(graph, &self.tac.types, literal, definition.c_type)?;
         self.join_image(graph, Name::Literal(literal), target)
-    }
-    /// Makes all of them one with their copies where they are so with other copies of the same nodes: it is enough to join those that stand for
-    /// the others.
-    pub(crate) fn join_representatives(
-        self,
-        graph: &mut Graph,
-        representatives: &Representatives,
-    ) -> Result<(), AllocError>
-        requires known { IsKnown self }
-        requires graph { IsGraph self.tac.now.types graph.old }
-        requires copied { HasCopies self graph.old }
-        requires represents { Represents representatives.now (bare self.tac.now.types self.callee.now) }
-        requires joined { AreJoined (bare self.tac.now.types self.callee.now) (shown self graph.old) }
-        ensures graph { OnOk result (IsGraph self.entry.tac.now.types graph.new) }
-        ensures joins { OnOk result (Joins (code_of self.entry) (callee_of self.entry) (StaticsCome (callee_of self.entry) (copies_of self.entry)) (shown self.entry graph.old) (shown self.entry graph.new)) }
-    {
-        self.join_listed_globals(graph, representatives.globals.as_slice())?;
-        self.join_listed_literals(graph, representatives.literals.as_slice())
     }
 }

@@ -1,6 +1,6 @@
 // Lists by number, kept once each.
 
-ghost use Rattle.std.specs.Prelude.{◌≡◌, ◌<◌, [], All, length, replicate, set, slice_get, option_copied, IfOk, OnOk};
+ghost use Rattle.std.specs.Prelude.{◌≡◌, ◌<◌, [], All, length, replicate, set, slice_get, option_copied, IfOk, OnOk, OnErr};
 
 use indexmap::IndexSet;
 use std::alloc::{AllocError, Global};
@@ -36,10 +36,11 @@ impl SharedLists {
         Some(self.lists.get_index(index)?.as_slice())
     }
 
-    /// Gives a number this list, which takes no memory of its own where an equal one was set before.
+    /// Gives a number this list, which takes no memory of its own where an equal one was set before; without memory all lists stay.
     pub fn set(&mut self, number: usize, list: Vec<usize>) -> Result<(), AllocError>
         requires { number < length (rows_in self.old) }
-        ensures { OnOk result (rows_in self.new ≡ set (rows_in self.old) number list.items) }
+        ensures set { OnOk result (rows_in self.new ≡ set (rows_in self.old) number list.items) }
+        ensures stay { OnErr result (rows_in self.new ≡ rows_in self.old) }
     {
         let index = self.lists.insert_full(list)?.0;
         self.list_of[number] = index;

@@ -14,6 +14,7 @@ use Rattle.group_crossings.specs.Crossings.{owners_in, EachStands, AllCopiesTold
 use Rattle.group_crossings.proofs.Keeping.{stands_each}
 use Rattle.dsa_bottom_up.specs.Assembling.{TellEach}
 use Rattle.dsa_bottom_up.proofs.Leading.{settled_leads}
+use Rattle.dsa_bottom_up.proofs.FrozenBases.{bases_kept, bases_frozen}
 use Rattle.dsa_bottom_up.proofs.Crossed.{crossing_sized, goes_all, assembled}
 use Rattle.dsa_bottom_up.proofs.assembling.assemble.Goals as goal
 
@@ -23,7 +24,7 @@ settle-requires-clause-fit c =
     let owners = owners_in c.args.owners.now in
     let graph = graph_in tac.types c.cross_all.new.graph in
     subst (AreFit tac graph) (sym c.deref.ensures.value)
-    (all_fit tac c.requires.known.code graph owners c.in_ok-crossings.ensures.told c.requires.known.literals c.args.local.scopes.items c.requires.owned c.requires.scopes)
+    (all_fit tac c.requires.known.code graph owners c.in_ok-joined.ensures.told c.requires.known.literals c.args.local.scopes.items c.requires.owned c.requires.scopes)
 
 pub tell_sizes-requires-clause-settled : goal.tell_sizes-requires-clause-settled
 tell_sizes-requires-clause-settled c =
@@ -34,8 +35,8 @@ pub tell_all-requires-clause-stand : goal.tell_all-requires-clause-stand
 tell_all-requires-clause-stand c =
     let show = graph_in c.args.before.tac.now.types in
     let before = graphs_before c.args.before in
-    let all = c.in_ok-crossings.crossings.items in
-    let first = c.in_ok-crossings.ensures in
+    let all = c.in_ok-joined.joined.crossings.items in
+    let first = c.in_ok-joined.ensures in
     let next = c.in_ok-settle.ensures in
     let sized = c.tell_sizes.ensures in
     let its = crossing_sized before c.requires.known.code.made c.args.group c.args.owners.now all (show c.args.local.graph) (show c.cross_all.new.graph) (show c.settle.new.graph) (show c.tell_sizes.new.graph)
@@ -45,18 +46,18 @@ tell_all-requires-clause-stand c =
 pub function_graphs-requires : goal.function_graphs-requires
 function_graphs-requires c =
     let kept = c.in_ok-frozen.ensures c.args.before.tac.now.types c.tell_all.ensures.graph in
-    record { size = ap length c.deref-4.ensures.value ∙ (c.in_ok-crossings.ensures.crossed.size ∙ sym kept.size) }
+    record { size = ap length c.deref-4.ensures.value ∙ (c.in_ok-joined.ensures.crossed.size ∙ sym kept.size) }
 
-pub returns : goal.returns
-returns c =
+pub returns-clause-assembled : goal.returns-clause-assembled
+returns-clause-assembled c =
     let tac = c.args.before.tac.now in
     let show = graph_in tac.types in
     let before = graphs_before c.args.before in
     let made = c.requires.known.code.made in
     let group = c.args.group in
     let owners = c.args.owners.now in
-    let all = c.in_ok-crossings.crossings.items in
-    let first = c.in_ok-crossings.ensures in
+    let all = c.in_ok-joined.joined.crossings.items in
+    let first = c.in_ok-joined.ensures in
     let next = c.in_ok-settle.ensures in
     let sized = c.tell_sizes.ensures in
     let last = c.tell_all.ensures in
@@ -79,3 +80,23 @@ returns c =
     (subst (λ os. Settled (tac_of tac) os grown) same sized.settled) (subst (λ os. SizesTold (tac_of tac) os grown) same sized.told)
     (subst (λ l. AllCopiesTold before l done) c.deref-3.ensures.value last.told) (c.in_ok-frozen.ensures tac.types last.graph)
     (subst (λ l. TellEach done frozen.names.items l functions) c.deref-4.ensures.value (c.in_ok-functions.ensures tac.types last.graph))
+
+pub returns-clause-bases : goal.returns-clause-bases
+returns-clause-bases c =
+    let tac = c.args.before.tac.now in
+    let show = graph_in tac.types in
+    let before = graphs_before c.args.before in
+    let made = c.requires.known.code.made in
+    let bases = c.in_ok-joined.joined.bases.items in
+    let first = c.in_ok-joined.ensures in
+    let next = c.in_ok-settle.ensures in
+    let sized = c.tell_sizes.ensures in
+    let last = c.tell_all.ensures in
+    let crossed = show c.cross_all.new.graph in
+    let settled = show c.settle.new.graph in
+    let grown = show c.tell_sizes.new.graph in
+    let done = show c.tell_all.new.graph in
+    let kept = bases_kept before bases made in
+    bases_frozen before bases c.args.owners.now done c.in_ok-frozen.field-0
+    (c.in_ok-frozen.ensures tac.types last.graph)
+    (kept grown done sized.graph.sound last.goes (kept settled grown next.graph.sound sized.goes (kept crossed settled first.graph.sound next.goes first.bases)))

@@ -4,9 +4,9 @@ use Rattle.function_groups.specs.GroupViews.{groups_of}
 use Rattle.assembled_groups.specs.Making.{IsMaking}
 use Rattle.assembled_groups.proofs.Ending.{making_begins}
 use Rattle.dsa_bottom_up.specs.declared.program.GraphErr.TheVariants as E
-use Rattle.dsa_bottom_up.specs.Making.{made_in, AreLiveBelow}
+use Rattle.dsa_bottom_up.specs.Making.{made_in, AreKeptBelow}
 use Rattle.dsa_bottom_up.proofs.Finishing.{groups_many}
-use Rattle.dsa_bottom_up.proofs.Keeping.{live_begins}
+use Rattle.dsa_bottom_up.proofs.Keeping.{kept_begins}
 use Rattle.dsa_bottom_up.proofs.Counted.{SoFar, none_so_far, one_more, group_refused, start_refused}
 use Rattle.dsa_bottom_up.proofs.program.bottom_up.Goals as goal
 
@@ -16,16 +16,16 @@ loop-number-init c =
     let empty = c.in_ok-making.ensures in
     let before = made_in c.args.tac.now c.args.groups.now making in
     none_so_far c.args.tac.now c.args.groups.now c.args.counts.now.functions.items making (making_begins before empty.graphs empty.functions empty.escaping)
-    (live_begins c.args.tac.now c.args.groups.now making empty)
+    (kept_begins c.args.tac.now c.args.groups.now making empty)
 
 pub count_group-requires-clause-making : goal.count_group-requires-clause-making
 count_group-requires-clause-making c = c.loop-number.invariant.made
 
-pub count_group-requires-clause-live : goal.count_group-requires-clause-live
-count_group-requires-clause-live c = c.loop-number.invariant.live
+pub count_group-requires-clause-kept : goal.count_group-requires-clause-kept
+count_group-requires-clause-kept c = c.loop-number.invariant.kept
 
-pub add_group-requires-clause-live : goal.add_group-requires-clause-live
-add_group-requires-clause-live c = c.loop-number.invariant.live
+pub add_group-requires-clause-kept : goal.add_group-requires-clause-kept
+add_group-requires-clause-kept c = c.loop-number.invariant.kept
 
 pub add_group-requires-clause-making : goal.add_group-requires-clause-making
 add_group-requires-clause-making c = c.loop-number.invariant.made
@@ -38,7 +38,7 @@ loop-number-preserved c =
     let number = c.loop-number.number in
     let next : suc number ≡ number + 1 = omega arith in
     subst (SoFar tac groups counts c.add_group.new.self) next
-    (one_more tac groups counts c.loop-number.making c.add_group.new.self number c.loop-number.invariant c.in_ok-add_group.ensures.making c.in_ok-add_group.ensures.live c.in_ok-add_group.ensures.begins c.in_ok-count_group.ensures.few
+    (one_more tac groups counts c.loop-number.making c.add_group.new.self number c.loop-number.invariant c.in_ok-add_group.ensures.making c.in_ok-add_group.ensures.kept c.in_ok-add_group.ensures.begins c.in_ok-count_group.ensures.few
     c.in_ok-add_group.ensures.least c.in_ok-add_group.ensures.bare)
 
 pub returns-in_err-count_group-clause-refused : goal.returns-in_err-count_group-clause-refused
@@ -58,15 +58,15 @@ count_start-requires-clause-making c =
     let same : c.loop-number.number ≡ length (groups_of c.args.groups.now) = omega (arith, all, read, size, past, within) in
     subst (IsMaking (made_in c.args.tac.now c.args.groups.now c.loop-number.making)) same c.loop-number.invariant.made
 
-pub count_start-requires-clause-live : goal.count_start-requires-clause-live
-count_start-requires-clause-live c =
+pub count_start-requires-clause-kept : goal.count_start-requires-clause-kept
+count_start-requires-clause-kept c =
     let all = groups_many c.args.groups.now in
     let read = c.len-number-end.ensures in
     let size = c.args.groups.now.members.ok.0 in
     let past = c.loop-number-test.false in
     let within = c.loop-number.auto.number-end in
     let same : c.loop-number.number ≡ length (groups_of c.args.groups.now) = omega (arith, all, read, size, past, within) in
-    subst (AreLiveBelow (made_in c.args.tac.now c.args.groups.now c.loop-number.making)) same c.loop-number.invariant.live
+    subst (AreKeptBelow (made_in c.args.tac.now c.args.groups.now c.loop-number.making)) same c.loop-number.invariant.kept
 
 pub finish-requires-clause-making : goal.finish-requires-clause-making
 finish-requires-clause-making c =
@@ -78,15 +78,15 @@ finish-requires-clause-making c =
     let same : c.loop-number.number ≡ length (groups_of c.args.groups.now) = omega (arith, all, read, size, past, within) in
     subst (IsMaking (made_in c.args.tac.now c.args.groups.now c.loop-number.making)) same c.loop-number.invariant.made
 
-pub finish-requires-clause-live : goal.finish-requires-clause-live
-finish-requires-clause-live c =
+pub finish-requires-clause-kept : goal.finish-requires-clause-kept
+finish-requires-clause-kept c =
     let all = groups_many c.args.groups.now in
     let read = c.len-number-end.ensures in
     let size = c.args.groups.now.members.ok.0 in
     let past = c.loop-number-test.false in
     let within = c.loop-number.auto.number-end in
     let same : c.loop-number.number ≡ length (groups_of c.args.groups.now) = omega (arith, all, read, size, past, within) in
-    subst (AreLiveBelow (made_in c.args.tac.now c.args.groups.now c.loop-number.making)) same c.loop-number.invariant.live
+    subst (AreKeptBelow (made_in c.args.tac.now c.args.groups.now c.loop-number.making)) same c.loop-number.invariant.kept
 
 pub returns-in_err-count_start-clause-refused : goal.returns-in_err-count_start-clause-refused
 returns-in_err-count_start-clause-refused c = λ start count is.

@@ -8,6 +8,9 @@ use Rattle.graph_memory.specs.Memory.{graph_in}
 use Rattle.call_targets.specs.ClassLists.{numbers_of}
 use Rattle.function_groups.specs.GroupViews.{lists_of, groups_of, IsOf}
 use Rattle.graph_premises.specs.Standing.{CodeStands}
+use Rattle.frozen_graphs.specs.Frozen.{bare}
+use Rattle.group_statics.specs.Aligned.{AreAligned}
+use Rattle.group_statics.specs.Groups.{HaveStatics}
 use Rattle.group_freezing.specs.Owners.{IsFunctionOf}
 use Rattle.dsa_local.specs.Local.{IsJoinedGroup, LeadsJoined, owners_at}
 use Rattle.group_crossings.specs.Before.{GraphsBefore, graphs_before, is_inside}
@@ -15,8 +18,10 @@ use Rattle.group_crossings.specs.Crossings.{AllReached, owners_in}
 use Rattle.group_crossings.specs.Live.{AreLive}
 use Rattle.assembled_groups.specs.Assembled.{IsAssembled}
 use Rattle.assembled_groups.proofs.Growing.{all_reached}
+use Rattle.dsa_bottom_up.specs.Assembling.{HasBases}
 use Rattle.dsa_bottom_up.specs.Making.{made_in}
-use Rattle.dsa_bottom_up.proofs.Keeping.{group_added, live_added, least_added, bare_added, begins_still, members_are, members_apart, owners_are, members_below}
+use Rattle.dsa_bottom_up.proofs.FrozenBases.{self_aligned}
+use Rattle.dsa_bottom_up.proofs.Keeping.{group_added, kept_added, least_added, bare_added, begins_still, members_are, members_apart, owners_are, members_below}
 use Rattle.dsa_bottom_up.proofs.making.Making.add_group.Goals as goal
 
 listed : (lists : List (Vec FunctionId Global)) (n : ℕ) (list : Vec FunctionId Global) (members : List FunctionId) → n < length lists → list ≡ get_or lists n list → members ≡ list.items
@@ -32,7 +37,8 @@ assemble-requires-clause-known c =
       code = subst (λ (g : GraphsBefore). CodeStands (tac_of g.tac)) same c.requires.grouped.stands.code;
       literals = subst (λ (g : GraphsBefore). LiteralsStand g.tac.types g.tac.literals.items) same c.requires.grouped.literals;
       groups = subst (λ (g : GraphsBefore). IsOf g.tac g.groups) same c.requires.grouped.of;
-      live = subst (λ (g : GraphsBefore). AreLive g.tac g.escaping g.live) same c.requires.live.live;
+      live = subst (λ (g : GraphsBefore). AreLive g.tac g.escaping g.live) same c.requires.kept.live;
+      statics = subst (λ (g : GraphsBefore). HaveStatics g.tac.types g.graphs g.statics) same c.requires.kept.statics;
     }
 
 pub assemble-requires-clause-owners : goal.assemble-requires-clause-owners
@@ -105,8 +111,8 @@ keep-requires-clause-apart c =
     listed groups.members.items n c.index.result.now members c.requires.within c.index.ensures c.as_slice-members.ensures.value in
     members_apart tac groups n members c.requires.grouped row
 
-pub returns-in-Ok-clause-making : goal.returns-in-Ok-clause-making
-returns-in-Ok-clause-making c =
+pub returns-in-Ok-push-clause-making : goal.returns-in-Ok-push-clause-making
+returns-in-Ok-push-clause-making c =
     let tac = c.args.tac.now in
     let groups = c.args.groups.now in
     let n = c.args.number in
@@ -119,21 +125,29 @@ returns-in-Ok-clause-making c =
     let begun = graph_in c.before-2.result.tac.now.types c.in_ok-local.local.graph in
     let assembled =
     subst (λ (g : GraphsBefore). IsAssembled g (Some n) (map Some members) begun graph functions) c.before-2.ensures
-    (subst (λ os. IsAssembled (graphs_before c.before-2.result) (Some n) os begun graph functions) list c.in_ok-made.ensures) in
-    group_added tac groups n members c.requires.grouped row c.args.self.now c.keep.new.self c.push.new.self begun graph functions c.requires.making assembled c.in_ok-keep.ensures c.in-Ok.ensures.items
+    (subst (λ os. IsAssembled (graphs_before c.before-2.result) (Some n) os begun graph functions) list c.in_ok-made.ensures.assembled) in
+    group_added tac groups n members c.requires.grouped row c.args.self.now c.keep.new.self c.push.new.self c.push-2.new.self begun graph functions c.requires.making assembled c.in_ok-keep.ensures c.in-Ok-push.ensures.items
 
-pub returns-in-Ok-clause-live : goal.returns-in-Ok-clause-live
-returns-in-Ok-clause-live c =
+pub returns-in-Ok-push-clause-kept : goal.returns-in-Ok-push-clause-kept
+returns-in-Ok-push-clause-kept c =
     let tac = c.args.tac.now in
     let groups = c.args.groups.now in
     let n = c.args.number in
     let members = c.as_slice-members.result.now in
     let row : slice_get (groups_of groups) n ≡ Some (numbers_of members) =
     listed groups.members.items n c.index.result.now members c.requires.within c.index.ensures c.as_slice-members.ensures.value in
-    live_added tac groups n members c.requires.grouped row c.args.self.now c.keep.new.self c.push.new.self c.in_ok-made.made.graph c.in_ok-made.made.functions.items c.requires.live c.in_ok-keep.ensures
+    let graph = c.in_ok-made.made.graph in
+    let graphs = c.args.self.now.graphs.items in
+    let same = c.as_slice.ensures.value in
+    let bases = subst (λ (g : GraphsBefore). HasBases g c.in_ok-made.made.bases.items graph) c.before-2.ensures c.in_ok-made.ensures.bases in
+    let self = subst (λ (g : GraphsBefore). AreAligned (bare g.tac.types graph) (bare g.tac.types graph)) c.before-2.ensures
+    (self_aligned (graphs_before c.before-2.result) (Some n) c.deref.result.now (graph_in c.before-2.result.tac.now.types c.in_ok-local.local.graph) graph c.in_ok-made.made.functions.items c.in_ok-made.ensures.assembled) in
+    let told = c.in_ok-statics.ensures tac.types graphs (sym c.requires.kept.many ∙ ap length (sym same)) (subst (HaveStatics tac.types graphs) (sym same) c.requires.kept.statics) self bases in
+    kept_added tac groups n members c.requires.grouped row c.args.self.now c.keep.new.self c.push.new.self c.push-2.new.self graph c.in_ok-made.made.functions.items c.in_ok-statics.statics c.requires.kept c.in_ok-keep.ensures
+    c.in-Ok.ensures.items c.in-Ok-push.ensures.items told
 
-pub returns-in-Ok-clause-least : goal.returns-in-Ok-clause-least
-returns-in-Ok-clause-least c = λ start.
+pub returns-in-Ok-push-clause-least : goal.returns-in-Ok-push-clause-least
+returns-in-Ok-push-clause-least c = λ start.
     let tac = c.args.tac.now in
     let groups = c.args.groups.now in
     let n = c.args.number in
@@ -148,16 +162,16 @@ returns-in-Ok-clause-least c = λ start.
     let begun = graph_in tac.types local in
     let assembled =
     subst (λ (g : GraphsBefore). IsAssembled g (Some n) (map Some members) (graph_in g.tac.types local) graph functions) c.before-2.ensures
-    (subst (λ os. IsAssembled (graphs_before c.before-2.result) (Some n) os (graph_in c.before-2.result.tac.now.types local) graph functions) list c.in_ok-made.ensures) in
-    least_added tac groups n members c.requires.grouped row c.args.self.now c.keep.new.self c.push.new.self begun graph functions start c.requires.making assembled
+    (subst (λ os. IsAssembled (graphs_before c.before-2.result) (Some n) os (graph_in c.before-2.result.tac.now.types local) graph functions) list c.in_ok-made.ensures.assembled) in
+    least_added tac groups n members c.requires.grouped row c.args.self.now c.keep.new.self c.push.new.self c.push-2.new.self begun graph functions start c.requires.making assembled
     (record {
       leads = subst (λ os. LeadsJoined (tac_of tac) os (is_inside groups (Some n)) begun) (owners_are tac groups n members c.requires.grouped row) c.in_ok-local.ensures.leads;
       copies = c.in_ok-local.ensures.copies;
     })
-    c.in_ok-keep.ensures c.in-Ok.ensures.items
+    c.in_ok-keep.ensures c.in-Ok-push.ensures.items
 
-pub returns-in-Ok-clause-bare : goal.returns-in-Ok-clause-bare
-returns-in-Ok-clause-bare c = λ start.
+pub returns-in-Ok-push-clause-bare : goal.returns-in-Ok-push-clause-bare
+returns-in-Ok-push-clause-bare c = λ start.
     let tac = c.args.tac.now in
     let groups = c.args.groups.now in
     let n = c.args.number in
@@ -172,20 +186,20 @@ returns-in-Ok-clause-bare c = λ start.
     let begun = graph_in tac.types local in
     let assembled =
     subst (λ (g : GraphsBefore). IsAssembled g (Some n) (map Some members) (graph_in g.tac.types local) graph functions) c.before-2.ensures
-    (subst (λ os. IsAssembled (graphs_before c.before-2.result) (Some n) os (graph_in c.before-2.result.tac.now.types local) graph functions) list c.in_ok-made.ensures) in
-    bare_added tac groups n members c.requires.grouped row c.args.self.now c.keep.new.self c.push.new.self begun graph functions start c.requires.making assembled
+    (subst (λ os. IsAssembled (graphs_before c.before-2.result) (Some n) os (graph_in c.before-2.result.tac.now.types local) graph functions) list c.in_ok-made.ensures.assembled) in
+    bare_added tac groups n members c.requires.grouped row c.args.self.now c.keep.new.self c.push.new.self c.push-2.new.self begun graph functions start c.requires.making assembled
     (record {
       leads = subst (λ os. LeadsJoined (tac_of tac) os (is_inside groups (Some n)) begun) (owners_are tac groups n members c.requires.grouped row) c.in_ok-local.ensures.leads;
       copies = c.in_ok-local.ensures.copies;
     })
-    c.in_ok-keep.ensures c.in-Ok.ensures.items
+    c.in_ok-keep.ensures c.in-Ok-push.ensures.items
 
-pub returns-in-Ok-clause-begins : goal.returns-in-Ok-clause-begins
-returns-in-Ok-clause-begins c =
+pub returns-in-Ok-push-clause-begins : goal.returns-in-Ok-push-clause-begins
+returns-in-Ok-push-clause-begins c =
     let tac = c.args.tac.now in
     let groups = c.args.groups.now in
     let n = c.args.number in
     let members = c.as_slice-members.result.now in
     let row : slice_get (groups_of groups) n ≡ Some (numbers_of members) =
     listed groups.members.items n c.index.result.now members c.requires.within c.index.ensures c.as_slice-members.ensures.value in
-    begins_still tac groups n members c.requires.grouped row c.args.self.now c.keep.new.self c.push.new.self c.in_ok-made.made.graph c.in_ok-made.made.functions.items c.requires.making c.in_ok-keep.ensures c.in-Ok.ensures.items
+    begins_still tac groups n members c.requires.grouped row c.args.self.now c.keep.new.self c.push.new.self c.push-2.new.self c.in_ok-made.made.graph c.in_ok-made.made.functions.items c.requires.making c.in_ok-keep.ensures c.in-Ok-push.ensures.items

@@ -10,7 +10,7 @@ use Rattle.dsa_bottom_up.proofs.Outside.{known_of, counts_group, row_read, group
 use Rattle.dsa_bottom_up.proofs.making.Making.count_group.Goals as goal
 
 pub group_count-requires : goal.group_count-requires
-group_count-requires c = known_of c.before-2.result (made_in c.args.tac.now c.args.groups.now c.args.self.now) c.before-2.ensures c.requires.grouped c.args.number c.requires.making c.requires.live
+group_count-requires c = known_of c.before-2.result (made_in c.args.tac.now c.args.groups.now c.args.self.now) c.before-2.ensures c.requires.grouped c.args.number c.requires.making c.requires.kept
 
 pub returns-clause-few : goal.returns-clause-few
 returns-clause-few c =

@@ -9,7 +9,7 @@ use Rattle.dsa_bottom_up.proofs.making.Making.count_start.Goals as goal
 
 pub start_count-requires : goal.start_count-requires
 start_count-requires c =
-    known_of c.before-2.result (made_in c.args.tac.now c.args.groups.now c.args.self.now) c.before-2.ensures c.requires.grouped (length (groups_of c.args.groups.now)) c.requires.making c.requires.live
+    known_of c.before-2.result (made_in c.args.tac.now c.args.groups.now c.args.self.now) c.before-2.ensures c.requires.grouped (length (groups_of c.args.groups.now)) c.requires.making c.requires.kept
 
 pub returns-clause-few : goal.returns-clause-few
 returns-clause-few c =

@@ -11,7 +11,7 @@ use Rattle.dsa_bottom_up.proofs.Finishing.{known_of, reached_of, first_joined, s
 use Rattle.dsa_bottom_up.proofs.making.Making.finish.Goals as goal
 
 pub assemble-requires-clause-known : goal.assemble-requires-clause-known
-assemble-requires-clause-known c = known_of c.before-2.result c.args.tac.now c.args.groups.now c.args.self c.before-2.ensures c.requires.grouped (length (groups_of c.args.groups.now)) c.requires.live
+assemble-requires-clause-known c = known_of c.before-2.result c.args.tac.now c.args.groups.now c.args.self c.before-2.ensures c.requires.grouped (length (groups_of c.args.groups.now)) c.requires.kept
 
 pub assemble-requires-clause-reached : goal.assemble-requires-clause-reached
 assemble-requires-clause-reached c =
@@ -39,7 +39,7 @@ returns-clause-closed c =
     let owners : c.deref.result.now ≡ None ∷ [] = c.deref.ensures.value ∙ (c.in_ok-push.ensures.items ∙ ap (λ (l : List (Option FunctionId)). l ++ None ∷ []) c.new-owners.ensures.items) in
     let all : ProgramGraphs = record { graphs = c.args.self.graphs; functions = c.args.self.functions; start = c.in_ok-made.made.graph; start_function = c.in-Some.own } in
     let assembled = start_assembled c.before-2.result tac groups c.args.self c.before-2.ensures c.deref.result.now owners c.apply_first.new.graph c.in_ok-made.made.graph c.in_ok-made.made.functions.items c.pop.new.self.items c.in-Some.own
-    c.in-Some.ensures.items c.in_ok-made.ensures in
+    c.in-Some.ensures.items c.in_ok-made.ensures.assembled in
     ends_closed tac groups c.args.self c.requires.grouped c.requires.making all refl refl (graph_in tac.types c.apply_first.new.graph) c.in-Some.own c.in_ok-apply_first.ensures.graph.sound c.in_ok-apply_first.ensures.told assembled refl
 
 pub returns-clause-graphs : goal.returns-clause-graphs
@@ -52,7 +52,7 @@ returns-clause-smallest c = λ start least.
     let owners : c.deref.result.now ≡ None ∷ [] = c.deref.ensures.value ∙ (c.in_ok-push.ensures.items ∙ ap (λ (l : List (Option FunctionId)). l ++ None ∷ []) c.new-owners.ensures.items) in
     let all : ProgramGraphs = record { graphs = c.args.self.graphs; functions = c.args.self.functions; start = c.in_ok-made.made.graph; start_function = c.in-Some.own } in
     let assembled = start_assembled c.before-2.result tac groups c.args.self c.before-2.ensures c.deref.result.now owners c.apply_first.new.graph c.in_ok-made.made.graph c.in_ok-made.made.functions.items c.pop.new.self.items c.in-Some.own
-    c.in-Some.ensures.items c.in_ok-made.ensures in
+    c.in-Some.ensures.items c.in_ok-made.ensures.assembled in
     let joined = graph_in tac.types c.in_ok-graph.field-0.graph in
     let begun = graph_in tac.types c.apply_first.new.graph in
     ends_smallest tac groups c.args.self c.requires.grouped c.requires.making all refl refl begun c.in-Some.own start assembled
@@ -70,7 +70,7 @@ returns-clause-ascend c =
     let groups = c.args.groups.now in
     let owners : c.deref.result.now ≡ None ∷ [] = c.deref.ensures.value ∙ (c.in_ok-push.ensures.items ∙ ap (λ (l : List (Option FunctionId)). l ++ None ∷ []) c.new-owners.ensures.items) in
     let assembled = start_assembled c.before-2.result tac groups c.args.self c.before-2.ensures c.deref.result.now owners c.apply_first.new.graph c.in_ok-made.made.graph c.in_ok-made.made.functions.items c.pop.new.self.items c.in-Some.own
-    c.in-Some.ensures.items c.in_ok-made.ensures in
+    c.in-Some.ensures.items c.in_ok-made.ensures.assembled in
     record {
       groups = λ number graph is.
           let within = slice_get_within c.args.self.graphs.items number graph is in
@@ -86,7 +86,7 @@ returns-clause-least c = λ start least bare.
     let owners : c.deref.result.now ≡ None ∷ [] = c.deref.ensures.value ∙ (c.in_ok-push.ensures.items ∙ ap (λ (l : List (Option FunctionId)). l ++ None ∷ []) c.new-owners.ensures.items) in
     let all : ProgramGraphs = record { graphs = c.args.self.graphs; functions = c.args.self.functions; start = c.in_ok-made.made.graph; start_function = c.in-Some.own } in
     let assembled = start_assembled c.before-2.result tac groups c.args.self c.before-2.ensures c.deref.result.now owners c.apply_first.new.graph c.in_ok-made.made.graph c.in_ok-made.made.functions.items c.pop.new.self.items c.in-Some.own
-    c.in-Some.ensures.items c.in_ok-made.ensures in
+    c.in-Some.ensures.items c.in_ok-made.ensures.assembled in
     let joined = graph_in tac.types c.in_ok-graph.field-0.graph in
     let begun = graph_in tac.types c.apply_first.new.graph in
     ends_least tac groups c.args.self c.requires.grouped c.requires.making all refl refl begun c.in-Some.own start assembled

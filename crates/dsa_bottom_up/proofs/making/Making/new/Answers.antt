@@ -18,4 +18,5 @@ returns c =
       escaping = ap length c.in_ok-new.ensures ∙ (length-replicate c.len.result [] ∙ omega (arith, len, own));
       none = λ called. ap (λ l. is_listed l called) c.in_ok-new.ensures ∙ none_listed c.len.result called;
       live = c.in_ok-new-2.ensures;
+      statics = c.new-4.ensures.items;
     }

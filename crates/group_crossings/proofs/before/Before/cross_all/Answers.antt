@@ -5,14 +5,14 @@ use Rattle.group_crossings.specs.Before.{graphs_before}
 use Rattle.group_crossings.specs.Crossings.{owners_in}
 use Rattle.group_crossings.specs.CallSteps.{shown}
 use Rattle.group_crossings.proofs.Collected.{owner_named, none_so_far, more_so_far, all_crossed}
-use Rattle.group_crossings.proofs.KnownJoined.{none_known}
+use Rattle.group_crossings.proofs.ToldGroups.{none_known, known_bases}
 use Rattle.group_crossings.proofs.before.Before.cross_all.Goals as goal
 
 pub loop-owner-init : goal.loop-owner-init
 loop-owner-init c = record {
   graph = c.requires.graph;
   so_far = none_so_far (graphs_before c.args.self) c.requires.known.code.made c.args.group c.args.owners.now _ (shown c.args.self c.args.graph.now) c.new-all.ensures.items c.requires.graph.sound c.requires.copies;
-  joined = none_known (graphs_before c.args.self) c.new-joined.result (shown c.args.self c.args.graph.now) c.new-joined.ensures;
+  joined = none_known (graphs_before c.args.self) c.new-joined.result (shown c.args.self c.args.graph.now) c.new-joined.ensures.told c.new-joined.ensures.bases;
 }
 
 pub cross_owner-requires-clause-reached : goal.cross_owner-requires-clause-reached
@@ -76,3 +76,6 @@ returns-clause-leads c = c.loop-owner.invariant.so_far.leads
 
 pub returns-clause-apart : goal.returns-clause-apart
 returns-clause-apart c = c.loop-owner.invariant.so_far.apart
+
+pub returns-clause-bases : goal.returns-clause-bases
+returns-clause-bases c = known_bases (graphs_before c.args.self) c.loop-owner.joined (shown c.args.self c.loop-owner.graph) c.loop-owner.invariant.joined

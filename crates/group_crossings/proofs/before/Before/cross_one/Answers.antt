@@ -6,7 +6,7 @@ use Rattle.graph_points.proofs.NamedSteps.{on_ok}
 use Rattle.group_crossings.specs.Before.{graphs_before, is_out}
 use Rattle.group_crossings.specs.CallSteps.{shown, TargetCrosses}
 use Rattle.group_crossings.proofs.Naming.{call_named_kept}
-use Rattle.group_crossings.proofs.KnownJoined.{known_kept}
+use Rattle.group_crossings.proofs.ToldGroups.{known_kept}
 use Rattle.group_crossings.proofs.Stepping.{crosses_same, one_crosses}
 use Rattle.group_crossings.proofs.before.Before.cross_one.Goals as goal
 

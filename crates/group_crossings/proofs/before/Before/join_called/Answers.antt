@@ -12,9 +12,7 @@ use Rattle.call_copies.specs.Copied.{numbers_in, AreCopied}
 use Rattle.outer_calls.specs.Crossed.{IsCallee}
 use Rattle.group_crossings.specs.Before.{graphs_before, graph_reached, nodes_reached}
 use Rattle.group_crossings.specs.CallSteps.{shown}
-use Rattle.outer_calls.proofs.JoinedStatics.{are_joined}
 use Rattle.group_crossings.proofs.Reached.{graph_there, is_callee}
-use Rattle.group_crossings.proofs.KnownJoined.{known_there, known_more}
 use Rattle.group_crossings.proofs.Entering.{found_either_way, found_copies, crosses_joined}
 use Rattle.group_crossings.proofs.before.Before.join_called.Goals as goal
 
@@ -57,13 +55,10 @@ join-requires-clause-copied c =
     subst (λ (g : FrozenGraph). AreCopied (structs_in table) graph (bare table g) (numbers_in c.in-Some.copies.now)) (c.graph_of.ensures reached)
     (subst (λ (k : Copies). AreCopied (structs_in table) graph (nodes_reached before called reached) (numbers_in k)) same entry.stand.copied)
 
-pub join-requires-clause-joined : goal.join-requires-clause-joined
-join-requires-clause-joined c =
-    let self = c.args.self in
-    let before = graphs_before self in
+pub join-requires-clause-called : goal.join-requires-clause-called
+join-requires-clause-called c =
     let reached = c.requires.entry.stand.reached in
-    known_there before c.args.joined.now (shown self c.args.graph.now) c.requires.joined c.group_of-group.result c.graph_of.result.now
-    (graph_there before c.args.called reached c.group_of-group.result c.graph_of.result.now (c.group_of-group.ensures reached) (c.graph_of.ensures reached))
+    graph_there (graphs_before c.args.self) c.args.called reached c.group_of-group.result c.graph_of.result.now (c.group_of-group.ensures reached) (c.graph_of.ensures reached)
 
 pub returns-in_default-clause-joined : goal.returns-in_default-clause-joined
 returns-in_default-clause-joined c = c.requires.joined
@@ -83,14 +78,4 @@ returns-clause-crosses c =
     (shown self c.join.new.graph) c.requires.graph.sound c.requires.stands entry (own_graph table c.graph_of.result.now c.names_of.result.now) (numbers_in c.in-Some.copies.now) callee (ap numbers_in same) c.in_ok-join.ensures.joins
 
 pub returns-clause-joined : goal.returns-clause-joined
-returns-clause-joined c =
-    let self = c.args.self in
-    let before = graphs_before self in
-    let reached = c.requires.entry.stand.reached in
-    let frozen = c.graph_of.result.now in
-    let new = shown self c.join.new.graph in
-    let joins = c.in_ok-join.ensures.joins in
-    known_more before c.requires.known.code.made c.group_of-group.result frozen
-    (graph_there before c.args.called reached c.group_of-group.result frozen (c.group_of-group.ensures reached) (c.graph_of.ensures reached)) c.args.joined.now c.join.new.self (shown self c.args.graph.now) new
-    c.requires.graph.sound joins.goes c.requires.joined c.in_ok-join.ensures.adds
-    (are_joined (tac_of self.tac.now) (owner_of c.args.caller.owner) c.args.site c.args.arguments.now c.args.called self.tac.now.types frozen c.names_of.result.now (numbers_in c.in-Some.copies.now) new joins.joined)
+returns-clause-joined c = c.in_ok-join.ensures.joined

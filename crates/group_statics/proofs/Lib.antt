@@ -1,0 +1,10 @@
+pub mod SeenNodes
+pub mod Untold
+pub mod Telling
+pub mod Bases
+pub mod Composing
+pub mod Going
+pub mod Same
+pub mod Others
+pub mod OwnNames
+pub mod Choices
