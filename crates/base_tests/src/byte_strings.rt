@@ -1,6 +1,6 @@
 // What is put in is read back.
 
-use byte_string::ByteString;
+use run_theory::ByteString;
 use std::test::Fail;
 
 #[test]

@@ -1,6 +1,5 @@
-use run_theory::{TrapKind, UbKind};
+use run_theory::{Pos, TrapKind, UbKind};
 use std::test::Fail;
-use text_place::Pos;
 
 // In `a`, newline, tab, `b` the `b` stands at 2:2.
 #[test]

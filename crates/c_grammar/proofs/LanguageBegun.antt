@@ -1,9 +1,9 @@
 -- For each leaf by which a row is chosen there is a tree that begins with it, and with the next one where that decides.
 use Rattle.std.proofs.Common.{◌≡◌, ℕ, ◌<◌, ◌≤◌, ◌⊎◌, inl, inr, is_some, Bool, true, false, ◌&&◌, ◌||◌, if◌then◌else◌, List, [], ◌∷◌, ◌++◌, Option, Some, None, nat_le, sym, refl, ◌∙◌, ap, subst, arith, append_assoc}
 use Rattle.std.proofs.lemmas.Bool.{leb-true}
-use Rattle.grammar_table.specs.Table.{Symbol, Terminal, Nonterminal, Tree, Alone, Then, Node, Choice, Never, Take, leaves, barred, Is, nothing, token, part, IsPart, first as made_by, least_parts, Plain, Orderly}
-use Rattle.grammar_table.specs.Laws.{lowest, IsDivided, Begun, BegunTwo}
-use Rattle.grammar_table.proofs.Sound.{barred_append, barred_by_least}
+use Rattle.c_grammar.specs.Table.{Symbol, Terminal, Nonterminal, Tree, Alone, Then, Node, Choice, Never, Take, leaves, barred, Is, nothing, token, part, IsPart, first as made_by, least_parts, Plain, Orderly}
+use Rattle.c_grammar.specs.Laws.{lowest, IsDivided, Begun, BegunTwo}
+use Rattle.c_grammar.proofs.Sound.{barred_append, barred_by_least}
 use Rattle.c_grammar.specs.declared.kind.Kind.{Kind}
 use Rattle.c_grammar.specs.declared.kind.Kind.TheVariants.{Name, Integer, Character, Literal, End, Const, Void, Char, Short, Int, Long, Signed, Unsigned, Struct, Static, Extern, Sizeof, Null, EndOfFile, If, Else, While, Do, For, Switch, Case, Default, Break, Continue, Return, OpenParenthesis, CloseParenthesis, OpenBrace, CloseBrace, OpenBracket, Semicolon, Comma, PlusPlus, MinusMinus, Star, Ampersand, Plus, Minus, Tilde, Exclamation, Equal}
 use Rattle.c_grammar.specs.Kinds.{is_type_word, prefix_level, is_single, is}

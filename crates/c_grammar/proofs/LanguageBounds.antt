@@ -1,12 +1,12 @@
 -- The heights that a choice names are the least ones.
 use Rattle.std.proofs.Common.{◌≡◌, ℕ, ◌+◌, ◌≤◌, ◌⊎◌, inl, inr, true, false, List, [], ◌∷◌, sym, refl, ◌∙◌, ap, subst, arith}
-use Rattle.grammar_table.specs.Table.{Tree, Take, height}
-use Rattle.grammar_table.specs.Runs.{Job, Parts, Whole, More, Done, Run, at_end, token_done, part_done, row_done, no_more, more_done}
-use Rattle.grammar_table.specs.Laws.{Bounds}
+use Rattle.c_grammar.specs.Table.{Tree, Take, height}
+use Rattle.c_grammar.specs.Runs.{Job, Parts, Whole, More, Done, Run, at_end, token_done, part_done, row_done, no_more, more_done}
+use Rattle.c_grammar.specs.Laws.{Bounds}
 use Rattle.c_grammar.specs.declared.kind.Kind.{Kind}
 use Rattle.c_grammar.specs.Forms
 use Rattle.c_grammar.specs.Language.{choose_at, language}
-use Rattle.grammar_table.proofs.Exact.{grows}
+use Rattle.c_grammar.proofs.Exact.{grows}
 use Rattle.c_grammar.proofs.LanguageRows.{Good, OperandAt, good_by, good_row}
 use Rattle.c_grammar.proofs.LanguageTells.{second_of, choose_cons, parenthesized}
 

@@ -2,7 +2,7 @@
 use Rattle.std.proofs.Common.{◌≡◌, ℕ, ◌≤◌, Bool, true, false, ◌&&◌, ◌||◌, if◌then◌else◌, List, [], ◌∷◌, ◌++◌, Option, Some, None, is_some, nat_le, sym, refl, ◌∙◌, ap, subst, arith}
 use Rattle.std.proofs.lemmas.Bool.{le-leb}
 use Rattle.std.proofs.lemmas.List.{append-nil}
-use Rattle.grammar_table.specs.Table.{Symbol, Terminal, Nonterminal, Tree, Node, Choice, Never, Take, Stuck, leaves, Is, nothing, token, part, IsPart, first, after}
+use Rattle.c_grammar.specs.Table.{Symbol, Terminal, Nonterminal, Tree, Node, Choice, Never, Take, Stuck, leaves, Is, nothing, token, part, IsPart, first, after}
 use Rattle.c_grammar.specs.declared.kind.Kind.{Kind}
 use Rattle.c_grammar.specs.declared.kind.Kind.TheVariants.{Name, Literal, End, Else, Sizeof, Struct, Static, Extern, OpenParenthesis, OpenBrace, CloseParenthesis, Star, OpenBracket, Comma}
 use Rattle.c_grammar.specs.Kinds.{is_type_word, prefix_level, is_single, is}

@@ -1,7 +1,7 @@
 -- No `else` stands behind a statement that was read and ends in an `if` without one.
 use Rattle.std.proofs.Common.{◌≡◌, ℕ, Bool, true, false, ◌&&◌, ◌||◌, List, [], ◌∷◌, Some, None, sym, refl, ◌∙◌, ap, subst}
-use Rattle.grammar_table.specs.Table.{Symbol, Tree, Alone, Nothing, Then, Node, Take, barred}
-use Rattle.grammar_table.specs.Runs.{Job, Parts, Whole, More, Done, Run, at_end, token_done, part_done, row_done, no_more, more_done}
+use Rattle.c_grammar.specs.Table.{Symbol, Tree, Alone, Nothing, Then, Node, Take, barred}
+use Rattle.c_grammar.specs.Runs.{Job, Parts, Whole, More, Done, Run, at_end, token_done, part_done, row_done, no_more, more_done}
 use Rattle.c_grammar.specs.declared.kind.Kind.{Kind}
 use Rattle.c_grammar.specs.declared.kind.Kind.TheVariants.{Else}
 use Rattle.c_grammar.specs.Kinds.{is}

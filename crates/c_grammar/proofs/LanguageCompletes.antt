@@ -1,6 +1,6 @@
 -- The rows that are chosen make trees, and what is begun can be completed.
 use Rattle.std.proofs.Common.{◌≡◌, refl, arith}
-use Rattle.grammar_table.specs.Laws.{Completes}
+use Rattle.c_grammar.specs.Laws.{Completes}
 use Rattle.c_grammar.specs.declared.kind.Kind.{Kind}
 use Rattle.c_grammar.specs.Forms
 use Rattle.c_grammar.specs.Language.{language}

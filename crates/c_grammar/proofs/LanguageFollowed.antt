@@ -1,7 +1,7 @@
 -- What stands first in a row of trees, and behind each of them.
 use Rattle.std.proofs.Common.{◌≡◌, ℕ, Bool, true, false, ◌&&◌, ◌||◌, if◌then◌else◌, List, [], ◌∷◌, ◌++◌, Option, Some, None, sym, refl, ◌∙◌, ap, subst, append_assoc}
 use Rattle.std.proofs.lemmas.Bool.{or_left, or_right}
-use Rattle.grammar_table.specs.Table.{Symbol, Terminal, Nonterminal, Tree, leaves, Is, nothing, token, part, IsPart, first, after}
+use Rattle.c_grammar.specs.Table.{Symbol, Terminal, Nonterminal, Tree, leaves, Is, nothing, token, part, IsPart, first, after}
 use Rattle.c_grammar.specs.declared.kind.Kind.{Kind}
 use Rattle.c_grammar.specs.declared.kind.Kind.TheVariants.{Name, Else, CloseParenthesis, CloseBracket, CloseBrace, Semicolon, Comma, Colon, Static, Extern}
 use Rattle.c_grammar.specs.Kinds.{prefix_level, is_single, is}

@@ -1,9 +1,9 @@
 -- The least trees of the grammar are trees, and the rows by which expressions go on are as they are told.
 use Rattle.std.proofs.Common.{◌≡◌, ℕ, ◌+◌, ◌≤◌, max, Bool, true, false, ◌&&◌, if◌then◌else◌, List, [], ◌∷◌, Option, Some, None, nat_le, sym, refl, ◌∙◌, ap, subst, arith}
 use Rattle.std.proofs.lemmas.Bool.{leb-true}
-use Rattle.grammar_table.specs.Table.{Symbol, Terminal, Nonterminal, Tree, Alone, Then, Node, leaves, height, barred, Is, nothing, token, part, IsPart, first, need_all, Plain, Orderly}
-use Rattle.grammar_table.specs.Runs.{level_of, next_row}
-use Rattle.grammar_table.specs.Laws.{IsNext}
+use Rattle.c_grammar.specs.Table.{Symbol, Terminal, Nonterminal, Tree, Alone, Then, Node, leaves, height, barred, Is, nothing, token, part, IsPart, first, need_all, Plain, Orderly}
+use Rattle.c_grammar.specs.Runs.{level_of, next_row}
+use Rattle.c_grammar.specs.Laws.{IsNext}
 use Rattle.c_grammar.specs.declared.kind.Kind.{Kind}
 use Rattle.c_grammar.specs.declared.kind.Kind.TheVariants.{Name, Integer, Else, End, Struct, Int, Semicolon, CloseBrace, OpenBrace, OpenBracket, CloseBracket, OpenParenthesis, CloseParenthesis, Question, Dot, Arrow, PlusPlus, MinusMinus}
 use Rattle.c_grammar.specs.Kinds.{is, is_assignment, binary_right}

@@ -1,8 +1,8 @@
 -- Behind each part of a row stands what may stand there.
 use Rattle.std.proofs.Common.{◌≡◌, ℕ, ◌+◌, ◌<◌, ◌≤◌, ◌⊎◌, inl, inr, Bool, true, false, ◌&&◌, ◌||◌, if◌then◌else◌, List, [], ◌∷◌, ◌++◌, Option, Some, None, is_some, nat_le, sym, refl, ◌∙◌, ap, subst, arith}
 use Rattle.std.proofs.lemmas.Bool.{leb-true, le-leb, or_left, or_right}
-use Rattle.grammar_table.specs.Table.{Symbol, Terminal, Nonterminal, Tree, Alone, Nothing, Then, Node, leaves, barred, Is, nothing, token, part, IsPart, first, after}
-use Rattle.grammar_table.specs.Laws.{Followed}
+use Rattle.c_grammar.specs.Table.{Symbol, Terminal, Nonterminal, Tree, Alone, Nothing, Then, Node, leaves, barred, Is, nothing, token, part, IsPart, first, after}
+use Rattle.c_grammar.specs.Laws.{Followed}
 use Rattle.c_grammar.specs.declared.kind.Kind.{Kind}
 use Rattle.c_grammar.specs.declared.kind.Kind.TheVariants.{Name, Else, Literal, OpenBracket, OpenParenthesis, CloseParenthesis, Semicolon, Colon, Question, Dot, Arrow, PlusPlus, MinusMinus}
 use Rattle.c_grammar.specs.Kinds.{prefix_level, binary_right, is_assignment, is}

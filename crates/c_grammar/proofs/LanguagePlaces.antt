@@ -1,9 +1,9 @@
 -- Where a refusal of a program stands, and which tree was read.
 use Rattle.std.proofs.Common.{◌≡◌, ℕ, List, [], arith}
-use Rattle.grammar_table.specs.Runs.{Whole, Bad, Deep, Outcome, Done, Failed, Run}
-use Rattle.grammar_table.specs.Prefixes.{Accepted, IsMisfit, IsTooDeep}
-use Rattle.grammar_table.proofs.Agree.{Agrees}
-use Rattle.grammar_table.proofs.Places
+use Rattle.c_grammar.specs.Runs.{Whole, Bad, Deep, Outcome, Done, Failed, Run}
+use Rattle.c_grammar.specs.Prefixes.{Accepted, IsMisfit, IsTooDeep}
+use Rattle.c_grammar.proofs.Agree.{Agrees}
+use Rattle.c_grammar.proofs.Places
 use Rattle.c_grammar.specs.declared.kind.Kind.{Kind}
 use Rattle.c_grammar.specs.Forms
 use Rattle.c_grammar.specs.Language.{language}

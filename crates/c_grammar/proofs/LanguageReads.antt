@@ -1,9 +1,9 @@
 -- Each tree of the language is read from its tokens.
 use Rattle.std.proofs.Common.{◌≡◌, ℕ, ◌+◌, ◌<◌, ◌≤◌, Bool, true, false, ◌&&◌, ◌||◌, if◌then◌else◌, List, [], ◌∷◌, ◌++◌, Option, Some, None, nat_le, sym, refl, ◌∙◌, ap, subst, arith}
 use Rattle.std.proofs.lemmas.Bool.{leb-true}
-use Rattle.grammar_table.specs.Table.{Symbol, Terminal, Tree, Node, leaves, Is, token, IsPart, first, after}
-use Rattle.grammar_table.specs.Runs.{level_of, next_row}
-use Rattle.grammar_table.specs.Laws.{ReadsTrees}
+use Rattle.c_grammar.specs.Table.{Symbol, Terminal, Tree, Node, leaves, Is, token, IsPart, first, after}
+use Rattle.c_grammar.specs.Runs.{level_of, next_row}
+use Rattle.c_grammar.specs.Laws.{ReadsTrees}
 use Rattle.c_grammar.specs.declared.kind.Kind.{Kind}
 use Rattle.c_grammar.specs.declared.kind.Kind.TheVariants.{Name, Question}
 use Rattle.c_grammar.specs.Kinds.{binary_right, is_assignment, is}

@@ -1,7 +1,7 @@
 -- The rows that are chosen make trees of the sort and level that is asked for, and their least heights are right.
 use Rattle.std.proofs.Common.{◌≡◌, ℕ, ◌≤◌, ◌⊎◌, inl, inr, Bool, true, false, ◌&&◌, ◌||◌, if◌then◌else◌, Option, Some, None, nat_le, refl, ◌∙◌, ap, subst, arith, eq-eqb}
 use Rattle.std.proofs.lemmas.Bool.{leb-true, eqb-true, and_from}
-use Rattle.grammar_table.specs.Table.{Choice, Never, Take, Stuck}
+use Rattle.c_grammar.specs.Table.{Choice, Never, Take, Stuck}
 use Rattle.c_grammar.specs.declared.kind.Kind.{Kind}
 use Rattle.c_grammar.specs.declared.kind.Kind.TheVariants.{Name, Literal, End, Const, Struct, Static, Extern, Sizeof, If, Else, While, Do, For, Switch, Case, Default, Break, Continue, Return, OpenParenthesis, CloseParenthesis, OpenBrace, CloseBrace, OpenBracket, Semicolon, Comma, Star, Equal}
 use Rattle.c_grammar.specs.Kinds.{is_type_word, prefix_level, is_single, is}

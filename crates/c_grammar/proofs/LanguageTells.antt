@@ -1,16 +1,16 @@
 -- Two words tell the row.
 use Rattle.std.proofs.Common.{◌≡◌, ℕ, zero, suc, ◌+◌, ◌≤◌, ◌⊎◌, inl, inr, Bool, true, false, ◌&&◌, ◌||◌, if◌then◌else◌, List, [], ◌∷◌, Option, Some, None, nat_le, length, sym, refl, ◌∙◌, ap, subst, arith, eq-eqb}
 use Rattle.std.proofs.lemmas.Bool.{eqb-true}
-use Rattle.grammar_table.specs.Table.{Symbol, Terminal, Nonterminal, Choice, Never, Take, Stuck, Table}
-use Rattle.grammar_table.specs.Runs.{Parts, Whole, Outcome, Done, Failed, Run, no_memory, at_end, unfit, token_done, token_failed, part_done, part_failed, then_failed, never, stuck, stuck_deep, first_deep, second_deep, row_failed, row_done}
-use Rattle.grammar_table.specs.Laws.{lowest, Within, Tells}
+use Rattle.c_grammar.specs.Table.{Symbol, Terminal, Nonterminal, Choice, Never, Take, Stuck, Table}
+use Rattle.c_grammar.specs.Runs.{Parts, Whole, Outcome, Done, Failed, Run, no_memory, at_end, unfit, token_done, token_failed, part_done, part_failed, then_failed, never, stuck, stuck_deep, first_deep, second_deep, row_failed, row_done}
+use Rattle.c_grammar.specs.Laws.{lowest, Within, Tells}
 use Rattle.c_grammar.specs.declared.kind.Kind.{Kind}
 use Rattle.c_grammar.specs.declared.kind.Kind.TheVariants.{Name, Integer, Character, Literal, End, Reserved, Const, Void, Char, Short, Int, Long, Signed, Unsigned, Struct, Static, Extern, Sizeof, Null, EndOfFile, If, Else, While, Do, For, Switch, Case, Default, Break, Continue, Return, OpenParenthesis, CloseParenthesis, OpenBrace, CloseBrace, OpenBracket, CloseBracket, Semicolon, Comma, Colon, Question, Dot, Arrow, PlusPlus, MinusMinus, Star, Slash, Percent, Plus, Minus, ShiftLeft, ShiftRight, Less, Greater, LessEqual, GreaterEqual, EqualEqual, ExclamationEqual, Ampersand, Caret, Bar, AmpersandAmpersand, BarBar, Tilde, Exclamation, Equal, StarEqual, SlashEqual, PercentEqual, PlusEqual, MinusEqual, ShiftLeftEqual, ShiftRightEqual, AmpersandEqual, CaretEqual, BarEqual}
 use Rattle.c_grammar.specs.Kinds.{is_type_word, prefix_level, is_single, is, number}
 use Rattle.c_grammar.specs.Forms
 use Rattle.c_grammar.specs.Chooses.{take_if, begins_expr, begins_direct, by_prefix, choose_expr, choose_nested, choose_operand, choose_by}
 use Rattle.c_grammar.specs.Language.{choose_at, language}
-use Rattle.grammar_table.proofs.Exact.{within_more, shrinks}
+use Rattle.c_grammar.proofs.Exact.{within_more, shrinks}
 use Rattle.c_grammar.proofs.LanguageRows.{AllRows, never as no_row, taken, stuck as stuck_row, good_row, tested, branch, branch_tested, and_left, and_right}
 
 -- Each kind has its own number.

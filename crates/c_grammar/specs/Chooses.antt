@@ -1,7 +1,7 @@
 -- How a reader chooses the rows of the grammar: by one word ahead, and by two behind a parenthesis that opens a type or
 -- an expression, parameters or a declarator.
 use Rattle.std.specs.Prelude.{ℕ, ◌+◌, is_some, Bool, true, false, ◌&&◌, ◌||◌, if◌then◌else◌, Option, Some, None, nat_le}
-use Rattle.grammar_table.specs.Table.{Choice, Never, Take, Stuck}
+use Rattle.c_grammar.specs.Table.{Choice, Never, Take, Stuck}
 use Rattle.c_grammar.specs.declared.kind.Kind.{Kind}
 use Rattle.c_grammar.specs.declared.kind.Kind.TheVariants.{Name, Integer, Character, Literal, End, Const, Struct, Static, Extern, Sizeof, Null, EndOfFile, If, Else, While, Do, For, Switch, Case, Default, Break, Continue, Return, OpenParenthesis, CloseParenthesis, OpenBrace, CloseBrace, OpenBracket, Semicolon, Comma, Question, Dot, Arrow, PlusPlus, MinusMinus, Star, Ampersand, Plus, Minus, Tilde, Exclamation, Equal}
 use Rattle.c_grammar.specs.Kinds.{is_type_word, prefix_level, binary_right, is_assignment, is_single, is}

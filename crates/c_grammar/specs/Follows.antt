@@ -1,6 +1,6 @@
 -- What a tree of a sort begins with, and what stands behind it where it ends.
 use Rattle.std.specs.Prelude.{◌≡◌, ℕ, ◌+◌, ◌<◌, Bool, true, false, ◌&&◌, ◌||◌, if◌then◌else◌, List, [], ◌∷◌, ◌++◌, Option, Some, None}
-use Rattle.grammar_table.specs.Table.{Tree, Alone, Nothing, Then, Node}
+use Rattle.c_grammar.specs.Table.{Tree, Alone, Nothing, Then, Node}
 use Rattle.c_grammar.specs.declared.kind.Kind.{Kind}
 use Rattle.c_grammar.specs.declared.kind.Kind.TheVariants.{Name, Integer, Character, Literal, End, Const, Void, Char, Short, Int, Long, Signed, Unsigned, Struct, Static, Extern, Sizeof, Null, EndOfFile, If, Else, While, Do, For, Switch, Case, Default, Break, Continue, Return, OpenParenthesis, CloseParenthesis, OpenBrace, CloseBrace, OpenBracket, CloseBracket, Semicolon, Comma, Question, PlusPlus, MinusMinus, Star, Plus, Minus, Ampersand, Tilde, Exclamation, Equal}
 use Rattle.c_grammar.specs.Kinds.{binary_right, is_assignment, is}

@@ -17,7 +17,7 @@
 -- and the statements and expressions of C17 6.8 and 6.5 without labels, `goto` and the comma operator. What may be left
 -- out, and what stands any number of times, are sorts of their own, whose rows are chosen by their first token.
 use Rattle.std.specs.Prelude.{ℕ, ◌+◌, max, Bool, true, false, ◌&&◌, ◌||◌, ◌==◌, List, [], ◌∷◌, Option, Some, None}
-use Rattle.grammar_table.specs.Table.{Symbol, Terminal, Nonterminal}
+use Rattle.c_grammar.specs.Table.{Symbol, Terminal, Nonterminal}
 use Rattle.c_grammar.specs.declared.kind.Kind.{Kind}
 use Rattle.c_grammar.specs.declared.kind.Kind.TheVariants.{Name, Literal, End, Const, Void, Char, Short, Int, Long, Signed, Unsigned, Struct, Static, Extern, Sizeof, If, Else, While, Do, For, Switch, Case, Default, Break, Continue, Return, OpenParenthesis, CloseParenthesis, OpenBrace, CloseBrace, OpenBracket, CloseBracket, Semicolon, Comma, Colon, Question, Dot, Arrow, PlusPlus, MinusMinus, Star, Equal}
 use Rattle.c_grammar.specs.Kinds.{prefix_level, binary_right, is_assignment, is_single, is}

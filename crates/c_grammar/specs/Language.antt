@@ -1,6 +1,6 @@
 -- The grammar of the whole language as a table, over any leaves of which the kind is known.
 use Rattle.std.specs.Prelude.{ℕ, Bool, true, false, ◌&&◌, ◌||◌, List, [], ◌∷◌}
-use Rattle.grammar_table.specs.Table.{Tree, Alone, Nothing, Then, Node, Choice, Never, Table}
+use Rattle.c_grammar.specs.Table.{Tree, Alone, Nothing, Then, Node, Choice, Never, Table}
 use Rattle.c_grammar.specs.declared.kind.Kind.{Kind}
 use Rattle.c_grammar.specs.declared.kind.Kind.TheVariants.{Name, Integer, Else, End, Struct, Int, Semicolon, CloseBrace, OpenBrace, OpenBracket, CloseBracket, OpenParenthesis, CloseParenthesis}
 use Rattle.c_grammar.specs.Kinds.{is}

@@ -1,5 +1,10 @@
-pub mod Kinds
-pub mod Forms
 pub mod Chooses
-pub mod Language
 pub mod Follows
+pub mod Forms
+pub mod Kinds
+pub mod Language
+pub mod Laws
+pub mod Leaves
+pub mod Prefixes
+pub mod Runs
+pub mod Table

@@ -3,7 +3,7 @@ use Rattle.std.proofs.Common.{◌≡◌, ℕ, ◌+◌, ◌≤◌, ◌<◌, ◌==
 use Rattle.std.specs.Prelude.{slice_index, nat_le, nat_eq, codes}
 use Rattle.std.specs.List.{prefix_len, starts_with}
 use Rattle.std.proofs.lemmas.Bool.{cond-true, cond-false, lt-leb}
-use Rattle.text_place.specs.declared.place.Pos.{Pos}
+use Rattle.run_theory.specs.declared.place.Pos.{Pos}
 use Rattle.c_lexer.specs.declared.numbers.Base.{Base}
 use Rattle.c_lexer.specs.declared.numbers.Base.TheVariants as B
 use Rattle.c_lexer.specs.declared.lex_err.LexErr.TheVariants.{NameTooLong}

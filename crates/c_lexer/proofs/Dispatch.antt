@@ -2,7 +2,7 @@
 use Rattle.std.proofs.Common.{◌≡◌, ℕ, ◌==◌, List, Ok, Bool, true, false, ◌&&◌, drop, ◌∙◌}
 use Rattle.std.specs.Prelude.{slice_index}
 use Rattle.std.proofs.lemmas.Bool.{cond-true, cond-false}
-use Rattle.text_place.specs.declared.place.Pos.{Pos}
+use Rattle.run_theory.specs.declared.place.Pos.{Pos}
 use Rattle.c_lexer.specs.declared.front.Front.TheVariants as F
 use Rattle.c_lexer.specs.Classes.{is_space, is_letter, is_digit}
 use Rattle.c_lexer.specs.Constants.{quoted}

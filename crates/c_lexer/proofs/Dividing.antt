@@ -1,15 +1,15 @@
 -- A text divides in one way, or has one first fault, and never both; one of the two is so.
 use Rattle.std.proofs.Common.{◌≡◌, ◌⊎◌, inl, inr, ℕ, zero, suc, ◌≤◌, List, [], ◌∷◌, ◌++◌, Result, Ok, Err, Bool, true, length, take, drop, sym, refl, ap, ◌∙◌, subst, append_assoc, arith, length-drop}
-use Rattle.text_place.specs.declared.place.Pos.{Pos}
-use Rattle.text_place.specs.Places.{first_place, place_behind}
-use Rattle.c_token.specs.declared.token.Lexeme.{Lexeme}
-use Rattle.c_token.specs.declared.token.Lexeme.TheVariants as L
-use Rattle.c_token.specs.declared.token.Token.{Token}
+use Rattle.run_theory.specs.declared.place.Pos.{Pos}
+use Rattle.run_theory.specs.Places.{first_place, place_behind}
+use Rattle.c_grammar.specs.declared.token.Lexeme.{Lexeme}
+use Rattle.c_grammar.specs.declared.token.Lexeme.TheVariants as L
+use Rattle.c_grammar.specs.declared.token.Token.{Token}
 use Rattle.c_lexer.specs.declared.lex_err.LexErr.{LexErr}
 use Rattle.c_lexer.specs.declared.lex_err.LexErr.TheVariants.{BadByte, BadLiteral, Unclosed, BadDirective, NameTooLong, OutOfMemory}
 use Rattle.c_lexer.specs.declared.front.Front.{Front}
 use Rattle.c_lexer.specs.declared.front.Front.TheVariants as F
-use Rattle.c_token.specs.Leaves.{Leaf, leaves_of}
+use Rattle.c_grammar.specs.Leaves.{Leaf, leaves_of}
 use Rattle.c_lexer.specs.Fronts.{front_of}
 use Rattle.c_lexer.specs.Tokens.{line_behind, DividesFrom, at_end, blank, token, Divides, width_of, FaultsFrom, here, behind, Faults, token_at, UnlessMemory, IsFoundUnlessMemory}
 use Rattle.c_lexer.proofs.Widths.{front_within}

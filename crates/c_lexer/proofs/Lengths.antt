@@ -1,8 +1,8 @@
 -- A text has no more tokens than bytes, and its end.
 use Rattle.std.proofs.Common.{ℕ, ◌+◌, ◌≤◌, List, ◌∷◌, Bool, true, length, arith, length-drop}
-use Rattle.text_place.specs.declared.place.Pos.{Pos}
+use Rattle.run_theory.specs.declared.place.Pos.{Pos}
 use Rattle.c_lexer.specs.declared.front.Front.TheVariants as F
-use Rattle.c_token.specs.Leaves.{Leaf}
+use Rattle.c_grammar.specs.Leaves.{Leaf}
 use Rattle.c_lexer.specs.Tokens.{DividesFrom, at_end, blank, token, Divides}
 use Rattle.c_lexer.proofs.Widths.{front_within}
 

@@ -2,7 +2,7 @@
 use Rattle.std.proofs.Common.{◌≡◌, inl, inr, ℕ, zero, suc, ◌+◌, ◌≤◌, ◌==◌, List, [], ◌∷◌, ◌++◌, Some, None, Result, Ok, Err, cond, ◌&&◌, ◌||◌, length, drop, sym, refl, ap, ◌∙◌, subst, arith, eq-eqb, ne_eqb}
 use Rattle.std.specs.Prelude.{is_some, not}
 use Rattle.std.proofs.lemmas.Bool.{cases_Bool, cond-true, cond-false}
-use Rattle.text_place.specs.declared.place.Pos.{Pos}
+use Rattle.run_theory.specs.declared.place.Pos.{Pos}
 use Rattle.c_lexer.specs.declared.lex_err.LexErr.{LexErr}
 use Rattle.c_lexer.specs.declared.lex_err.LexErr.TheVariants.{BadByte, BadLiteral, Unclosed, BadDirective, NameTooLong, OutOfMemory}
 use Rattle.c_lexer.specs.Constants.{escape_width, escape_byte, byte_or_zero, is_open, is_bad_escape, spelled_byte, spelled_width, spelled, quoted_from}

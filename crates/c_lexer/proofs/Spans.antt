@@ -1,12 +1,12 @@
 -- Where the tokens found so far stand in the text.
 use Rattle.std.proofs.Common.{◌≡◌, ℕ, ◌+◌, ◌-◌, ◌≤◌, ◌==◌, List, [], ◌∷◌, ◌++◌, Ok, Bool, length, take, drop, sym, refl, ap, ◌∙◌, subst, append_assoc, arith, take-append-drop, length-append, length-drop, drop-drop}
 use Rattle.std.proofs.lemmas.Bool.{cond_both}
-use Rattle.text_place.specs.declared.place.Pos.{Pos}
-use Rattle.text_place.specs.Places.{newline, place_after, first_place, place_behind, place_in}
-use Rattle.text_place.proofs.Places.{place_behind-append, place_in_room}
-use Rattle.c_token.specs.declared.token.Lexeme.{Lexeme}
-use Rattle.c_token.specs.declared.token.Lexeme.TheVariants as L
-use Rattle.c_token.specs.declared.token.Token.{Token}
+use Rattle.run_theory.specs.declared.place.Pos.{Pos}
+use Rattle.run_theory.specs.Places.{newline, place_after, first_place, place_behind, place_in}
+use Rattle.run_theory.proofs.Places.{place_behind-append, place_in_room}
+use Rattle.c_grammar.specs.declared.token.Lexeme.{Lexeme}
+use Rattle.c_grammar.specs.declared.token.Lexeme.TheVariants as L
+use Rattle.c_grammar.specs.declared.token.Token.{Token}
 use Rattle.c_lexer.specs.declared.front.Front.{Front}
 use Rattle.c_lexer.specs.declared.front.Front.TheVariants as F
 use Rattle.c_lexer.specs.Fronts.{front_of}

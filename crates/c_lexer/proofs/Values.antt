@@ -8,7 +8,7 @@ use Rattle.c_num.specs.declared.IntType.TheVariants as T
 use Rattle.c_lexer.specs.declared.numbers.Base.{Base}
 use Rattle.c_lexer.specs.declared.numbers.Base.TheVariants as B
 use Rattle.c_lexer.specs.declared.numbers.Suffix.{Suffix}
-use Rattle.c_token.specs.declared.token.Lexeme.TheVariants as L
+use Rattle.c_grammar.specs.declared.token.Lexeme.TheVariants as L
 use Rattle.c_lexer.specs.Classes.{is_octal_digit, is_hexadecimal_digit}
 use Rattle.c_lexer.specs.Constants.{radix, fitting_byte, digits_from, hexadecimal_value, octal_byte, hexadecimal_byte, hexadecimal_digit, holds, first_holding, integer_lexeme, as_integer, typed, types_of, is_decimal, suffix_of}
 

@@ -4,9 +4,9 @@ use Rattle.std.specs.Prelude.{slice_index, nat_le}
 use Rattle.std.specs.List.{prefix_len}
 use Rattle.std.proofs.lemmas.Bool.{cond_both, and_parts, leb-true}
 use Rattle.std.proofs.lemmas.List.Sums.{prefix_len-le-length}
-use Rattle.text_place.specs.declared.place.Pos.{Pos}
+use Rattle.run_theory.specs.declared.place.Pos.{Pos}
 use Rattle.c_grammar.specs.declared.kind.Kind.{Kind}
-use Rattle.c_token.specs.declared.token.Lexeme.{Lexeme}
+use Rattle.c_grammar.specs.declared.token.Lexeme.{Lexeme}
 use Rattle.c_lexer.specs.declared.lex_err.LexErr.{LexErr}
 use Rattle.c_lexer.specs.declared.front.Front.{Front}
 use Rattle.c_lexer.specs.Classes.{is_space, is_in_line, is_letter, is_digit, is_word_byte, goes_on}

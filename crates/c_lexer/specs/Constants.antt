@@ -1,7 +1,7 @@
 -- Integer constants, character constants and literals (C17 6.4.4.1, 6.4.4.4, 6.4.5).
 use Rattle.std.specs.Prelude.{ℕ, zero, suc, ◌+◌, ◌-◌, ◌*◌, ◌^◌, List, [], ◌∷◌, ◌++◌, Option, Some, None, Bool, true, false, ◌&&◌, ◌||◌, not, ◌==◌, nat_lt, nat_le, if◌then◌else◌, is_some, length, take, drop, slice_index, Result, Ok, Err}
 use Rattle.std.specs.List.{list_all, prefix_len}
-use Rattle.text_place.specs.declared.place.Pos.{Pos}
+use Rattle.run_theory.specs.declared.place.Pos.{Pos}
 use Rattle.c_num.specs.declared.IntType.{IntType}
 use Rattle.c_num.specs.declared.IntType.TheVariants as T
 use Rattle.c_num.specs.Types.{width_of, is_signed}
@@ -9,8 +9,8 @@ use Rattle.c_lexer.specs.declared.numbers.Base.{Base}
 use Rattle.c_lexer.specs.declared.numbers.Base.TheVariants as B
 use Rattle.c_lexer.specs.declared.numbers.Suffix.{Suffix}
 use Rattle.c_lexer.specs.declared.numbers.Suffix.TheVariants as X
-use Rattle.c_token.specs.declared.token.Lexeme.{Lexeme}
-use Rattle.c_token.specs.declared.token.Lexeme.TheVariants as L
+use Rattle.c_grammar.specs.declared.token.Lexeme.{Lexeme}
+use Rattle.c_grammar.specs.declared.token.Lexeme.TheVariants as L
 use Rattle.c_lexer.specs.declared.lex_err.LexErr.{LexErr}
 use Rattle.c_lexer.specs.declared.lex_err.LexErr.TheVariants.{BadLiteral, Unclosed}
 use Rattle.c_lexer.specs.Classes.{is_digit, is_octal_digit, is_hexadecimal_digit}

@@ -2,10 +2,10 @@
 -- first byte tells which, and as many bytes are taken as can belong to it (C17 6.4 paragraph 4).
 use Rattle.std.specs.Prelude.{ℕ, ◌+◌, List, [], ◌∷◌, Option, Some, None, Bool, true, false, ◌&&◌, ◌||◌, ◌==◌, nat_le, if◌then◌else◌, length, take, drop, slice_index, codes, nat_eq, Result, Ok, Err}
 use Rattle.std.specs.List.{prefix_len, starts_with}
-use Rattle.text_place.specs.declared.place.Pos.{Pos}
+use Rattle.run_theory.specs.declared.place.Pos.{Pos}
 use Rattle.c_grammar.specs.declared.kind.Kind.{Kind}
-use Rattle.c_token.specs.declared.token.Lexeme.{Lexeme}
-use Rattle.c_token.specs.declared.token.Lexeme.TheVariants as L
+use Rattle.c_grammar.specs.declared.token.Lexeme.{Lexeme}
+use Rattle.c_grammar.specs.declared.token.Lexeme.TheVariants as L
 use Rattle.c_lexer.specs.declared.lex_err.LexErr.{LexErr}
 use Rattle.c_lexer.specs.declared.lex_err.LexErr.TheVariants.{BadByte, BadLiteral, Unclosed, BadDirective, NameTooLong}
 use Rattle.c_lexer.specs.declared.front.Front.{Front}

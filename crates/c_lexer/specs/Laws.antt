@@ -1,8 +1,8 @@
 -- The laws of divisions and faults.
 use Rattle.std.specs.Prelude.{◌≡◌, ℕ, ◌⊎◌, List}
-use Rattle.text_place.specs.Places.{first_place}
+use Rattle.run_theory.specs.Places.{first_place}
 use Rattle.c_lexer.specs.declared.lex_err.LexErr.{LexErr}
-use Rattle.c_token.specs.Leaves.{Leaf}
+use Rattle.c_grammar.specs.Leaves.{Leaf}
 use Rattle.c_lexer.specs.Tokens.{Divides, Faults}
 
 -- a text divides in one way at most

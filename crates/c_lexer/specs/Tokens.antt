@@ -4,17 +4,17 @@
 -- passed, or a token, or a fault, which refuses the text.
 use Rattle.std.specs.Prelude.{◌≡◌, ℕ, ◌+◌, ◌-◌, ◌≤◌, List, [], ◌∷◌, Bool, true, ◌&&◌, ◌||◌, ◌==◌, length, take, drop, Vec, Result, Ok, Err}
 use Rattle.std.specs.declared.alloc.Global.{Global}
-use Rattle.text_place.specs.declared.place.Pos.{Pos}
-use Rattle.text_place.specs.Places.{place_behind}
-use Rattle.c_token.specs.declared.token.Lexeme.{Lexeme}
-use Rattle.c_token.specs.declared.token.Lexeme.TheVariants as L
-use Rattle.c_token.specs.declared.token.Token.{Token}
+use Rattle.run_theory.specs.declared.place.Pos.{Pos}
+use Rattle.run_theory.specs.Places.{place_behind}
+use Rattle.c_grammar.specs.declared.token.Lexeme.{Lexeme}
+use Rattle.c_grammar.specs.declared.token.Lexeme.TheVariants as L
+use Rattle.c_grammar.specs.declared.token.Token.{Token}
 use Rattle.c_lexer.specs.declared.lex_err.LexErr.{LexErr}
 use Rattle.c_lexer.specs.declared.lex_err.LexErr.TheVariants.{BadByte, BadLiteral, Unclosed, BadDirective, NameTooLong, OutOfMemory}
 use Rattle.c_lexer.specs.declared.front.Front.{Front}
 use Rattle.c_lexer.specs.declared.front.Front.TheVariants as F
 use Rattle.c_lexer.specs.Classes.{is_blank}
-use Rattle.c_token.specs.Leaves.{Leaf, leaves_of}
+use Rattle.c_grammar.specs.Leaves.{Leaf, leaves_of}
 use Rattle.c_lexer.specs.Fronts.{front_of}
 
 -- Do nothing but spaces and tabs stand on the line behind these bytes, where this was so before them or not?

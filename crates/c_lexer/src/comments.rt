@@ -8,7 +8,7 @@ ghost use Rattle.c_lexer.specs.Fronts.{line_length, comment_end, as_comment};
 use crate::classes::byte_at;
 use crate::front::Front;
 use crate::lex_err::LexErr;
-use text_place::Pos;
+use run_theory::Pos;
 
 /// Whether a text begins with `//`.
 pub(crate) fn is_line_comment(text: &[u8]) -> bool

@@ -7,7 +7,7 @@ use crate::classes::is_blank;
 use crate::comments::line_length;
 use crate::front::Front;
 use crate::lex_err::LexErr;
-use text_place::Pos;
+use run_theory::Pos;
 
 /// The directive whose `#` begins a text and stands at `place`.
 pub(crate) fn directive(text: &[u8], place: Pos) -> Result<Front, LexErr>

@@ -12,9 +12,9 @@ use crate::numbers::number;
 use crate::punctuators::punctuator;
 use crate::quoted::{character, literal};
 use crate::words::word;
-use c_token::Lexeme;
+use c_grammar::Lexeme;
+use run_theory::Pos;
 use std::alloc::Global;
-use text_place::Pos;
 
 /// What stands at the front of a text, and how many bytes of it that is.
 #[derive(Debug, Drop)]

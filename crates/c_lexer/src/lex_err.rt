@@ -1,6 +1,6 @@
 // Why a text has no tokens.
 
-use text_place::Pos;
+use run_theory::Pos;
 use thiserror::Error;
 
 /// Why a text has no tokens. Each refusal holds the place where the token, the comment or the `#` begins, or where the

@@ -1,16 +1,16 @@
 // The tokens of a text, from left to right.
 
 ghost use Rattle.std.specs.Prelude.{◌≡◌, ◌+◌, ◌++◌, ◌^◌, ◌<◌, List, length, IfOk, IfErr, OnOk};
-ghost use Rattle.text_place.specs.Places.{first_place, place_behind};
-ghost use Rattle.c_token.specs.Leaves.{Leaf, leaves_of};
+ghost use Rattle.run_theory.specs.Places.{first_place, place_behind};
+ghost use Rattle.c_grammar.specs.Leaves.{Leaf, leaves_of};
 ghost use Rattle.c_lexer.specs.Tokens.{Divides, Faults, StandFrom, IsFoundUnlessMemory, UnlessMemory, line_behind, token_at, width_of};
 
 use crate::classes::is_blank;
 use crate::front::{Front, front_at};
 use crate::lex_err::LexErr;
-use c_token::{Lexeme, Token};
+use c_grammar::{Lexeme, Token};
+use run_theory::Pos;
 use std::alloc::Global;
-use text_place::Pos;
 
 /// The tokens of a text, the last one the end of the text. White space, comments and the directives that include
 /// `<stdio.h>`, `<stdlib.h>` or `<stddef.h>` stand between them. A refusal is of the first fault, by place.

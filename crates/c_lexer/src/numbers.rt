@@ -8,9 +8,9 @@ ghost use Rattle.c_lexer.specs.Fronts.{number_front, number_run};
 use crate::classes::{byte_at, goes_on, is_digit, is_hexadecimal_digit, is_octal_digit};
 use crate::front::Front;
 use crate::lex_err::LexErr;
+use c_grammar::Lexeme;
 use c_num::IntType;
-use c_token::Lexeme;
-use text_place::Pos;
+use run_theory::Pos;
 
 /// The base of an integer constant.
 #[derive(Clone, Copy, Debug)]

@@ -6,9 +6,8 @@ ghost use Rattle.c_lexer.specs.Fronts.{punctuator_front, punctuator_of};
 use crate::front::Front;
 use crate::lex_err::LexErr;
 use crate::tables::punctuator_kind;
-use c_grammar::Kind;
-use c_token::Lexeme;
-use text_place::Pos;
+use c_grammar::{Kind, Lexeme};
+use run_theory::Pos;
 
 /// The punctuator that begins a text, which stands at `place`.
 pub(crate) fn punctuator(text: &[u8], place: Pos) -> Result<Front, LexErr>

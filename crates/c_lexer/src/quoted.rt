@@ -8,9 +8,9 @@ ghost use Rattle.c_lexer.specs.Tokens.{UnlessMemory};
 use crate::characters::{escape_byte, escape_width};
 use crate::front::Front;
 use crate::lex_err::LexErr;
-use c_token::{ByteString, Lexeme};
+use c_grammar::{ByteString, Lexeme};
+use run_theory::Pos;
 use std::alloc::Global;
-use text_place::Pos;
 
 /// What stands between quotes: the bytes it stands for, and how many bytes of the text it takes with its closing quote.
 #[derive(Drop)]

@@ -10,9 +10,9 @@ use crate::classes::is_word_byte;
 use crate::front::Front;
 use crate::lex_err::LexErr;
 use crate::tables::word_kind;
-use c_token::{ByteString, Lexeme};
+use c_grammar::{ByteString, Lexeme};
+use run_theory::Pos;
 use std::alloc::{AllocError, Global};
-use text_place::Pos;
 
 /// The greatest number of bytes of a name.
 const NAME_LIMIT: usize = 255;

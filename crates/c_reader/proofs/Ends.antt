@@ -3,9 +3,9 @@
 use Rattle.std.proofs.Common.{◌≡◌, ℕ, Bool, true, false, ◌||◌, List, [], ◌∷◌, ◌++◌, Some, sym, refl, ◌∙◌, ap, subst}
 use Rattle.std.proofs.lemmas.Bool.{or_parts, or_from}
 use Rattle.std.proofs.lemmas.List.{append-nil}
-use Rattle.grammar_table.specs.Table.{Symbol, Terminal, Nonterminal, leaves, Is, nothing, token, part, IsPart, first, after}
-use Rattle.grammar_table.specs.Runs.{Whole, Bad, Failed, Run}
-use Rattle.grammar_table.specs.Prefixes.{Accepted}
+use Rattle.c_grammar.specs.Table.{Symbol, Terminal, Nonterminal, leaves, Is, nothing, token, part, IsPart, first, after}
+use Rattle.c_grammar.specs.Runs.{Whole, Bad, Failed, Run}
+use Rattle.c_grammar.specs.Prefixes.{Accepted}
 use Rattle.c_grammar.specs.declared.kind.Kind.{Kind}
 use Rattle.c_grammar.specs.declared.kind.Kind.TheVariants.{Name, End}
 use Rattle.c_grammar.specs.Kinds.{is}
@@ -13,9 +13,9 @@ use Rattle.c_grammar.specs.Forms
 use Rattle.c_grammar.proofs.LanguageFollowed.{left_expr}
 use Rattle.c_grammar.proofs.LanguageTells.{is_same}
 use Rattle.c_grammar.proofs.LanguagePlaces.{misfit, only}
-use Rattle.c_token.specs.Leaves.{Leaf, kind_of, sample}
-use Rattle.c_reader_tokens.specs.Grammar.{grammar, Parse}
-use Rattle.c_reader.specs.Readings.{nesting_limit, EndsText, IsThere}
+use Rattle.c_grammar.specs.Leaves.{Leaf, kind_of, sample}
+use Rattle.c_reader.specs.Grammar.{grammar, Parse}
+use Rattle.c_reader.specs.ProgramReadings.{nesting_limit, EndsText, IsThere}
 
 pub real : (kind : Kind) → kind_of (sample kind) ≡ kind
 real Name = refl

@@ -1,9 +1,9 @@
 -- Items, step by step.
 use Rattle.std.proofs.Common.{◌≡◌, ℕ, ◌≤◌, Bool, true, List, [], ◌∷◌, Result, Ok, Err, Option, Some, sym, refl, ◌∙◌, ap, subst, arith}
 use Rattle.std.specs.Prelude.{◌<◌, length, IfOk, IfSome}
-use Rattle.text_place.specs.declared.place.Pos.{Pos}
-use Rattle.grammar_table.specs.Table.{Symbol, Terminal, Nonterminal, Alone, Nothing, Then, Node}
-use Rattle.grammar_table.specs.Runs.{Job, Parts, Whole, Fault, Bad, Done, Failed, Run, at_end, unfit, token_done, token_failed, part_done, part_failed}
+use Rattle.run_theory.specs.declared.place.Pos.{Pos}
+use Rattle.c_grammar.specs.Table.{Symbol, Terminal, Nonterminal, Alone, Nothing, Then, Node}
+use Rattle.c_grammar.specs.Runs.{Job, Parts, Whole, Fault, Bad, Done, Failed, Run, at_end, unfit, token_done, token_failed, part_done, part_failed}
 use Rattle.c_grammar.specs.declared.kind.Kind.{Kind}
 use Rattle.c_grammar.specs.declared.kind.Kind.TheVariants as K
 use Rattle.c_grammar.specs.declared.words.Words.{Words}
@@ -11,25 +11,25 @@ use Rattle.c_grammar.specs.declared.words.Words.TheVariants.{NoWord, FullType}
 use Rattle.c_grammar.specs.Forms
 use Rattle.c_grammar.specs.Kinds.{is}
 use Rattle.c_grammar.proofs.LanguageTells.{is_self}
-use Rattle.c_token.specs.Leaves.{Leaf, leaves_of}
+use Rattle.c_grammar.specs.Leaves.{Leaf, leaves_of}
 use Rattle.c_syntax.specs.declared.name.Name as memory_name
 use Rattle.c_syntax.specs.declared.declaration.Item.{Item}
 use Rattle.c_syntax.specs.Trees
 use Rattle.c_syntax.specs.Views.{name_tree, item_tree}
-use Rattle.c_reader_tokens.specs.declared.part.Part as memory_part
-use Rattle.c_reader_tokens.specs.declared.syntax_err.SyntaxErr.{SyntaxErr}
-use Rattle.c_reader_tokens.specs.declared.syntax_err.SyntaxErr.TheVariants.{At, TooDeep, OutOfMemory}
-use Rattle.c_reader_tokens.specs.Grammar.{grammar, Parse}
-use Rattle.c_reader_tokens.specs.Shapes.{name_of, type_of_words, declarator_of, declared_of, struct_of, base_from, item_of, member_of, more_members_of}
-use Rattle.c_reader_tokens.specs.Readings.{Fails, Begins, Passes}
-use Rattle.c_reader_tokens.specs.Steps.{IsUnfit, PassesName, PassesWords, EndsWords}
-use Rattle.c_reader_tokens.specs.Rows.{Tells, Found, GivesPart}
+use Rattle.c_reader.specs.declared.part.Part as memory_part
+use Rattle.c_reader.specs.declared.syntax_err.SyntaxErr.{SyntaxErr}
+use Rattle.c_reader.specs.declared.syntax_err.SyntaxErr.TheVariants.{At, TooDeep, OutOfMemory}
+use Rattle.c_reader.specs.Grammar.{grammar, Parse}
+use Rattle.c_reader.specs.Shapes.{name_of, type_of_words, declarator_of, declared_of, struct_of, base_from, item_of, member_of, more_members_of}
+use Rattle.c_reader.specs.Readings.{Fails, Begins, Passes}
+use Rattle.c_reader.specs.Steps.{IsUnfit, PassesName, PassesWords, EndsWords}
+use Rattle.c_reader.specs.Rows.{Tells, Found, GivesPart}
 use Rattle.c_reader.specs.ItemLists.{struct_from, after_of}
-use Rattle.c_reader_tokens.proofs.Rows.{begin, finished, onto_lifts}
-use Rattle.c_reader_tokens.proofs.Rows as rows
-use Rattle.c_reader_tokens.proofs.Reaching as reaching
-use Rattle.c_reader_tokens.proofs.Reaching.{Row, Reached, part_at}
-use Rattle.c_reader_tokens.proofs.WordRows.{begins_passed, ended, word_kinds}
+use Rattle.c_reader.proofs.Rows.{begin, finished, onto_lifts}
+use Rattle.c_reader.proofs.Rows as rows
+use Rattle.c_reader.proofs.Reaching as reaching
+use Rattle.c_reader.proofs.Reaching.{Row, Reached, part_at}
+use Rattle.c_reader.proofs.WordRows.{begins_passed, ended, word_kinds}
 
 -- what the last symbol of a row gives
 pub part_through : {job : Job Leaf Kind Forms.Sort Forms.Production} {room below : ℕ} {text rest : List Leaf} {wrap : Parse → Parse} {sort : Forms.Sort} {B A : Type 0} (shape_of shape_mid : Parse → A) (tree_of : B → A) (result : Result (memory_part.Part B) SyntaxErr) → Reached job room text wrap (Nonterminal sort 0 ∷ []) below rest → ((parse : Parse) → shape_of (wrap (Then parse Nothing)) ≡ shape_mid parse) → GivesPart (Whole sort 0) below rest shape_mid tree_of result → GivesPart job room text shape_of tree_of result

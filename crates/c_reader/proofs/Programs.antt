@@ -1,27 +1,27 @@
 -- Which programs are read, and where others are refused, from what a reader by the table comes to.
 use Rattle.std.proofs.Common.{◌≡◌, ◌==◌, true, false, ◌<◌, List, [], ◌∷◌, ◌++◌, Err, length, sym, refl, ◌∙◌, ap, subst, arith, eqb-true, append_assoc}
 use Rattle.std.proofs.lemmas.List.{append-nil}
-use Rattle.text_place.specs.declared.place.Pos.{Pos}
-use Rattle.grammar_table.specs.Table.{leaves, height}
-use Rattle.grammar_table.specs.Runs.{Whole, Bad, Deep, Done, Failed, Run}
-use Rattle.grammar_table.specs.Prefixes.{BeginsAccepted}
-use Rattle.grammar_table.proofs.Exact.{Kept, past, same, exact}
-use Rattle.grammar_table.proofs.Sound.{sound}
+use Rattle.run_theory.specs.declared.place.Pos.{Pos}
+use Rattle.c_grammar.specs.Table.{leaves, height}
+use Rattle.c_grammar.specs.Runs.{Whole, Bad, Deep, Done, Failed, Run}
+use Rattle.c_grammar.specs.Prefixes.{BeginsAccepted}
+use Rattle.c_grammar.proofs.Exact.{Kept, past, same, exact}
+use Rattle.c_grammar.proofs.Sound.{sound}
 use Rattle.c_grammar.specs.Forms.{Program}
 use Rattle.c_grammar.proofs.LanguageTells.{tells}
 use Rattle.c_grammar.proofs.LanguageBounds.{bounds}
 use Rattle.c_grammar.proofs.LanguageCompletes.{completes}
 use Rattle.c_grammar.proofs.LanguagePlaces.{is_read, misfit, too_deep, only}
-use Rattle.c_token.specs.declared.token.Token.{Token}
-use Rattle.c_token.specs.Leaves.{Leaf, kind_of, sample, leaf_of, leaves_of}
+use Rattle.c_grammar.specs.declared.token.Token.{Token}
+use Rattle.c_grammar.specs.Leaves.{Leaf, kind_of, sample, leaf_of, leaves_of}
 use Rattle.c_syntax.specs.Trees.{ProgramTree}
-use Rattle.c_reader_tokens.specs.declared.syntax_err.SyntaxErr.{SyntaxErr}
-use Rattle.c_reader_tokens.specs.declared.syntax_err.SyntaxErr.TheVariants.{At, TooDeep, OutOfMemory}
-use Rattle.c_reader_tokens.specs.Grammar.{grammar, Parse}
-use Rattle.c_reader_tokens.specs.Shapes.{place_of, program_of}
-use Rattle.c_reader_tokens.specs.Readings.{FailsAt, Fails}
-use Rattle.c_reader.specs.Readings.{nesting_limit, IsProgram, MisfitAt, Refuses, IsReadUnlessMemory}
-use Rattle.c_reader_tokens.specs.Rows.{Found}
+use Rattle.c_reader.specs.declared.syntax_err.SyntaxErr.{SyntaxErr}
+use Rattle.c_reader.specs.declared.syntax_err.SyntaxErr.TheVariants.{At, TooDeep, OutOfMemory}
+use Rattle.c_reader.specs.Grammar.{grammar, Parse}
+use Rattle.c_reader.specs.Shapes.{place_of, program_of}
+use Rattle.c_reader.specs.Readings.{FailsAt, Fails}
+use Rattle.c_reader.specs.ProgramReadings.{nesting_limit, IsProgram, MisfitAt, Refuses, IsReadUnlessMemory}
+use Rattle.c_reader.specs.Rows.{Found}
 use Rattle.c_reader.proofs.Ends.{real, stops_there}
 
 one_more : {A : Type 0} (front others : List A) (x : A) → front ++ x ∷ others ≡ (front ++ x ∷ []) ++ others

@@ -1,12 +1,12 @@
 -- Items whose parts are the same.
 use Rattle.std.proofs.Common.{◌≡◌, List, [], ◌∷◌, Option, refl, ap, ◌∙◌}
-use Rattle.text_place.specs.declared.place.Pos.{Pos}
+use Rattle.run_theory.specs.declared.place.Pos.{Pos}
 use Rattle.c_syntax.specs.declared.statement.BlockItem.{BlockItem}
 use Rattle.c_syntax.specs.declared.statement.BlockItem.TheVariants as B
 use Rattle.c_syntax.specs.Trees
 use Rattle.c_syntax.specs.Views.{declaration_tree, stmt_tree, block_of}
-use Rattle.c_reader_tokens.specs.Lists.{folds}
-use Rattle.c_reader_statements.specs.StmtLists.{block_before}
+use Rattle.c_reader.specs.Lists.{folds}
+use Rattle.c_reader.specs.StmtLists.{block_before}
 
 abbrev pub made : Trees.DeclaratorTree → Option Trees.InitTree → Trees.InitDeclaratorTree
 made declarator init = record { declarator = declarator; init = init }

@@ -1,8 +1,8 @@
 -- The syntax trees of items and members, from the trees in memory and from parts that were read before.
 use Rattle.std.specs.Prelude.{List, [], ◌∷◌, map, Box, Vec}
 use Rattle.std.specs.declared.alloc.Global.{Global}
-use Rattle.text_place.specs.declared.place.Pos.{Pos}
-use Rattle.grammar_table.specs.Table.{Then, Node, Nothing}
+use Rattle.run_theory.specs.declared.place.Pos.{Pos}
+use Rattle.c_grammar.specs.Table.{Then, Node, Nothing}
 use Rattle.c_grammar.specs.Forms
 use Rattle.c_syntax.specs.declared.name.Name as memory_name
 use Rattle.c_syntax.specs.declared.expr.Declarator.{Declarator}
@@ -11,8 +11,8 @@ use Rattle.c_syntax.specs.declared.declaration.Item.{Item}
 use Rattle.c_syntax.specs.declared.declaration.Member.{Member}
 use Rattle.c_syntax.specs.Trees
 use Rattle.c_syntax.specs.Views.{name_tree, base_tree, declarator_tree, member_tree, item_tree}
-use Rattle.c_reader_tokens.specs.Grammar.{Parse}
-use Rattle.c_reader_tokens.specs.Shapes.{first_value_of, declarators_of, member_declarators_of, member_of, more_members_of, body_of}
+use Rattle.c_reader.specs.Grammar.{Parse}
+use Rattle.c_reader.specs.Shapes.{first_value_of, declarators_of, member_declarators_of, member_of, more_members_of, body_of}
 
 abbrev pub item_before : Item → List Trees.ItemTree → List Trees.ItemTree
 item_before item items = item_tree item ∷ items

@@ -1,3 +1,16 @@
-pub mod Readings
+pub mod Choices
+pub mod ExpressionSteps
+pub mod Grammar
 pub mod ItemForms
 pub mod ItemLists
+pub mod Lists
+pub mod ProgramReadings
+pub mod Readings
+pub mod RowForms
+pub mod Rows
+pub mod Shapes
+pub mod StatementLists
+pub mod Steps
+pub mod StmtForms
+pub mod StmtLists
+pub mod Terms

@@ -1,63 +1,55 @@
 -- What the parts of the reader answer: what a reader by the table of the grammar comes to, and the syntax tree of what it
 -- read.
-use Rattle.std.specs.Prelude.{◌≡◌, ℕ, List, [], ◌∷◌, Result, Ok, Err}
-use Rattle.text_place.specs.declared.place.Pos.{Pos}
-use Rattle.grammar_table.specs.Prefixes.{Accepted, IsMisfit, IsTooDeep}
-use Rattle.c_grammar.specs.declared.kind.Kind.TheVariants.{End}
-use Rattle.c_grammar.specs.Forms.{Program}
-use Rattle.c_token.specs.Leaves.{Leaf, kind_of}
-use Rattle.c_syntax.specs.Trees.{ProgramTree}
-use Rattle.c_syntax.specs.declared.declaration.Program as memory_program
-use Rattle.c_syntax.specs.Views.{program_tree}
-use Rattle.c_reader_tokens.specs.declared.syntax_err.SyntaxErr.{SyntaxErr}
-use Rattle.c_reader_tokens.specs.declared.syntax_err.SyntaxErr.TheVariants.{At, TooDeep, OutOfMemory}
-use Rattle.c_reader_tokens.specs.Grammar.{grammar}
-use Rattle.c_reader_tokens.specs.Shapes.{place_of, program_of}
+use Rattle.std.specs.Prelude.{◌≡◌, ℕ, List, ◌∷◌, Result, Ok, Err}
+use Rattle.run_theory.specs.declared.place.Pos.{Pos}
+use Rattle.c_grammar.specs.Table.{height}
+use Rattle.c_grammar.specs.Runs.{Job, Fault, Bad, Deep, Done, Failed, Run}
+use Rattle.c_grammar.specs.declared.kind.Kind.{Kind}
+use Rattle.c_grammar.specs.Forms.{Sort, Production}
+use Rattle.c_grammar.specs.Leaves.{Leaf, kind_of, leaves_of}
+use Rattle.c_reader.specs.declared.token.Read.{Read}
+use Rattle.c_reader.specs.declared.syntax_err.SyntaxErr.{SyntaxErr}
+use Rattle.c_reader.specs.declared.syntax_err.SyntaxErr.TheVariants.{At, TooDeep, OutOfMemory}
+use Rattle.c_reader.specs.Grammar.{grammar, Parse}
+use Rattle.c_reader.specs.Shapes.{place_of}
 
--- ---- programs
+-- ---- parts
 
--- how many nodes may lie on one path
-abbrev pub nesting_limit : ℕ
-nesting_limit = 200
-
--- The tokens are those of this program.
-pub record IsProgram (leaves : List Leaf) (program : ProgramTree) : Type 0 where
-  pub accepted : Accepted grammar Program 0 nesting_limit leaves
-  pub shape : program_of accepted.tree ≡ program
-
--- The last of the tokens is the end of the text.
-abbrev pub EndsText : List Leaf → Type 0
-EndsText [] = ⊥
-EndsText (leaf ∷ []) = kind_of leaf ≡ End
-EndsText (leaf ∷ next ∷ leaves) = EndsText (next ∷ leaves)
-
--- There is a token.
-abbrev pub IsThere : List Leaf → Type 0
-IsThere [] = ⊥
-IsThere (leaf ∷ leaves) = Unit {0}
-
--- The tokens before the one at the place begin a program, and those through it begin none, however deep it may nest.
--- Where the last of the tokens is the end of the text, one stands at the place.
-pub record MisfitAt (leaves : List Leaf) (place : Pos) : Type 0 where
+-- A reader with a job and so much room comes to a fault at a token that stands at the place.
+pub record FailsAt (fault : Fault) (job : Job Leaf Kind Sort Production) (room : ℕ) (text : List Leaf) (place : Pos) : Type 0 where
   pub behind : List Leaf
+  pub run : Run grammar job room text (Failed fault behind)
   pub stands : place_of behind ≡ place
-  pub misfit : IsMisfit grammar Program 0 nesting_limit leaves behind
-  pub there : EndsText leaves → IsThere behind
 
--- The tokens before the one at the place begin a program, and those through it do only where more nodes may nest.
-pub record TooDeepAt (leaves : List Leaf) (place : Pos) : Type 0 where
+abbrev pub Fails : Job Leaf Kind Sort Production → ℕ → List Leaf → SyntaxErr → Type 0
+Fails job room text (At place) = FailsAt Bad job room text place
+Fails job room text (TooDeep place) = FailsAt Deep job room text place
+Fails job room text OutOfMemory = Unit {0}
+
+-- It comes to a tree of that height, which stands for this syntax tree, and to what is behind it.
+pub record IsRead {A : Type 0} (job : Job Leaf Kind Sort Production) (room : ℕ) (text : List Leaf) (shape_of : Parse → A) (tree : A) (high : ℕ) (behind : List Leaf) : Type 0 where
+  pub parse : Parse
+  pub run : Run grammar job room text (Done parse behind)
+  pub shape : shape_of parse ≡ tree
+  pub measured : height grammar parse ≡ high
+
+-- ---- tokens
+
+-- A token of this kind stands at the front.
+pub record Begins (kind : Kind) (leaves : List Leaf) : Type 0 where
+  pub leaf : Leaf
   pub behind : List Leaf
-  pub stands : place_of behind ≡ place
-  pub too_deep : IsTooDeep grammar Program 0 nesting_limit leaves behind
+  pub parts : leaves ≡ leaf ∷ behind
+  pub is_kind : kind_of leaf ≡ kind
 
--- The error is the one that the tokens have, or memory ran out.
-abbrev pub Refuses : List Leaf → SyntaxErr → Type 0
-Refuses leaves (At place) = MisfitAt leaves place
-Refuses leaves (TooDeep place) = TooDeepAt leaves place
-Refuses leaves OutOfMemory = Unit {0}
+-- A token of this kind at this place stands at the front, and then these.
+pub record Passes (kind : Kind) (leaves : List Leaf) (place : Pos) (behind : List Leaf) : Type 0 where
+  pub leaf : Leaf
+  pub parts : leaves ≡ leaf ∷ behind
+  pub is_kind : kind_of leaf ≡ kind
+  pub stands : leaf.place ≡ place
 
-abbrev pub IsReadUnlessMemory : Result memory_program.Program SyntaxErr → ProgramTree → Type 0
-IsReadUnlessMemory (Ok program) tree = program_tree program ≡ tree
-IsReadUnlessMemory (Err (At place)) tree = ⊥
-IsReadUnlessMemory (Err (TooDeep place)) tree = ⊥
-IsReadUnlessMemory (Err OutOfMemory) tree = Unit {0}
+-- What a part of the reader with a job and so much room answers.
+abbrev pub IsReading : {V A : Type 0} → Job Leaf Kind Sort Production → ℕ → List Leaf → (Parse → A) → (V → A) → Result (Read V) SyntaxErr → Type 0
+IsReading job room text shape_of tree_of (Ok read) = IsRead job room text shape_of (tree_of read.value) read.height (leaves_of read.rest.now)
+IsReading job room text shape_of tree_of (Err fault) = Fails job room text fault

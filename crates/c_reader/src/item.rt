@@ -1,28 +1,29 @@
 // What stands outside functions (C17 6.9): declarations, structs with their members, and functions.
 
 ghost use Rattle.std.specs.Prelude.{◌<◌, ◌≤◌, [], ◌∷◌, true, length, map, IfOk, IfSome};
-ghost use Rattle.grammar_table.specs.Runs.{Whole};
+ghost use Rattle.c_grammar.specs.Runs.{Whole};
 ghost use Rattle.c_grammar.specs.declared.words.Words.TheVariants.{NoWord};
 ghost use Rattle.c_grammar.specs.Forms as forms;
-ghost use Rattle.c_token.specs.Leaves.{leaves_of};
+ghost use Rattle.c_grammar.specs.Leaves.{leaves_of};
 ghost use Rattle.c_syntax.specs.Views.{base_tree, item_tree, member_tree};
-ghost use Rattle.c_reader_tokens.specs.Shapes as shapes;
-ghost use Rattle.c_reader_tokens.specs.Rows.{GivesPart, GivesForm, GivesMore, TellsRow, Tells};
-ghost use Rattle.c_reader_tokens.specs.Steps.{EndsWords};
+ghost use Rattle.c_reader.specs.Shapes as shapes;
+ghost use Rattle.c_reader.specs.Rows.{GivesPart, GivesForm, GivesMore, TellsRow, Tells};
+ghost use Rattle.c_reader.specs.Steps.{EndsWords};
 ghost use Rattle.c_reader.specs.ItemForms.{item_form, items_form, tail_form, after_form, members_opt_form, members_form, member_more_form};
 ghost use Rattle.c_reader.specs.ItemLists.{item_before, member_before, member_declarator_before, member_declarators_in, member_declarators_from, members_in, members_from, struct_from, after_in, body_in};
 
-use c_grammar::{Kind, Words};
-use c_reader_expressions::{read_declarator, read_simple};
-use c_reader_statements::{read_block_items, read_declarators, read_first_value};
-use c_reader_tokens::{
-    Part, PassedWords, SyntaxErr, first_kind, first_place, has_room, pass, pass_name, pass_words,
-    room_below, words_type,
-};
+use crate::declaration::{read_declarators, read_first_value};
+use crate::declarator::{read_declarator, read_simple};
+use crate::name::pass_name;
+use crate::part::{Part, has_room};
+use crate::statement::read_block_items;
+use crate::syntax_err::SyntaxErr;
+use crate::token::{first_kind, first_place, pass, room_below};
+use crate::words::{PassedWords, pass_words, words_type};
+use c_grammar::{Kind, Token, Words};
 use c_syntax::{
     Base, Block, Declarator, InitDeclarator, Item, Member, Name, Pos, Simple, SimpleKind,
 };
-use c_token::Token;
 use std::alloc::Global;
 
 /// The rows behind a declarator of a member.

@@ -1,22 +1,23 @@
 // The program.
 
 ghost use Rattle.std.specs.Prelude.{◌≡◌, ◌||◌, IfOk, IfErr};
-ghost use Rattle.grammar_table.specs.Runs.{Whole};
+ghost use Rattle.c_grammar.specs.Runs.{Whole};
 ghost use Rattle.c_grammar.specs.Forms as forms;
 ghost use Rattle.c_grammar.specs.Kinds.{is};
 ghost use Rattle.c_grammar.specs.Chooses.{begins_item};
-ghost use Rattle.c_token.specs.Leaves.{leaves_of};
+ghost use Rattle.c_grammar.specs.Leaves.{leaves_of};
 ghost use Rattle.c_syntax.specs.Trees.{ProgramTree};
 ghost use Rattle.c_syntax.specs.Views.{program_tree};
-ghost use Rattle.c_reader_tokens.specs.Shapes.{program_of};
-ghost use Rattle.c_reader.specs.Readings.{IsProgram, Refuses, IsReadUnlessMemory};
-ghost use Rattle.c_reader_tokens.specs.Rows.{GivesPart};
+ghost use Rattle.c_reader.specs.Shapes.{program_of};
+ghost use Rattle.c_reader.specs.ProgramReadings.{IsProgram, Refuses, IsReadUnlessMemory};
+ghost use Rattle.c_reader.specs.Rows.{GivesPart};
 
 use crate::item::read_items;
-use c_grammar::Kind;
-use c_reader_tokens::{Part, SyntaxErr, first_kind, first_place, pass};
+use crate::part::Part;
+use crate::syntax_err::SyntaxErr;
+use crate::token::{first_kind, first_place, pass};
+use c_grammar::{Kind, Token};
 use c_syntax::Program;
-use c_token::Token;
 use std::alloc::Global;
 
 /// How many nodes may lie on one path of a program.

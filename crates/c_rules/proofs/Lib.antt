@@ -1,2 +1,44 @@
-mod Refusals
+pub mod Addresses
+pub mod AgreementsFit
+pub mod Answering
+pub mod Around
+pub mod BinaryFit
+pub mod CallsFit
+pub mod ChoicesFit
+pub mod Completed
+pub mod Completeness
+pub mod ConversionsFit
+pub mod Declarations
+pub mod DeclarationsFit
+pub mod Depths
+pub mod ExpressionsFit
+pub mod FirstHolds
+pub mod FirstRows
+pub mod FirstValues
+pub mod FunctionsFit
+pub mod GlobalsFit
+pub mod Holding
+pub mod Items
+pub mod LibraryFit
+pub mod NamesFit
+pub mod Nothing
+pub mod Outside
+pub mod Parameters
+pub mod PointersFit
+pub mod ProgramsFit
+pub mod Results
+pub mod Rows
+pub mod SameNames
+pub mod SameRules
+pub mod SizeValues
+pub mod Sized
+pub mod Sizes
+pub mod StatementsFit
+pub mod Structures
+pub mod TypeNames
+pub mod TypeSteps
+pub mod UnaryFit
+pub mod Unused
+pub mod Yielding
 mod Literals
+mod Refusals

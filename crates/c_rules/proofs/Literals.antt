@@ -1,6 +1,6 @@
 -- The literals of a text: those in operands of `sizeof` too, wherever these stand.
 use Rattle.std.specs.Prelude.{◌≡◌, ℕ, List, [], ◌∷◌, Some, None, codes, refl}
-use Rattle.text_place.specs.declared.place.Pos.{Pos}
+use Rattle.run_theory.specs.declared.place.Pos.{Pos}
 use Rattle.c_num.specs.declared.IntType.TheVariants as I
 use Rattle.c_syntax.specs.Trees
 use Rattle.c_typed.specs.Typed.{LiteralDef}

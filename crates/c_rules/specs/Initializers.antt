@@ -1,6 +1,6 @@
 -- The rules of initializers (C17 6.7.9).
 use Rattle.std.specs.Prelude.{ℕ, zero, suc, Bool, true, false, ◌||◌, nat_le, if◌then◌else◌, List, [], ◌∷◌, ◌++◌, length, Option, Some, None}
-use Rattle.text_place.specs.declared.place.Pos.{Pos}
+use Rattle.run_theory.specs.declared.place.Pos.{Pos}
 use Rattle.c_syntax.specs.Trees
 use Rattle.c_syntax.specs.Trees.{ExprTree, InitTree, InitsTree}
 use Rattle.c_rules.specs.declared.rule.TypeRule.TheVariants as T

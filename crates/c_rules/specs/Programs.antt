@@ -1,6 +1,6 @@
 -- The rules of programs (C17 6.9), and what a program violates.
 use Rattle.std.specs.Prelude.{ℕ, Bool, true, false, not, ◌&&◌, ◌||◌, if◌then◌else◌, List, [], ◌∷◌, ◌++◌, Option, Some, None, bytes_eq, codes}
-use Rattle.text_place.specs.declared.place.Pos.{Pos}
+use Rattle.run_theory.specs.declared.place.Pos.{Pos}
 use Rattle.c_syntax.specs.Trees
 use Rattle.c_syntax.specs.Trees.{NameTree, WordsTree, SimpleTree, ExprTree, ArgumentsTree, TypeTree, OptionalTree, DeclaratorTree, DirectTree, SuffixesTree, LengthTree, ParametersTree, InitTree, InitsTree, InitDeclaratorTree, MemberTree, BaseTree, ItemTree, BlockTree, ProgramTree}
 use Rattle.c_rules.specs.declared.rule.TypeRule.TheVariants as T

@@ -4,7 +4,7 @@ ghost use Rattle.std.specs.Prelude.{◌≡◌};
 ghost use Rattle.c_rules.specs.Known.{is_before, rule_number};
 
 use crate::rule::TypeRule;
-use text_place::Pos;
+use run_theory::Pos;
 
 /// A type rule, and where it is violated.
 #[derive(Clone, Copy, Debug, PartialEq, Eq)]

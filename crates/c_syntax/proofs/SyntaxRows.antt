@@ -1,6 +1,6 @@
 -- A vector inside of a recursive type shows as a row. The tree of a row is that of its items.
 use Rattle.std.proofs.Common.{◌≡◌, List, ◌∷◌, Box, Vec, Global, Option, Some, None, refl, ap, ◌∙◌}
-use Rattle.text_place.specs.declared.place.Pos.{Pos}
+use Rattle.run_theory.specs.declared.place.Pos.{Pos}
 use Rattle.c_syntax.specs.declared.expr.Direct.TheBlock.{hidden-the_row-Suffix-0, items_hidden-the_row-Suffix-0, hidden-the_row-Expr-1, items_hidden-the_row-Expr-1, hidden-the_row-Parameter-2, items_hidden-the_row-Parameter-2, items-the_row-Expr, items-the_row-Suffix, items-the_row-Parameter}
 use Rattle.c_syntax.specs.declared.declaration.Init.TheBlock.{hidden-the_row-Init-0, items_hidden-the_row-Init-0, items-the_row-Init}
 use Rattle.c_syntax.specs.declared.statement.BlockItem.TheBlock.{hidden-the_row-BlockItem-0, items_hidden-the_row-BlockItem-0, hidden-the_row-SwitchItem-1, items_hidden-the_row-SwitchItem-1, items-the_row-BlockItem, items-the_row-SwitchItem}

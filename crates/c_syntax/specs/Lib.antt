@@ -1,2 +1,4 @@
+pub mod SyntaxDepths
+pub mod SyntaxNodes
 pub mod Trees
 pub mod Views

@@ -1,6 +1,6 @@
 -- The syntax trees of the language as plain data. A place is that of a tree's first token, where that is one of its own.
 use Rattle.std.specs.Prelude.{ℕ, List, Option}
-use Rattle.text_place.specs.declared.place.Pos.{Pos}
+use Rattle.run_theory.specs.declared.place.Pos.{Pos}
 use Rattle.c_num.specs.declared.IntType.{IntType}
 use Rattle.c_syntax.specs.declared.operator.PrefixOperator.{PrefixOperator}
 use Rattle.c_syntax.specs.declared.operator.BinaryOperator.{BinaryOperator}

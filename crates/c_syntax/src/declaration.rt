@@ -3,7 +3,7 @@
 use crate::expr::{Declarator, Expr, Simple};
 use crate::name::Name;
 use crate::statement::Block;
-use text_place::Pos;
+use run_theory::Pos;
 
 /// An initializer (C17 6.7.9).
 #[derive(Drop)]

@@ -2,9 +2,8 @@
 
 use crate::name::Name;
 use crate::operator::{AssignOperator, BinaryOperator, PrefixOperator};
-use byte_string::ByteString;
 use c_num::IntType;
-use text_place::Pos;
+use run_theory::{ByteString, Pos};
 
 /// An expression (C17 6.5). Where its first token is one of its own, it holds the place of that token.
 #[cycle(expr)]

@@ -12,10 +12,9 @@ mod name;
 mod operator;
 mod statement;
 
-pub use byte_string::ByteString;
 pub use declaration::{Base, Declaration, Init, InitDeclarator, Item, Member, Program};
 pub use expr::{Declarator, Direct, Expr, Parameter, Simple, SimpleKind, Suffix, TypeName};
 pub use name::Name;
 pub use operator::{AssignOperator, BinaryOperator, PrefixOperator};
+pub use run_theory::{ByteString, Pos};
 pub use statement::{Block, BlockItem, ForFirst, Stmt, SwitchItem};
-pub use text_place::Pos;

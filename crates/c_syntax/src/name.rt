@@ -1,7 +1,6 @@
 // Names.
 
-use byte_string::ByteString;
-use text_place::Pos;
+use run_theory::{ByteString, Pos};
 
 /// A name (C17 6.4.2.1) and its place.
 #[derive(Debug, Drop)]

@@ -2,7 +2,7 @@
 
 use crate::declaration::Declaration;
 use crate::expr::Expr;
-use text_place::Pos;
+use run_theory::Pos;
 
 /// A block (C17 6.8.2), and the place of its brace.
 #[cycle(stmt)]

@@ -1,9 +1,17 @@
+pub mod Filled
+pub mod Grown
+pub mod Kept
+pub mod Rows
+pub mod Same
+pub mod Splitting
+pub mod StatementItems
+pub mod StatementsStay
+pub mod Storable
+pub mod TypedStays
 mod Apart
 mod Building
 mod Completing
-pub mod Grown
 mod Growth
-pub mod Kept
 mod Keys
 mod Lists
 mod Meanings
@@ -11,11 +19,7 @@ mod Members
 mod Numbered
 mod Offsets
 mod Reading
-pub mod Same
 mod Sizes
 mod Steps
 mod Structures
 mod Tags
-pub mod TypedStays
-pub mod StatementsStay
-pub mod StatementItems

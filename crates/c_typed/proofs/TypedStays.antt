@@ -1,6 +1,6 @@
 -- What a typed tree stands for stays where each type stays, and so while a table grows. A vector in a tree shows as a row, which stands for what its items do.
 use Rattle.std.proofs.Common.{◌≡◌, ℕ, Bool, List, [], ◌∷◌, Box, Vec, Global, refl, sym, ap, subst, ◌∙◌}
-use Rattle.text_place.specs.declared.place.Pos.{Pos}
+use Rattle.run_theory.specs.declared.place.Pos.{Pos}
 use Rattle.c_typed.specs.declared.c_type.CType as number
 use Rattle.c_typed.specs.declared.typed.LibraryFunction.{LibraryFunction}
 use Rattle.c_typed.specs.declared.typed.Designator.TheBlock.{hidden-the_row-Value-0, items_hidden-the_row-Value-0, items-the_row-Value}

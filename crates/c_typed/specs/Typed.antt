@@ -1,7 +1,7 @@
 -- The typed tree of a program: names are resolved, and conversions, reads of objects and uses of calls are nodes of their
 -- own. Each node but those marked free stands for one of the text.
 use Rattle.std.specs.Prelude.{ℕ, Bool, List, Option, ℤ}
-use Rattle.text_place.specs.declared.place.Pos.{Pos}
+use Rattle.run_theory.specs.declared.place.Pos.{Pos}
 use Rattle.c_num.specs.declared.IntType.{IntType}
 use Rattle.c_num.specs.declared.BinOp.{BinOp}
 use Rattle.c_num.specs.declared.Relation.{Relation}

@@ -1,7 +1,7 @@
 -- First values of objects that live as long as the program (C17 6.2.4 paragraph 3, 6.6 paragraphs 7 to 9, 6.7.9).
 use Rattle.std.specs.Prelude.{ℕ, Bool, not, List, ℤ, pos}
 use Rattle.std.specs.Ordering.{int_eq}
-use Rattle.text_place.specs.declared.place.Pos.{Pos}
+use Rattle.run_theory.specs.declared.place.Pos.{Pos}
 use Rattle.c_typed.specs.declared.part.Part.{Part}
 
 -- an object that lives as long as the program: a variable outside functions, or a literal, by its place

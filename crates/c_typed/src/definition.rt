@@ -4,9 +4,8 @@ use crate::c_type::CType;
 use crate::part::Part;
 use crate::statement::BlockItem;
 use crate::type_table::TypeTable;
-use byte_string::ByteString;
 use c_num::IntType;
-use text_place::Pos;
+use run_theory::{ByteString, Pos};
 
 /// An object that lives as long as the program (C17 6.2.4 paragraph 3).
 #[derive(Drop)]

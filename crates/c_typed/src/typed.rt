@@ -1,9 +1,8 @@
 // Typed trees of expressions.
 
 use crate::c_type::CType;
-use byte_string::ByteString;
 use c_num::{BinOp, IntType, Relation};
-use text_place::Pos;
+use run_theory::{ByteString, Pos};
 
 /// The library functions (C17 7.21.7, 7.22.3, 7.22.4.4).
 #[derive(Clone, Copy, Debug, PartialEq, Eq)]

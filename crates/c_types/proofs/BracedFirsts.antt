@@ -2,7 +2,7 @@
 use Rattle.std.proofs.Common.{◌≡◌, ℕ, ◌+◌, ◌-◌, false, if◌then◌else◌, List, [], ◌∷◌, ◌++◌, length, take, Option, Some, None, option_map, is_some, Vec, Global, Bor, refl, sym, ap, ◌∙◌, arith, length-append, take_at}
 use Rattle.std.proofs.lemmas.Bool.{false≢true}
 use Rattle.std.proofs.lemmas.Option.{none-some, same_Some}
-use Rattle.text_place.specs.declared.place.Pos.{Pos}
+use Rattle.run_theory.specs.declared.place.Pos.{Pos}
 use Rattle.c_syntax.specs.declared.declaration.Init.{Init}
 use Rattle.c_syntax.specs.declared.declaration.Init.TheVariants as I
 use Rattle.c_syntax.specs.Trees as Trees
@@ -25,7 +25,7 @@ use Rattle.c_types_state.specs.Finding.{each_in}
 use Rattle.c_rules.specs.Initializers as rules
 use Rattle.c_rules.specs.Elaborated as elaborated
 use Rattle.c_types.specs.declared.initializers.Target.{Target}
-use Rattle.c_types.specs.NamedItems.{named_in_init, named_in_inits}
+use Rattle.c_rules.specs.NamedItems.{named_in_init, named_in_inits}
 use Rattle.c_types.specs.FirstValues.{HoldsFirst}
 
 -- a literal alone is no text where it is none, or the elements are no characters

@@ -1,6 +1,6 @@
 -- A pass over a structure with its members, which completes it.
 use Rattle.std.proofs.Common.{◌≡◌, ℕ, Bool, true, false, not, if◌then◌else◌, List, [], ◌∷◌, ◌++◌, map, Option, Some, None, refl, sym, ap, subst, ◌∙◌}
-use Rattle.text_place.specs.declared.place.Pos.{Pos}
+use Rattle.run_theory.specs.declared.place.Pos.{Pos}
 use Rattle.c_syntax.specs.Trees.{NameTree, MemberTree}
 use Rattle.c_typed.specs.declared.c_type.CType as number
 use Rattle.c_typed.specs.declared.c_type.StructId as tag
@@ -19,10 +19,10 @@ use Rattle.c_types_state.specs.Finding.{Finds, IsType, noted}
 use Rattle.c_rules.specs.Programs.{all_members, is_completed_before, with_struct}
 use Rattle.c_types_expressions.specs.declared.pass.Pass.{Pass}
 use Rattle.c_types_expressions.specs.declared.pass.NamedType as memory_named
-use Rattle.c_types_expressions.specs.Named.{NamedType, named_at}
+use Rattle.c_rules.specs.Named.{NamedType, named_at}
 use Rattle.c_types_expressions.specs.Passes.{named_type, AllNamedStand, Names}
 use Rattle.c_types_expressions.proofs.Passing.{with_checker}
-use Rattle.c_types.specs.NamedItems.{named_in_all_members}
+use Rattle.c_rules.specs.NamedItems.{named_in_all_members}
 use Rattle.c_types.specs.Made.{Covers, Reaches}
 use Rattle.c_types.proofs.Covering.{covers-then, covers-finds, covers-noted, covers-same, covers-named}
 use Rattle.c_types.proofs.Reaching.{reaches-covers, reaches-then-covers, reaches-same}

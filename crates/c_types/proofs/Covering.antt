@@ -10,7 +10,7 @@ use Rattle.c_types_state.specs.NameTables.{State, scope_of, ScopeGrows}
 use Rattle.c_types_state.specs.Finding.{Finds, noted, lesser}
 use Rattle.c_types_state.specs.Staying.{Stays}
 use Rattle.c_types_expressions.specs.declared.pass.Pass.{Pass}
-use Rattle.c_types_expressions.specs.Named.{NamedType}
+use Rattle.c_rules.specs.Named.{NamedType}
 use Rattle.c_types_expressions.specs.Passes.{Names, Passes}
 use Rattle.c_types_expressions.proofs.Naming.{names-none, names-grow, names-then}
 use Rattle.c_types.specs.Made.{Covers, Makes, IsBoth}

@@ -1,7 +1,7 @@
 -- Declarations in blocks: one declarator, and those of a declaration one after another.
 use Rattle.std.proofs.Common.{◌≡◌, [], ◌++◌, Option, Some, None, refl, sym, ap, subst, ◌∙◌}
 use Rattle.std.proofs.Common.{append-nil, unwrap_or}
-use Rattle.text_place.specs.declared.place.Pos.{Pos}
+use Rattle.run_theory.specs.declared.place.Pos.{Pos}
 use Rattle.c_syntax.specs.Trees.{NameTree, DeclaratorTree, InitTree}
 use Rattle.c_typed.specs.declared.c_type.CType as number
 use Rattle.c_typed.specs.declared.typed.Value as memory_value
@@ -20,11 +20,11 @@ use Rattle.c_types_state.specs.NameTables.{State, scope_of}
 use Rattle.c_types_state.specs.Finding.{Finds, AllStand, IsType, IsOption, each_in}
 use Rattle.c_types_state.proofs.Findings.{seen-known}
 use Rattle.c_types_expressions.specs.declared.pass.Pass.{Pass}
-use Rattle.c_types_expressions.specs.Named.{named_at, named_in_declarator}
+use Rattle.c_rules.specs.Named.{named_at, named_in_declarator}
 use Rattle.c_types_expressions.specs.Passes.{Names, Passes}
 use Rattle.c_types_expressions.specs.Derived.{element_rule, IsElement}
 use Rattle.c_types_expressions.proofs.Passing.{passes-one, with_checker}
-use Rattle.c_types.specs.NamedItems.{named_in_first}
+use Rattle.c_rules.specs.NamedItems.{named_in_first}
 use Rattle.c_types.specs.Made.{Covers, Makes, IsOptionalValue, IsLocal}
 use Rattle.c_types.proofs.Covering.{covers-then, covers-same, covers-passes, covers-named, makes-same, makes-behind, makes-of}
 

@@ -3,7 +3,7 @@ use Rattle.std.proofs.Common.{◌≡◌, ℕ, ◌+◌, ◌<◌, ◌≤◌, lengt
 use Rattle.std.specs.Prelude.{bytes_eq}
 use Rattle.std.proofs.lemmas.List.{drop_more}
 use Rattle.std.proofs.Math.ListN.{drop_of_length-le}
-use Rattle.text_place.specs.declared.place.Pos.{Pos}
+use Rattle.run_theory.specs.declared.place.Pos.{Pos}
 use Rattle.c_syntax.specs.Trees.{NameTree, DeclaratorTree, MemberTree}
 use Rattle.c_typed.specs.declared.c_type.CType as number
 use Rattle.c_typed.specs.declared.structure.Member as memory_member
@@ -24,13 +24,13 @@ use Rattle.c_rules.specs.Programs.{has_member, member_clash, with_member, declar
 use Rattle.c_types_state.proofs.Findings.{finds-then, finds-known}
 use Rattle.c_types_expressions.specs.declared.pass.Pass.{Pass}
 use Rattle.c_types_expressions.specs.Derived.{element_rule, IsElement}
-use Rattle.c_types_expressions.specs.Named.{named_at, named_in_declarator}
+use Rattle.c_rules.specs.Named.{named_at, named_in_declarator}
 use Rattle.c_types_expressions.specs.Passes.{Names, Passes}
 use Rattle.c_types_expressions.proofs.Giving.{stands-now}
 use Rattle.c_types_expressions.proofs.Naming.{names-grow, names-then}
 use Rattle.c_types_expressions.proofs.Passing.{with_checker}
 use Rattle.c_types.specs.declared.structures.Members.{Members}
-use Rattle.c_types.specs.NamedItems.{named_in_members, named_in_all_members}
+use Rattle.c_rules.specs.NamedItems.{named_in_members, named_in_all_members}
 use Rattle.c_types.specs.Made.{Covers}
 use Rattle.c_types.specs.Outside.{defs_in, AreHeld}
 use Rattle.c_types.proofs.Covering.{covers-none, covers-two, covers-same, covers-noted, covers-finds}

@@ -2,7 +2,7 @@
 use Rattle.std.proofs.Common.{◌≡◌, ℕ, ◌+◌, Bool, true, if◌then◌else◌, List, [], ◌∷◌, ◌++◌, Result, Ok, Err, OnOk, drop, ◌<◌, length, get_or, refl, sym, ap, subst, ◌∙◌}
 use Rattle.std.proofs.Common.{append-nil, append_assoc}
 use Rattle.std.proofs.lemmas.List.{drop_more}
-use Rattle.text_place.specs.declared.place.Pos.{Pos}
+use Rattle.run_theory.specs.declared.place.Pos.{Pos}
 use Rattle.c_typed.specs.Table.{Interned}
 use Rattle.c_typed.specs.Types.{CType}
 use Rattle.c_typed.specs.Values.{Held}
@@ -18,7 +18,7 @@ use Rattle.c_rules.specs.Initializers.{known_first}
 use Rattle.c_types_state.specs.NameTables.{State, scope_of}
 use Rattle.c_types_state.specs.Finding.{noted, lesser}
 use Rattle.c_types_expressions.specs.declared.pass.Pass.{Pass}
-use Rattle.c_types_expressions.specs.Named.{NamedType}
+use Rattle.c_rules.specs.Named.{NamedType}
 use Rattle.c_types.specs.declared.initializers.Target.{Target}
 use Rattle.c_types.specs.FirstValues.{HoldsFirst, scalar_found}
 use Rattle.c_types.specs.Made.{Covers}

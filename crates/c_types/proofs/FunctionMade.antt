@@ -1,7 +1,7 @@
 -- What is made of a function with its body.
 use Rattle.std.proofs.Common.{◌≡◌, ℕ, ◌≤◌, arith, length, true, false, List, [], ◌∷◌, ◌++◌, map, Option, Some, None, Vec, Global, unwrap_or, refl, sym, ap, subst, ◌∙◌}
 use Rattle.std.proofs.Common.{append-nil, append_assoc}
-use Rattle.text_place.specs.declared.place.Pos.{Pos}
+use Rattle.run_theory.specs.declared.place.Pos.{Pos}
 use Rattle.c_syntax.specs.Trees.{NameTree, DeclaratorTree, BlockTree}
 use Rattle.c_typed.specs.declared.c_type.CType as number
 use Rattle.c_typed.specs.declared.statement.BlockItem as memory_item
@@ -24,10 +24,10 @@ use Rattle.c_types_state.specs.NameTables.{State, scope_of, ScopeGrows}
 use Rattle.c_types_state.specs.Finding.{Finds, AllStand, IsType, each_in}
 use Rattle.c_types_state.specs.Staying.{Stays}
 use Rattle.c_types_expressions.specs.declared.pass.Pass.{Pass}
-use Rattle.c_types_expressions.specs.Named.{NamedType, named_at, named_in_declarator}
+use Rattle.c_rules.specs.Named.{NamedType, named_at, named_in_declarator}
 use Rattle.c_types_expressions.specs.Passes.{Names, Passes}
 use Rattle.c_types.specs.declared.defined.Defined.{Defined}
-use Rattle.c_types.specs.NamedItems.{named_in_block, named_in_function}
+use Rattle.c_rules.specs.NamedItems.{named_in_block, named_in_function}
 use Rattle.c_types.specs.Made.{Covers, Makes, IsBlock}
 use Rattle.c_types.specs.Parts.{around_in, behind_block}
 use Rattle.c_types.specs.Outside.{IsOutside, HasDefined, body_rule}

@@ -1,6 +1,6 @@
 -- The scope of a function with its body.
 use Rattle.std.proofs.Common.{◌≡◌, ℕ, length, Bool, true, false, if◌then◌else◌, List, [], ◌∷◌, ◌++◌, Option, Some, None, refl, sym, ◌∙◌}
-use Rattle.text_place.specs.declared.place.Pos.{Pos}
+use Rattle.run_theory.specs.declared.place.Pos.{Pos}
 use Rattle.c_syntax.specs.Trees
 use Rattle.c_syntax.specs.Trees.{NameTree, WordsTree, OptionalTree, ParametersTree, InitDeclaratorTree, BlockTree}
 use Rattle.c_typed.specs.Types.{CType}

@@ -14,7 +14,7 @@ use Rattle.c_rules.specs.Elaborated as elaborated
 use Rattle.c_types_state.specs.NameTables.{scope_of}
 use Rattle.c_types_expressions.specs.declared.pass.Pass.{Pass}
 use Rattle.c_types.specs.declared.initializers.Target.{Target}
-use Rattle.c_types.specs.NamedItems.{named_in_init, named_in_inits}
+use Rattle.c_rules.specs.NamedItems.{named_in_init, named_in_inits}
 use Rattle.c_types.specs.FirstValues.{HoldsFirst, too_many}
 use Rattle.c_types.specs.Made.{Covers}
 use Rattle.c_types.proofs.Firsts.{Passed, passed-none, passed-more, passed-last, passed-all, holds-none}

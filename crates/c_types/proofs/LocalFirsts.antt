@@ -2,7 +2,7 @@
 use Rattle.std.proofs.Common.{◌≡◌, Bool, true, false, not, ◌||◌, if◌then◌else◌, List, [], ◌++◌, Option, Some, None, Vec, Global, refl, sym, ap, subst, ◌∙◌}
 use Rattle.std.proofs.Common.{append-nil}
 use Rattle.std.proofs.lemmas.Bool.{false≢true}
-use Rattle.text_place.specs.declared.place.Pos.{Pos}
+use Rattle.run_theory.specs.declared.place.Pos.{Pos}
 use Rattle.c_syntax.specs.Trees as Trees
 use Rattle.c_syntax.specs.Trees.{ExprTree}
 use Rattle.c_syntax.specs.declared.declaration.Init.{Init}
@@ -26,12 +26,12 @@ use Rattle.c_types_state.specs.NameTables.{State, scope_of}
 use Rattle.c_types_state.specs.Finding.{noted, lesser, each_in}
 use Rattle.c_types_state.specs.Staying.{IsValue}
 use Rattle.c_types_state.proofs.Findings.{seen-known}
-use Rattle.c_types_operands.specs.declared.operands.Operand as memory_operand
-use Rattle.c_types_operands.specs.Operands.{IsOperand, OperandStands, operand_in}
+use Rattle.c_types_state.specs.declared.operands.Operand as memory_operand
+use Rattle.c_types_state.specs.Operands.{IsOperand, OperandStands, operand_in}
 use Rattle.c_types_expressions.specs.declared.pass.Pass.{Pass}
-use Rattle.c_types_expressions.specs.Named.{named_in}
+use Rattle.c_rules.specs.Named.{named_in}
 use Rattle.c_types_expressions.specs.Passes.{Passes}
-use Rattle.c_types.specs.NamedItems.{named_in_init, named_in_inits}
+use Rattle.c_rules.specs.NamedItems.{named_in_init, named_in_inits}
 use Rattle.c_types.specs.Made.{Covers, Makes, IsOptionalValue}
 use Rattle.c_types.proofs.Covering.{covers-same, covers-then, covers-passes, covers-noted}
 use Rattle.c_types.proofs.Firsts.{covers-behind}

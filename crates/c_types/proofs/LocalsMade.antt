@@ -1,7 +1,7 @@
 -- The locals of a declaration, one after another.
 use Rattle.std.proofs.Common.{◌≡◌, List, [], ◌∷◌, ◌++◌, map, Option, Vec, refl, sym, ap, subst, ◌∙◌}
 use Rattle.std.proofs.Common.{append-nil, append_assoc}
-use Rattle.text_place.specs.declared.place.Pos.{Pos}
+use Rattle.run_theory.specs.declared.place.Pos.{Pos}
 use Rattle.c_syntax.specs.Trees.{InitDeclaratorTree}
 use Rattle.c_typed.specs.declared.c_type.CType as number
 use Rattle.c_typed.specs.declared.statement.LocalDef as memory_local
@@ -23,7 +23,7 @@ use Rattle.c_types_state.proofs.Findings.{seen-known}
 use Rattle.c_types_expressions.specs.declared.pass.Pass.{Pass}
 use Rattle.c_types_expressions.proofs.Giving.{stands-now}
 use Rattle.c_types_expressions.proofs.Passing.{with_checker}
-use Rattle.c_types.specs.NamedItems.{named_in_local, named_in_locals}
+use Rattle.c_rules.specs.NamedItems.{named_in_local, named_in_locals}
 use Rattle.c_types.specs.Made.{Makes, IsLocal, IsLocals, AddsItems}
 use Rattle.c_types.proofs.Covering.{covers-then, covers-same, covers-finds}
 use Rattle.c_types.proofs.DeclaredLocals.{all-stay}

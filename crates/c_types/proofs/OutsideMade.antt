@@ -1,7 +1,7 @@
 -- What is made of a declarator outside functions.
 use Rattle.std.proofs.Common.{◌≡◌, Bool, false, List, [], ◌∷◌, ◌++◌, Option, Some, None, Vec, Global, refl, sym, ap, subst, ◌∙◌}
 use Rattle.std.proofs.Common.{append-nil, option_map, is_some}
-use Rattle.text_place.specs.declared.place.Pos.{Pos}
+use Rattle.run_theory.specs.declared.place.Pos.{Pos}
 use Rattle.c_syntax.specs.declared.declaration.Init as memory_init
 use Rattle.c_syntax.specs.Views.{init_tree}
 use Rattle.c_syntax.specs.Trees.{NameTree, InitTree, InitDeclaratorTree}
@@ -25,13 +25,13 @@ use Rattle.c_types_state.specs.NameTables.{State, scope_of}
 use Rattle.c_types_state.specs.Finding.{Finds, AllStand, IsType, each_in, noted}
 use Rattle.c_types_state.proofs.Findings.{seen-known, finds-also, finds-give}
 use Rattle.c_types_expressions.specs.declared.pass.Pass.{Pass}
-use Rattle.c_types_expressions.specs.Named.{NamedType, named_at, named_in_declarator}
+use Rattle.c_rules.specs.Named.{NamedType, named_at, named_in_declarator}
 use Rattle.c_types_expressions.specs.Passes.{Names, Passes}
 use Rattle.c_types_expressions.proofs.Giving.{stands-now}
 use Rattle.c_types_expressions.proofs.Passing.{passes-one, with_checker}
 use Rattle.c_types.specs.declared.defined.Defined.{Defined}
 use Rattle.c_types.specs.declared.initializers.Target.{Target}
-use Rattle.c_types.specs.NamedItems.{named_in_init, named_in_first, named_in_file_declarator, named_in_file_declarators}
+use Rattle.c_rules.specs.NamedItems.{named_in_init, named_in_first, named_in_file_declarator, named_in_file_declarators}
 use Rattle.c_types.specs.Made.{Covers, Makes, IsFirst}
 use Rattle.c_types.specs.FirstValues.{HoldsFirst}
 use Rattle.c_types.specs.InitialValues.{AddsValues, optional_values, declarator_values, declarators_values}

@@ -2,7 +2,7 @@
 use Rattle.std.proofs.Common.{◌≡◌, ℕ, zero, suc, arith, ◌<◌, length, take, get_or, true, false, if◌then◌else◌, List, [], ◌∷◌, ◌++◌, Option, Some, None, refl, sym, ap, subst, ◌∙◌}
 use Rattle.std.proofs.Common.{append-nil, append_assoc}
 use Rattle.std.proofs.lemmas.List.{take_at}
-use Rattle.text_place.specs.declared.place.Pos.{Pos}
+use Rattle.run_theory.specs.declared.place.Pos.{Pos}
 use Rattle.c_syntax.specs.Trees
 use Rattle.c_syntax.specs.Trees.{NameTree, WordsTree, OptionalTree, ParametersTree}
 use Rattle.c_typed.specs.declared.c_type.CType as number
@@ -18,7 +18,7 @@ use Rattle.c_types_state.specs.Finding.{Finds, IsType, IsOption, each_in, lesser
 use Rattle.c_rules.specs.Programs.{Filed, enter_parameters, entered_function, parameter_local, unnamed}
 use Rattle.c_types_state.proofs.Findings.{finds-then, stays-type}
 use Rattle.c_types_expressions.specs.declared.pass.Pass.{Pass}
-use Rattle.c_types_expressions.specs.Named.{named_in_optional}
+use Rattle.c_rules.specs.Named.{named_in_optional}
 use Rattle.c_types_expressions.specs.Passes.{Names, Passes}
 use Rattle.c_types_expressions.proofs.Naming.{names-none}
 use Rattle.c_types_expressions.proofs.Passing.{with_checker}

@@ -2,7 +2,7 @@
 use Rattle.std.proofs.Common.{◌≡◌, ℕ, Bool, true, false, true≢false, List, [], ◌∷◌, ◌++◌, map, Option, Some, None, refl, sym, ap, subst, ◌∙◌}
 use Rattle.std.proofs.Common.{append-nil, append_assoc}
 use Rattle.std.specs.Prelude.{if◌then◌else◌, codes, Result, Ok, Err, IsErrAnd}
-use Rattle.text_place.specs.declared.place.Pos.{Pos}
+use Rattle.run_theory.specs.declared.place.Pos.{Pos}
 use Rattle.c_syntax.specs.Trees
 use Rattle.c_syntax.specs.Trees.{NameTree, DeclaratorTree, InitDeclaratorTree, BaseTree, BlockTree, ItemTree, ProgramTree}
 use Rattle.c_typed.specs.declared.definition.Program as memory_program
@@ -28,13 +28,13 @@ use Rattle.c_types_state.proofs.Noted.{noted-least}
 use Rattle.c_types_state.specs.Lists.{with_outline}
 use Rattle.c_types_expressions.specs.declared.pass.NamedType as memory_named
 use Rattle.c_types_expressions.specs.declared.pass.Pass.{Pass}
-use Rattle.c_types_expressions.specs.Named.{NamedType}
+use Rattle.c_rules.specs.Named.{NamedType}
 use Rattle.c_types_expressions.specs.Passes.{named_type, AllNamedStand, Names}
 use Rattle.c_types_expressions.proofs.Naming.{names-none, names-grow, names-then}
 use Rattle.c_types.specs.declared.defined.Defined.{Defined}
 use Rattle.c_types.specs.declared.program.TypeErr.{TypeErr}
 use Rattle.c_types.specs.declared.program.TypeErr.TheVariants as E
-use Rattle.c_types.specs.NamedItems.{named_in_item, named_in_items, named_types}
+use Rattle.c_rules.specs.NamedItems.{named_in_item, named_in_items, named_types}
 use Rattle.c_types.specs.InitialValues.{AddsValues, item_values, items_values, first_values}
 use Rattle.c_types.specs.Made.{Reaches, without_structs}
 use Rattle.c_types.specs.Outside.{IsOutside, HasDefined, item_globals, item_functions}

@@ -1,6 +1,6 @@
 -- A pass over an item: its base, and what stands behind that.
 use Rattle.std.proofs.Common.{◌≡◌, List, ◌++◌, Option, None, sym, subst, append-nil}
-use Rattle.text_place.specs.declared.place.Pos.{Pos}
+use Rattle.run_theory.specs.declared.place.Pos.{Pos}
 use Rattle.c_syntax.specs.Trees
 use Rattle.c_syntax.specs.Trees.{NameTree, BaseTree, DeclaratorTree, InitDeclaratorTree, BlockTree, ItemTree}
 use Rattle.c_typed.specs.declared.c_type.CType as number
@@ -17,7 +17,7 @@ use Rattle.c_rules.specs.Elaborated.{declared_globals, defined_function, each_gl
 use Rattle.c_types_expressions.specs.declared.pass.Pass.{Pass}
 use Rattle.c_types.specs.declared.defined.Defined.{Defined}
 use Rattle.c_types.specs.Made.{Covers, Reaches}
-use Rattle.c_types.specs.NamedItems.{named_in_base, named_in_file_declarators, named_in_function, named_in_item}
+use Rattle.c_rules.specs.NamedItems.{named_in_base, named_in_file_declarators, named_in_function, named_in_item}
 use Rattle.c_types.specs.Outside.{HasDefined, item_globals, item_functions}
 use Rattle.c_types.specs.InitialValues.{AddsValues, declarators_values, item_values}
 use Rattle.c_types.proofs.KeptValues.{adds-same}

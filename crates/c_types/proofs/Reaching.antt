@@ -14,7 +14,7 @@ use Rattle.c_types_state.specs.NameTables.{scope_of}
 use Rattle.c_types_state.specs.Finding.{AllStand, each_in, noted}
 use Rattle.c_rules.specs.Programs.{base_type, is_completed_before, all_members}
 use Rattle.c_types_expressions.specs.declared.pass.Pass.{Pass}
-use Rattle.c_types_expressions.specs.Named.{NamedType}
+use Rattle.c_rules.specs.Named.{NamedType}
 use Rattle.c_types_expressions.specs.Passes.{Names}
 use Rattle.c_types_expressions.proofs.Naming.{names-grow, names-then}
 use Rattle.c_types.specs.declared.defined.Defined.{Defined}

@@ -1,7 +1,7 @@
 -- Values of `return` and of `switch`.
 use Rattle.std.proofs.Common.{◌≡◌, Bool, true, false, not, ◌||◌, if◌then◌else◌, List, [], ◌++◌, Option, Some, None, refl, sym, ap, subst, ◌∙◌}
 use Rattle.std.proofs.Common.{append-nil}
-use Rattle.text_place.specs.declared.place.Pos.{Pos}
+use Rattle.run_theory.specs.declared.place.Pos.{Pos}
 use Rattle.c_num.specs.declared.IntType.{IntType}
 use Rattle.c_syntax.specs.Trees.{ExprTree}
 use Rattle.c_typed.specs.declared.c_type.CType as number
@@ -25,10 +25,10 @@ use Rattle.c_types_state.specs.NameTables.{State, scope_of}
 use Rattle.c_types_state.specs.Finding.{AllStand, IsOption, each_in, noted, lesser}
 use Rattle.c_types_state.specs.Staying.{IsValue, IsSame}
 use Rattle.c_types_state.proofs.Findings.{seen-known}
-use Rattle.c_types_operands.specs.declared.operands.Operand as memory_operand
-use Rattle.c_types_operands.specs.Operands.{IsOperand, OperandStands, operand_in}
+use Rattle.c_types_state.specs.declared.operands.Operand as memory_operand
+use Rattle.c_types_state.specs.Operands.{IsOperand, OperandStands, operand_in}
 use Rattle.c_types_expressions.specs.declared.pass.Pass.{Pass}
-use Rattle.c_types_expressions.specs.Named.{named_in}
+use Rattle.c_rules.specs.Named.{named_in}
 use Rattle.c_types_expressions.specs.Passes.{Passes}
 use Rattle.c_types_expressions.proofs.Passing.{with_checker}
 use Rattle.c_types.specs.Made.{Makes, IsBoth}

@@ -1,7 +1,7 @@
 -- Statements and blocks that are made, part by part.
 use Rattle.std.proofs.Common.{◌≡◌, ℕ, ℤ, pos, unwrap_or, ◌+◌, ◌≤◌, Bool, true, false, not, ◌||◌, length, List, [], ◌∷◌, ◌++◌, Option, Some, None, Vec, Global, Box, refl, sym, ap, subst, ◌∙◌, arith, append_assoc, append-nil, length-append}
 use Rattle.std.specs.Ordering.{int_eq}
-use Rattle.text_place.specs.declared.place.Pos.{Pos}
+use Rattle.run_theory.specs.declared.place.Pos.{Pos}
 use Rattle.c_num.specs.declared.IntType.{IntType}
 use Rattle.c_syntax.specs.Trees
 use Rattle.c_syntax.specs.Trees.{ExprTree, InitDeclaratorTree, DeclarationTree, ForTree, StmtTree, BlockTree, SwitchTree, NameTree}
@@ -44,10 +44,10 @@ use Rattle.c_rules.specs.Elaborated as elaborated
 use Rattle.c_rules.specs.Elaborated.{stmt_of, start_of, test_of, unused, mapped, declare_each, declared_locals, label_or_zero}
 use Rattle.c_types_state.proofs.Findings.{stays-value}
 use Rattle.c_types_expressions.specs.declared.pass.Pass.{Pass}
-use Rattle.c_types_expressions.specs.Named.{NamedType, named_in}
+use Rattle.c_rules.specs.Named.{NamedType, named_in}
 use Rattle.c_types_expressions.specs.Passes.{Passes}
 use Rattle.c_types.specs.declared.statements.Around as memory_around
-use Rattle.c_types.specs.NamedItems.{named_in_stmt, named_in_block, named_in_switch, named_in_declaration, named_in_start, named_in_value}
+use Rattle.c_rules.specs.NamedItems.{named_in_stmt, named_in_block, named_in_switch, named_in_declaration, named_in_start, named_in_value}
 use Rattle.c_types.specs.Made.{Covers, Makes, IsBoth, IsOptionalValue, IsStmt, IsStart, IsLocals, IsBlock, IsSwitchItems, AddsItems}
 use Rattle.c_types.specs.Parts.{around_in, behind_block, item_found, item_named, item_adds, item_scope, part_found, part_named, part_labels, part_default, part_adds, label_of, switched_type, switched_value, IsPart, SameLabels}
 use Rattle.c_types.proofs.Covering.{covers-none, covers-same, covers-then, covers-leads, covers-passes, covers-noted, makes-same, makes-then, makes-behind, makes-of, makes-both}

@@ -1,6 +1,6 @@
 -- Expressions in statements: conditions, constants, and what stands for them.
 use Rattle.std.proofs.Common.{◌≡◌, Option, Some, None, ℤ, refl, sym, ap, subst}
-use Rattle.text_place.specs.declared.place.Pos.{Pos}
+use Rattle.run_theory.specs.declared.place.Pos.{Pos}
 use Rattle.c_syntax.specs.Trees.{ExprTree}
 use Rattle.c_typed.specs.declared.typed.Value as memory_value
 use Rattle.c_typed.specs.declared.typed.Value.TheVariants as V
@@ -16,10 +16,10 @@ use Rattle.c_types_state.specs.NameTables.{State, scope_of}
 use Rattle.c_types_state.specs.Finding.{Finds, ExprStands, IsExpr, IsCondition, IsOption, expr_in, each_in}
 use Rattle.c_types_state.specs.Staying.{IsValue, IsSame}
 use Rattle.c_types_state.proofs.Findings.{plain-some, plain-none}
-use Rattle.c_types_operands.specs.declared.operands.Operand as memory_operand
-use Rattle.c_types_operands.specs.Operands.{IsOperand}
+use Rattle.c_types_state.specs.declared.operands.Operand as memory_operand
+use Rattle.c_types_state.specs.Operands.{IsOperand}
 use Rattle.c_types_expressions.specs.declared.pass.Pass.{Pass}
-use Rattle.c_types_expressions.specs.Named.{named_in}
+use Rattle.c_rules.specs.Named.{named_in}
 use Rattle.c_types_expressions.specs.Passes.{Passes}
 use Rattle.c_types_expressions.proofs.Giving.{finds-then-given, finds-then-given-given}
 use Rattle.c_types_expressions.proofs.Naming.{passes-made}

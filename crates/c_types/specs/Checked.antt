@@ -1,6 +1,6 @@
 -- What checking each part of a text comes to, and what is made of it.
 use Rattle.std.specs.Prelude.{◌≡◌, Bool, false, if◌then◌else◌, ℕ, ℤ, List, [], ◌∷◌, ◌++◌, map, Option, Some, None, Vec}
-use Rattle.text_place.specs.declared.place.Pos.{Pos}
+use Rattle.run_theory.specs.declared.place.Pos.{Pos}
 use Rattle.c_num.specs.declared.IntType.{IntType}
 use Rattle.c_syntax.specs.declared.declaration.Member as text_member
 use Rattle.c_syntax.specs.declared.expr.Declarator as text_declarator
@@ -51,17 +51,17 @@ use Rattle.c_types_state.specs.NameTables.{State, scope_of}
 use Rattle.c_types_state.specs.declared.known.Address as memory_address
 use Rattle.c_types_state.specs.Finding.{each_in, address_in, noted}
 use Rattle.c_types_state.specs.Staying.{IsValue, IsSame}
-use Rattle.c_types_operands.specs.declared.operands.Operand as memory_operand
-use Rattle.c_types_operands.specs.Operands.{IsOperand, operand_in}
+use Rattle.c_types_state.specs.declared.operands.Operand as memory_operand
+use Rattle.c_types_state.specs.Operands.{IsOperand, operand_in}
 use Rattle.c_types_expressions.specs.declared.pass.Pass.{Pass}
-use Rattle.c_types_expressions.specs.Named.{named_in}
+use Rattle.c_rules.specs.Named.{named_in}
 use Rattle.c_types_expressions.specs.Passes.{Passes}
 use Rattle.c_types.specs.declared.initializers.Target.{Target}
 use Rattle.c_types.specs.declared.labels.Labels.{Labels}
 use Rattle.c_types.specs.declared.structures.Members.{Members}
 use Rattle.c_types.specs.declared.statements.Around as memory_around
 use Rattle.c_types.specs.declared.defined.Defined.{Defined}
-use Rattle.c_types.specs.NamedItems.{named_in_init, named_in_inits, named_in_first, named_in_value, named_in_local, named_in_declaration, named_in_start, named_in_stmt, named_in_block, named_in_switch, named_in_members, named_in_all_members, named_in_base, named_in_file_declarator, named_in_file_declarators, named_in_function, named_in_item}
+use Rattle.c_rules.specs.NamedItems.{named_in_init, named_in_inits, named_in_first, named_in_value, named_in_local, named_in_declaration, named_in_start, named_in_stmt, named_in_block, named_in_switch, named_in_members, named_in_all_members, named_in_base, named_in_file_declarator, named_in_file_declarators, named_in_function, named_in_item}
 use Rattle.c_types.specs.Made.{Covers, Makes, Reaches, IsBoth, IsOptionalType, IsOptionalValue, IsStmt, IsBlock, IsSwitchItems, IsStart, IsLocal, IsLocals, IsFirst, IsMembers, AddsItems}
 use Rattle.c_types.specs.Parts.{around_in, behind_block, item_found, item_named, item_adds, item_scope, part_found, part_named, part_adds, IsPart, switched_type, switched_value}
 use Rattle.c_types.specs.FirstValues.{HoldsFirst, scalar_found, too_many}

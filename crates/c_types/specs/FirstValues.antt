@@ -1,6 +1,6 @@
 -- First values of variables outside functions, one at a time.
 use Rattle.std.specs.Prelude.{◌≡◌, if◌then◌else◌, List, [], ◌++◌}
-use Rattle.text_place.specs.declared.place.Pos.{Pos}
+use Rattle.run_theory.specs.declared.place.Pos.{Pos}
 use Rattle.c_syntax.specs.Trees.{InitsTree, NoInits, Inits}
 use Rattle.c_typed.specs.Types.{CType}
 use Rattle.c_typed.specs.Values.{Held}

@@ -1,9 +1,10 @@
-pub mod Made
-pub mod NamedItems
-pub mod Parts
-pub mod FirstValues
-pub mod InitialValues
-pub mod Globals
-pub mod Outside
 pub mod Checked
+pub mod FirstValues
+pub mod Globals
+pub mod InitialValues
+pub mod Limits
 pub mod Literals
+pub mod Made
+pub mod Measures
+pub mod Outside
+pub mod Parts

@@ -21,7 +21,7 @@ use Rattle.c_rules.specs.Names.{Scope}
 use Rattle.c_types_state.specs.NameTables.{scope_of}
 use Rattle.c_types_state.specs.Finding.{noted, IsOption, IsType}
 use Rattle.c_types_expressions.specs.declared.pass.Pass.{Pass}
-use Rattle.c_types_expressions.specs.Named.{NamedType}
+use Rattle.c_rules.specs.Named.{NamedType}
 use Rattle.c_types_expressions.specs.Passes.{Names}
 
 -- The pass has gone over a part: what the part violates was noted and the types that it names were added. The table may have

@@ -1,6 +1,6 @@
 -- What stands outside functions, one thing at a time.
 use Rattle.std.specs.Prelude.{◌≡◌, ℕ, Bool, ◌||◌, ◌&&◌, List, [], ◌∷◌, map, Option, Some, None}
-use Rattle.text_place.specs.declared.place.Pos.{Pos}
+use Rattle.run_theory.specs.declared.place.Pos.{Pos}
 use Rattle.c_syntax.specs.Trees
 use Rattle.c_syntax.specs.Trees.{NameTree, WordsTree, OptionalTree, ParametersTree, ItemTree}
 use Rattle.c_typed.specs.declared.c_type.CType as number

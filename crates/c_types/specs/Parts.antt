@@ -21,9 +21,9 @@ use Rattle.c_rules.specs.Operators.{as_integer}
 use Rattle.c_rules.specs.Expressions.{expr, place_of, as_constant}
 use Rattle.c_rules.specs.Statements.{FunctionContext, stmt, declaration, label_type, converted_label, repeats, with_label, has_label}
 use Rattle.c_rules.specs.Elaborated.{value_of, switched, declared_locals, declare_each, stmt_of, label_or_zero}
-use Rattle.c_types_expressions.specs.Named.{NamedType, named_in}
+use Rattle.c_rules.specs.Named.{NamedType, named_in}
 use Rattle.c_types.specs.declared.statements.Around as memory_around
-use Rattle.c_types.specs.NamedItems.{named_in_declaration, named_in_stmt}
+use Rattle.c_rules.specs.NamedItems.{named_in_declaration, named_in_stmt}
 
 -- what surrounds a statement
 abbrev pub around_in : Interned → memory_around.Around → FunctionContext

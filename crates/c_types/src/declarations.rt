@@ -16,8 +16,8 @@ use c_syntax::{Declaration, InitDeclarator, Name};
 use c_typed::{BlockItem, CType, LocalDef};
 use c_types_expressions::{LengthRole, Pass, declared_name, declared_type, name_place, words_type};
 use c_types_state::{Checker, library_function};
+use run_theory::Pos;
 use std::alloc::AllocError;
-use text_place::Pos;
 
 /// Adds the locals of a declaration to what stands in its block.
 pub(crate) fn block_declaration(

@@ -18,10 +18,9 @@ use c_rules::TypeRule;
 use c_syntax::{ByteString, Expr, Init};
 use c_typed::{CType, First, Part, Shape, StructId, Value};
 use c_types_expressions::{LengthRole, Pass, is_character, place_of};
-use c_types_operands::fits;
-use c_types_state::Checker;
+use c_types_state::{Checker, fits};
+use run_theory::Pos;
 use std::alloc::{AllocError, Global};
-use text_place::Pos;
 
 /// The place of an initializer's first token.
 fn init_place(init: &Init) -> Pos

@@ -27,8 +27,8 @@ use c_typed as typed;
 use c_typed::{ByteString, CType, Shape, Value};
 use c_types_expressions::{LengthRole, Pass, declared_name, declared_type};
 use c_types_state::{Checker, FileEntry, library_function};
+use run_theory::Pos;
 use std::alloc::AllocError;
-use text_place::Pos;
 
 /// An item: what it violates, and what it defines.
 pub(crate) fn item(

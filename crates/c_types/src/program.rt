@@ -6,10 +6,10 @@ ghost use Rattle.c_typed.specs.Views.{value_in, ValuesStand};
 ghost use Rattle.c_typed.specs.DefinitionViews.{program_of, ProgramStands};
 ghost use Rattle.c_rules.specs.Programs as rules;
 ghost use Rattle.c_rules.specs.Elaborated as elaborated;
-ghost use Rattle.c_well_typed.specs.Programs.{IsWellTyped};
+ghost use Rattle.c_typed.specs.Programs.{IsWellTyped};
 ghost use Rattle.c_types.specs.Literals.{LiteralsApart};
 ghost use Rattle.c_types_expressions.specs.Passes.{named_type, AllNamedStand};
-ghost use Rattle.c_types.specs.NamedItems.{named_types};
+ghost use Rattle.c_rules.specs.NamedItems.{named_types};
 ghost use Rattle.c_types.specs.InitialValues.{first_values};
 
 use crate::defined::Defined;

@@ -11,7 +11,7 @@ ghost use Rattle.c_rules.specs.Initializers as rules;
 ghost use Rattle.c_rules.specs.Elaborated as elaborated;
 ghost use Rattle.c_types_state.specs.Finding.{noted, AddressStands};
 ghost use Rattle.c_types_state.specs.NameTables.{scope_of};
-ghost use Rattle.c_types_operands.specs.Operands.{OperandStands};
+ghost use Rattle.c_types_state.specs.Operands.{OperandStands};
 ghost use Rattle.c_types.specs.Made.{Covers};
 ghost use Rattle.c_types.specs.Checked.{CoversExpr, HoldsExpr, CoversRefused, HoldsText, CoversScalar, HoldsScalar, NotesPointer, first_pointer};
 ghost use Rattle.c_types.specs.Checked.{AddsExpr, AddsOperand};
@@ -23,10 +23,9 @@ use c_rules::{Constness, TypeRule};
 use c_syntax::{ByteString, Expr};
 use c_typed::{CType, First, Held, Part, Scalar, Shape, Value};
 use c_types_expressions::{Pass, is_character, place_of};
-use c_types_operands::{Operand, fits, retyped};
-use c_types_state::{Address, Checker};
+use c_types_state::{Address, Checker, Operand, fits, retyped};
+use run_theory::Pos;
 use std::alloc::{AllocError, Global};
-use text_place::Pos;
 
 /// An expression as the first value of a global, an element or a member of a type.
 pub(crate) fn value_first(

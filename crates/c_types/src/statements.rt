@@ -1,7 +1,7 @@
 // Statements and blocks (C17 6.8).
 
 ghost use Rattle.std.specs.Prelude.{◌≡◌, true, IfOk, OnOk};
-ghost use Rattle.text_place.specs.declared.place.Pos.{Pos};
+ghost use Rattle.run_theory.specs.declared.place.Pos.{Pos};
 ghost use Rattle.c_syntax.specs.Trees as Trees;
 ghost use Rattle.c_syntax.specs.Views.{stmt_tree, for_tree, block_of, switch_of};
 ghost use Rattle.c_typed.specs.Table.{Stands};

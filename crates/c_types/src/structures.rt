@@ -1,7 +1,7 @@
 // Structures (C17 6.7.2.1).
 
 ghost use Rattle.std.specs.Prelude.{◌≡◌, [], IfOk, OnOk, map};
-ghost use Rattle.text_place.specs.declared.place.Pos.{Pos};
+ghost use Rattle.run_theory.specs.declared.place.Pos.{Pos};
 ghost use Rattle.c_syntax.specs.Trees as Trees;
 ghost use Rattle.c_syntax.specs.Views.{name_tree, base_tree, member_tree};
 ghost use Rattle.c_typed.specs.Types as T;

@@ -6,7 +6,7 @@ ghost use Rattle.c_typed.specs.Table.{Interned, Stands};
 ghost use Rattle.c_typed.specs.Views.{value_in, ValueStands};
 ghost use Rattle.c_rules.specs.Elaborated as elaborated;
 ghost use Rattle.c_types_state.specs.Finding.{AllStand, each_in};
-ghost use Rattle.c_types_operands.specs.Operands.{OperandStands, operand_in};
+ghost use Rattle.c_types_state.specs.Operands.{OperandStands, operand_in};
 ghost use Rattle.c_types.specs.Checked.{ChecksValue, ChecksConstant, MakesUnused, MakesOptionalUnused, MakesTest, MakesOptionalTest, MakesSwitched};
 ghost use Rattle.c_types.specs.Checked.{MakesReturn, MakesReturned, IsValueAs, CoversValue, AddsExpr};
 
@@ -15,12 +15,11 @@ use c_rules::TypeRule;
 use c_syntax::Expr;
 use c_typed::{CType, Shape, Value};
 use c_types_expressions::{Pass, constant_value, expr, is_void, place_of};
-use c_types_operands::{
-    Operand, as_condition, as_integer, as_value, converted, fits, integer_as, leave_unused,
+use c_types_state::{
+    Checker, Operand, as_condition, as_integer, as_value, converted, fits, integer_as, leave_unused,
 };
-use c_types_state::Checker;
+use run_theory::Pos;
 use std::alloc::{AllocError, Global};
-use text_place::Pos;
 
 /// The value of an operand, or null where that isn't known.
 fn value_or_null(alloc: Global, operand: Option<Operand>) -> Result<Box<Value>, AllocError>

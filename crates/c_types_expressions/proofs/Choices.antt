@@ -1,6 +1,6 @@
 -- Passes over the three parts of a choice between two.
 use Rattle.std.proofs.Common.{◌++◌, Option, ◌∙◌}
-use Rattle.text_place.specs.declared.place.Pos.{Pos}
+use Rattle.run_theory.specs.declared.place.Pos.{Pos}
 use Rattle.c_syntax.specs.Trees.{ExprTree}
 use Rattle.c_typed.proofs.Grown.{grows_trans}
 use Rattle.c_types_state.specs.declared.known.Condition as memory_condition
@@ -11,11 +11,11 @@ use Rattle.c_rules.specs.Expressions.{expr}
 use Rattle.c_types_state.specs.NameTables.{State, scope_of}
 use Rattle.c_types_state.specs.Finding.{Finds, IsExpr, ExprStands, expr_in, IsCondition, condition_in, each_in}
 use Rattle.c_types_state.proofs.Findings.{finds-then, stays-condition}
-use Rattle.c_types_operands.specs.declared.operands.Operand as memory_operand
-use Rattle.c_types_operands.specs.Operands.{IsOperand, OperandStands, operand_in}
+use Rattle.c_types_state.specs.declared.operands.Operand as memory_operand
+use Rattle.c_types_state.specs.Operands.{IsOperand, OperandStands, operand_in}
 use Rattle.c_types_expressions.specs.declared.pass.Pass.{Pass}
 use Rattle.c_types_expressions.specs.Forms.{ConditionStands}
-use Rattle.c_types_expressions.specs.Named.{named_in}
+use Rattle.c_rules.specs.Named.{named_in}
 use Rattle.c_types_expressions.specs.Passes.{Passes}
 use Rattle.c_types_expressions.proofs.Giving.{finds-then-given-given, finds-then_three}
 use Rattle.c_types_expressions.proofs.Naming.{names-grow, names-two}

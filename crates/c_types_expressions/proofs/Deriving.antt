@@ -3,7 +3,7 @@ use Rattle.std.proofs.Common.{◌≡◌, ℕ, ℤ, zero, suc, ◌<◌, ◌≤◌
 use Rattle.std.proofs.Math.Seq.{drop-cons}
 use Rattle.std.proofs.lemmas.Bool.{false≢true, eqb-true, eqb-false}
 use Rattle.std.proofs.lemmas.List.{nil_from_length}
-use Rattle.text_place.specs.declared.place.Pos.{Pos}
+use Rattle.run_theory.specs.declared.place.Pos.{Pos}
 use Rattle.c_num.specs.declared.IntType.{IntType}
 use Rattle.c_num.specs.declared.IntType.TheVariants as I
 use Rattle.c_syntax.specs.declared.expr.Parameter.{Parameter, Parameter'}
@@ -40,8 +40,8 @@ use Rattle.c_rules.specs.Expressions.{integer_constant, is_void_alone, adds, dir
 use Rattle.c_types_state.specs.NameTables.{State}
 use Rattle.c_types_state.proofs.Findings.{finds-unknown}
 use Rattle.c_types_state.specs.Finding.{Finds, IsExpr, IsType, IsTypes, IsOption, ExprStands, expr_in, AllStand, each_in}
-use Rattle.c_types_operands.specs.declared.operands.Operand as memory_operand
-use Rattle.c_types_operands.specs.Operands.{IsOperand, OperandStands, operand_in}
+use Rattle.c_types_state.specs.declared.operands.Operand as memory_operand
+use Rattle.c_types_state.specs.Operands.{IsOperand, OperandStands, operand_in}
 use Rattle.c_types_expressions.specs.Forms.{null_known}
 use Rattle.c_types_expressions.specs.Passes.{TypesStand, list_in}
 

@@ -1,7 +1,7 @@
 -- What is found of a part, and what rules find behind it.
 use Rattle.std.proofs.Common.{◌≡◌, List, [], ◌++◌, Option, Some, None, refl, sym, subst, ◌∙◌}
 use Rattle.std.proofs.Common.{append-nil, append_assoc}
-use Rattle.text_place.specs.declared.place.Pos.{Pos}
+use Rattle.run_theory.specs.declared.place.Pos.{Pos}
 use Rattle.c_syntax.specs.declared.operator.BinaryOperator.{BinaryOperator}
 use Rattle.c_num.specs.declared.BinOp.{BinOp}
 use Rattle.c_typed.specs.Table.{Interned, Grows}
@@ -14,8 +14,8 @@ use Rattle.c_types_state.specs.NameTables.{State, scope_of}
 use Rattle.c_types_state.specs.Finding.{Finds, AllStand, each_in, IsOption}
 use Rattle.c_types_state.specs.Staying.{IsSeen, Stays}
 use Rattle.c_types_state.proofs.Findings.{goes-trans, finds-goes, finds-after, seen-known}
-use Rattle.c_types_binary.specs.Binary.{operand_rule}
-use Rattle.c_types_calls.specs.Assignments.{assigned_object_rule, assigned_value_rule}
+use Rattle.c_types_expressions.specs.Binary.{operand_rule}
+use Rattle.c_types_expressions.specs.Assignments.{assigned_object_rule, assigned_value_rule}
 
 -- ---- rules one behind another
 

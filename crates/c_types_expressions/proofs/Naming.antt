@@ -8,7 +8,7 @@ use Rattle.c_rules.specs.Known.{Checked}
 use Rattle.c_types_state.specs.Finding.{Finds}
 use Rattle.c_types_expressions.specs.declared.pass.NamedType as memory_named
 use Rattle.c_types_expressions.specs.declared.pass.Pass.{Pass}
-use Rattle.c_types_expressions.specs.Named.{NamedType}
+use Rattle.c_rules.specs.Named.{NamedType}
 use Rattle.c_types_expressions.specs.Passes.{named_type, AllNamedStand, Names, Passes}
 
 -- none

@@ -1,6 +1,6 @@
 -- What a pass finds of a node of a tree, where it has found that of the node's parts.
 use Rattle.std.proofs.Common.{◌≡◌, [], Option, Some, None, Result, Ok, Err, IfOk, refl, sym, ap, subst, ◌∙◌}
-use Rattle.text_place.specs.declared.place.Pos.{Pos}
+use Rattle.run_theory.specs.declared.place.Pos.{Pos}
 use Rattle.c_syntax.specs.declared.operator.PrefixOperator.{PrefixOperator}
 use Rattle.c_syntax.specs.declared.operator.PrefixOperator.TheVariants as P
 use Rattle.c_syntax.specs.declared.expr.Expr.{Expr}
@@ -20,9 +20,9 @@ use Rattle.c_types_state.specs.NameTables.{State, scope_of}
 use Rattle.c_types_state.specs.Finding.{Finds, IsExpr, ExprStands, expr_in, AllStand, each_in, IsOption}
 use Rattle.c_types_state.specs.Staying.{IsSeen}
 use Rattle.c_types_state.proofs.Findings.{finds-give}
-use Rattle.c_types_unary.specs.Unary.{prefixed_rule}
+use Rattle.c_types_expressions.specs.Unary.{prefixed_rule}
 use Rattle.c_types_expressions.specs.declared.pass.Pass.{Pass}
-use Rattle.c_types_expressions.specs.Named.{named_in}
+use Rattle.c_rules.specs.Named.{named_in}
 use Rattle.c_types_expressions.specs.Forms.{grouped_rule, grouped_known}
 use Rattle.c_types_expressions.specs.Passes.{Passes}
 use Rattle.c_types_expressions.proofs.Naming.{passes-plain}

@@ -6,7 +6,7 @@ use Rattle.std.proofs.Math.ListN.{drop_of_length-le}
 use Rattle.c_syntax.specs.declared.expr.Parameter as memory_parameter
 use Rattle.c_syntax.specs.declared.expr.Parameter.{out-Parameter}
 use Rattle.c_syntax.specs.Views.{words_tree, optional_of, parameters_of}
-use Rattle.text_place.specs.declared.place.Pos.{Pos}
+use Rattle.run_theory.specs.declared.place.Pos.{Pos}
 use Rattle.c_syntax.specs.Trees
 use Rattle.c_syntax.specs.Trees.{NameTree, WordsTree, OptionalTree, ParametersTree}
 use Rattle.c_typed.specs.declared.c_type.CType as number
@@ -24,7 +24,7 @@ use Rattle.c_types_state.specs.Finding.{Finds, IsType, IsTypes, IsOption, each_i
 use Rattle.c_types_state.specs.Staying.{IsSame}
 use Rattle.c_types_state.proofs.Findings.{Goes, goes-trans, finds-goes, finds-after, finds-give, finds-known, finds-then}
 use Rattle.c_types_expressions.specs.declared.pass.Pass.{Pass}
-use Rattle.c_types_expressions.specs.Named.{named_at, named_in_optional, named_in_parameters}
+use Rattle.c_rules.specs.Named.{named_at, named_in_optional, named_in_parameters}
 use Rattle.c_types_expressions.specs.Passes.{Passes, Names, TypesStand, list_in, parameter_list}
 use Rattle.c_types_expressions.specs.Derived.{SameNames}
 use Rattle.c_types_expressions.specs.Suffixes.{parameter_rule, named_parameter, named_in_list_of}

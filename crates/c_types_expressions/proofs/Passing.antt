@@ -9,7 +9,7 @@ use Rattle.c_types_state.specs.Finding.{Finds, each_in}
 use Rattle.c_types_state.specs.Staying.{IsSeen, Stays}
 use Rattle.c_types_state.proofs.Findings.{finds-then, finds-then_two}
 use Rattle.c_types_expressions.specs.declared.pass.Pass.{Pass}
-use Rattle.c_types_expressions.specs.Named.{NamedType}
+use Rattle.c_rules.specs.Named.{NamedType}
 use Rattle.c_types_expressions.specs.Passes.{Passes}
 use Rattle.c_types_expressions.proofs.Naming.{names-grow, names-two, passes-made}
 

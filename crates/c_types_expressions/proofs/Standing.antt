@@ -2,7 +2,7 @@
 use Rattle.c_types_state.specs.declared.known.TypedExpr.TheVariants as E
 use Rattle.c_types_state.specs.Staying.{Stays}
 use Rattle.c_types_state.proofs.Findings.{stays-expr}
-use Rattle.c_types_operands.specs.Operands.{IsOperand, IsTarget}
+use Rattle.c_types_state.specs.Operands.{IsOperand, IsTarget}
 
 pub stays-operand : Stays IsOperand
 stays-operand old new grows b a h =

@@ -2,7 +2,7 @@
 use Rattle.std.proofs.Common.{◌≡◌, ℕ, zero, suc, ◌<◌, arith, List, [], ◌∷◌, ◌++◌, length, drop, get_or, Option, Some, None, Box, Vec, Global, ℤ, refl, sym, ap, subst, ◌∙◌}
 use Rattle.std.proofs.Common.{append-nil, append_assoc}
 use Rattle.std.proofs.Math.Seq.{drop-cons}
-use Rattle.text_place.specs.declared.place.Pos.{Pos}
+use Rattle.run_theory.specs.declared.place.Pos.{Pos}
 use Rattle.c_syntax.specs.declared.expr.TypeName as memory_type
 use Rattle.c_syntax.specs.declared.expr.TypeName.{out-TypeName, roll-out-TypeName}
 use Rattle.c_syntax.specs.declared.expr.Parameter as memory_parameter
@@ -36,13 +36,13 @@ use Rattle.c_types_state.specs.NameTables.{State, scope_of}
 use Rattle.c_types_state.specs.Finding.{Finds, ExprStands, IsExpr, IsType, IsTypes, IsOption, AllStand, expr_in, each_in}
 use Rattle.c_types_state.specs.Staying.{IsSame}
 use Rattle.c_types_state.proofs.Findings.{goes-trans, finds-goes, finds-after, finds-give, finds-unknown, plain-some, plain-none, seen-known, finds-known, finds-then_two, stays-type}
-use Rattle.c_types_operands.specs.declared.operands.Operand as memory_operand
-use Rattle.c_types_operands.specs.Operands.{IsOperand}
+use Rattle.c_types_state.specs.declared.operands.Operand as memory_operand
+use Rattle.c_types_state.specs.Operands.{IsOperand}
 use Rattle.c_types_expressions.specs.declared.pass.Pass.{Pass}
 use Rattle.c_types_expressions.specs.declared.role.LengthRole as memory_role
 use Rattle.c_types_expressions.specs.declared.role.LengthRole.TheVariants as R
 use Rattle.c_types_expressions.specs.Roles.{role_of}
-use Rattle.c_types_expressions.specs.Named.{NamedType, named_at, named_in, named_in_optional, named_in_declarator, named_in_direct, named_in_suffixes, named_in_length}
+use Rattle.c_rules.specs.Named.{NamedType, named_at, named_in, named_in_optional, named_in_declarator, named_in_direct, named_in_suffixes, named_in_length}
 use Rattle.c_types_expressions.specs.Passes.{Passes, Names, parameter_list}
 use Rattle.c_types_expressions.specs.Derived.{element_rule, result_rule, IsElement}
 use Rattle.c_types_expressions.specs.Suffixes.{SuffixTree, AnArray, AFunction, suffix_of, suffix_type, named_in_suffix, named_in_list_of}

@@ -1,6 +1,6 @@
 -- Arrays and functions.
 use Rattle.std.specs.Prelude.{◌≡◌, ℕ, not, ◌||◌, List, Option}
-use Rattle.text_place.specs.declared.place.Pos.{Pos}
+use Rattle.run_theory.specs.declared.place.Pos.{Pos}
 use Rattle.c_rules.specs.declared.rule.TypeRule.TheVariants as T
 use Rattle.c_typed.specs.Types
 use Rattle.c_typed.specs.Types.{CType, CTypes, Function}

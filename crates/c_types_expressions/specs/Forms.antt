@@ -1,6 +1,6 @@
 -- Forms of expressions.
 use Rattle.std.specs.Prelude.{◌≡◌, true, List, [], ◌++◌, Option, Some, None}
-use Rattle.text_place.specs.declared.place.Pos.{Pos}
+use Rattle.run_theory.specs.declared.place.Pos.{Pos}
 use Rattle.c_typed.specs.Types.{Void, Pointer}
 use Rattle.c_typed.specs.Table.{Interned}
 use Rattle.c_typed.specs.Views.{ValueStands}
@@ -13,7 +13,7 @@ use Rattle.c_rules.specs.Operators.{size_of}
 use Rattle.c_rules.specs.Expressions.{place_of, expr, library_called, argument_values}
 use Rattle.c_types_state.specs.NameTables.{State}
 use Rattle.c_types_state.specs.Finding.{Finds, IsExpr}
-use Rattle.c_types_expressions.specs.Named.{NamedType, named_in, named_in_arguments}
+use Rattle.c_rules.specs.Named.{NamedType, named_in, named_in_arguments}
 use Rattle.c_typed.specs.Typed.{NullPointer}
 use Rattle.c_rules.specs.Known.{Checked, Known, NullAddress, grouped, value_of_type}
 

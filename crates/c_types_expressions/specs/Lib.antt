@@ -1,7 +1,13 @@
+pub mod Arguments
+pub mod Assignments
+pub mod Binary
+pub mod Calls
 pub mod Derived
 pub mod Forms
-pub mod Named
-pub mod Roles
-pub mod Passes
-pub mod Suffixes
+pub mod Members
 pub mod Parts
+pub mod Passes
+pub mod Roles
+pub mod Signatures
+pub mod Suffixes
+pub mod Unary

@@ -1,6 +1,6 @@
 -- What a pass comes to over each part of a text, and what is found by rules for parts that may not be known.
 use Rattle.std.specs.Prelude.{ℕ, List, Option, Some, Vec}
-use Rattle.text_place.specs.declared.place.Pos.{Pos}
+use Rattle.run_theory.specs.declared.place.Pos.{Pos}
 use Rattle.c_syntax.specs.declared.expr.Parameter as memory_parameter
 use Rattle.c_syntax.specs.declared.expr.Parameter.{out-Parameter}
 use Rattle.c_syntax.specs.Trees.{NameTree, ExprTree, ArgumentsTree, TypeTree, OptionalTree, DeclaratorTree, SuffixesTree, ParametersTree}
@@ -17,14 +17,14 @@ use Rattle.c_types_state.specs.declared.known.Known as memory_known
 use Rattle.c_types_state.specs.NameTables.{State, scope_of}
 use Rattle.c_types_state.specs.Finding.{Finds, IsExpr, IsType, IsTypes, expr_in, condition_in, each_in}
 use Rattle.c_types_state.specs.Staying.{IsSame}
-use Rattle.c_types_operands.specs.declared.operands.Operand as memory_operand
-use Rattle.c_types_operands.specs.declared.targets.Target as memory_target
-use Rattle.c_types_operands.specs.Operands.{operand_in, target_in}
-use Rattle.c_types_calls.specs.declared.calls.Argument as memory_argument
+use Rattle.c_types_state.specs.declared.operands.Operand as memory_operand
+use Rattle.c_types_state.specs.declared.targets.Target as memory_target
+use Rattle.c_types_state.specs.Operands.{operand_in, target_in}
+use Rattle.c_types_expressions.specs.declared.calls.Argument as memory_argument
 use Rattle.c_types_expressions.specs.declared.pass.Pass.{Pass}
 use Rattle.c_types_expressions.specs.declared.role.LengthRole as memory_role
 use Rattle.c_types_expressions.specs.Roles.{role_of}
-use Rattle.c_types_expressions.specs.Named.{named_at, named_in, named_in_arguments, named_in_type, named_in_optional, named_in_declarator, named_in_suffixes}
+use Rattle.c_rules.specs.Named.{named_at, named_in, named_in_arguments, named_in_type, named_in_optional, named_in_declarator, named_in_suffixes}
 use Rattle.c_types_expressions.specs.Passes.{Names, Passes, IsArguments, arguments_checked, parameter_list}
 use Rattle.c_types_expressions.specs.Forms.{called, named_in_call}
 use Rattle.c_types_expressions.specs.Derived.{SameNames}

@@ -9,11 +9,11 @@ use Rattle.c_rules.specs.Known.{Checked, give}
 use Rattle.c_rules.specs.Expressions.{parameter_types, is_void_alone}
 use Rattle.c_rules.specs.Operators.{Arguments, ArgumentValue}
 use Rattle.c_types_state.specs.Finding.{Finds}
-use Rattle.c_types_calls.specs.declared.calls.Argument as memory_argument
-use Rattle.c_types_calls.specs.Arguments.{ArgumentsStand, arguments_in}
+use Rattle.c_types_expressions.specs.declared.calls.Argument as memory_argument
+use Rattle.c_types_expressions.specs.Arguments.{ArgumentsStand, arguments_in}
 use Rattle.c_types_expressions.specs.declared.pass.NamedType as memory_named
 use Rattle.c_types_expressions.specs.declared.pass.Pass.{Pass}
-use Rattle.c_types_expressions.specs.Named.{NamedType}
+use Rattle.c_rules.specs.Named.{NamedType}
 
 -- ---- types that were named
 

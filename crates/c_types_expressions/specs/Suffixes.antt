@@ -1,6 +1,6 @@
 -- What follows in a declarator, one thing at a time.
 use Rattle.std.specs.Prelude.{ℕ, if◌then◌else◌, List, [], ◌++◌}
-use Rattle.text_place.specs.declared.place.Pos.{Pos}
+use Rattle.run_theory.specs.declared.place.Pos.{Pos}
 use Rattle.c_syntax.specs.declared.expr.Suffix as memory_suffix
 use Rattle.c_syntax.specs.declared.expr.Suffix.TheVariants as S
 use Rattle.c_syntax.specs.Trees.{WordsTree, OptionalTree, LengthTree, ParametersTree}
@@ -9,7 +9,7 @@ use Rattle.c_typed.specs.Types.{CType}
 use Rattle.c_rules.specs.Names.{Scope}
 use Rattle.c_rules.specs.Known.{Checked}
 use Rattle.c_rules.specs.Expressions.{LengthRole, Adjusted, array_type, function_type, length_stated, is_void_alone, optional_type, words_type, optional_name, name_place, one_parameter}
-use Rattle.c_types_expressions.specs.Named.{NamedType, named_in_length, named_in_parameters, named_in_optional, parameter_named}
+use Rattle.c_rules.specs.Named.{NamedType, named_in_length, named_in_parameters, named_in_optional, parameter_named}
 use Rattle.c_types_expressions.specs.Passes.{parameter_list}
 
 pub data SuffixTree : Type 0 where

@@ -12,10 +12,9 @@ ghost use Rattle.c_types_expressions.specs.Forms.{grouped_known, null_known};
 use c_num::IntType;
 use c_rules::Constness;
 use c_typed::{ByteString, CType, Designator, Object, Static, Value};
-use c_types_operands::Operand;
-use c_types_state::{Address, Checker, Known, TypedExpr, read_place};
+use c_types_state::{Address, Checker, Known, Operand, TypedExpr, read_place};
+use run_theory::Pos;
 use std::alloc::{AllocError, Global};
-use text_place::Pos;
 
 /// A constant of an integer type, with a value of it (C17 6.4.4).
 pub(crate) fn constant(alloc: Global, int_type: IntType, number: i128) -> Result<Known, AllocError>

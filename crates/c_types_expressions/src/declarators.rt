@@ -20,10 +20,10 @@ use crate::role::LengthRole;
 use crate::words::{is_void_alone, name_place, optional_name, pointed, role_outside, words_type};
 use c_syntax::{Declarator, Direct, Expr, Parameter, Suffix, TypeName};
 use c_typed::{CType, Parameters};
-use c_types_operands::as_integer;
+use c_types_state::as_integer;
 use indexmap::IndexSet;
+use run_theory::Pos;
 use std::alloc::AllocError;
-use text_place::Pos;
 
 /// A type name (C17 6.7.7).
 #[cycle(expr)]

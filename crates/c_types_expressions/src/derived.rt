@@ -23,8 +23,8 @@ use c_syntax::Name;
 use c_typed::{CType, Parameters, Shape};
 use c_types_state::{Checker, library_function};
 use indexmap::IndexSet;
+use run_theory::Pos;
 use std::alloc::AllocError;
-use text_place::Pos;
 
 // ---- arrays (C17 6.7.6.2)
 

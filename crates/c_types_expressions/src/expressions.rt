@@ -7,24 +7,25 @@ ghost use Rattle.c_types_state.specs.NameTables.{scope_of};
 ghost use Rattle.c_types_expressions.specs.Forms.{FindsLibrary};
 ghost use Rattle.c_types_expressions.specs.Parts.{PassesExpr, PassesCall, PassesArguments};
 
+use crate::assignments::{assigned_object, assigned_value, operator_of};
+use crate::binary::operand;
+use crate::calls::{Argument, library};
 use crate::constants::{constant, grouped, literal, null};
 use crate::declarators::type_named;
 use crate::forms::{
     assignment_of, call_of, cast_of, choice_of, combination_of, element_of, member_of,
     pointed_member_of, size_of_expr, size_of_type, stepped,
 };
+use crate::names::named;
 use crate::pass::Pass;
 use crate::place::place_of;
+use crate::unary::prefixed;
 use c_num::{IntType, convert};
 use c_syntax::{AssignOperator, BinaryOperator, Expr, TypeName};
 use c_typed::Stepping;
-use c_types_binary::operand;
-use c_types_calls::{Argument, assigned_object, assigned_value, library, operator_of};
-use c_types_operands::{as_condition, as_value};
-use c_types_state::{Checker, Known, NameMeaning};
-use c_types_unary::{named, prefixed};
+use c_types_state::{Checker, Known, NameMeaning, as_condition, as_value};
+use run_theory::Pos;
 use std::alloc::AllocError;
-use text_place::Pos;
 
 /// An expression: what is known of it, where it violates nothing that is needed for that.
 #[cycle(expr)]

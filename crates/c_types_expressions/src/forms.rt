@@ -6,22 +6,25 @@ ghost use Rattle.c_typed.specs.Table.{Interned, Stands};
 ghost use Rattle.c_rules.specs.Operators as rules;
 ghost use Rattle.c_types_state.specs.Finding.{IsExpr, ExprStands, expr_in, AllStand, each_in};
 ghost use Rattle.c_types_state.specs.NameTables.{scope_of};
-ghost use Rattle.c_types_operands.specs.Operands.{OperandStands, operand_in, TargetStands};
-ghost use Rattle.c_types_calls.specs.Arguments.{ArgumentsStand, arguments_in};
-ghost use Rattle.c_types_calls.specs.Calls.{call_rule_on};
+ghost use Rattle.c_types_state.specs.Operands.{OperandStands, operand_in, TargetStands};
+ghost use Rattle.c_types_expressions.specs.Arguments.{ArgumentsStand, arguments_in};
+ghost use Rattle.c_types_expressions.specs.Calls.{call_rule_on};
 ghost use Rattle.c_types_expressions.specs.Forms.{size_rule, ConditionStands};
 ghost use Rattle.c_types_expressions.specs.Parts.{OfType, OfExpr, OfOperand, OfOperands, OfCast, OfChoice, OfTarget};
 
+use crate::assignments::assignment;
+use crate::binary::{choice, combined};
+use crate::calls::{Argument, call};
+use crate::casts::cast_to;
+use crate::members::{object_member, pointer_member};
+use crate::pointers::indexed;
+use crate::unary::{postfixed, size_of};
 use c_num::BinOp;
 use c_syntax::{BinaryOperator, Name};
 use c_typed::{CType, Stepping};
-use c_types_binary::{choice, combined};
-use c_types_calls::{Argument, assignment, call};
-use c_types_operands::{Operand, Target};
-use c_types_state::{Checker, Condition, Known, TypedExpr};
-use c_types_unary::{cast_to, indexed, object_member, pointer_member, postfixed, size_of};
+use c_types_state::{Checker, Condition, Known, Operand, Target, TypedExpr};
+use run_theory::Pos;
 use std::alloc::AllocError;
-use text_place::Pos;
 
 /// An operand as an expression.
 fn into_known(operand: Option<Operand>) -> Option<Known>

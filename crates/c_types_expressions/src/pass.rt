@@ -2,8 +2,8 @@
 
 use c_typed::CType;
 use c_types_state::Checker;
+use run_theory::Pos;
 use std::alloc::{AllocError, Global};
-use text_place::Pos;
 
 /// A type that the text names, and the place of the declared name, or of the first token of the type's name.
 #[derive(Clone, Copy, Debug, PartialEq, Eq)]

@@ -5,7 +5,7 @@ ghost use Rattle.c_syntax.specs.Views.{expr_tree};
 ghost use Rattle.c_rules.specs.Expressions as rules;
 
 use c_syntax::Expr;
-use text_place::Pos;
+use run_theory::Pos;
 
 /// The place of an expression's first token.
 pub fn place_of(expr: &Expr) -> Pos

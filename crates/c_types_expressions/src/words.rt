@@ -14,8 +14,8 @@ use c_rules::TypeRule;
 use c_syntax::{Declarator, Direct, Name, Parameter, Simple, SimpleKind};
 use c_typed::CType;
 use c_types_state::Checker;
+use run_theory::Pos;
 use std::alloc::AllocError;
-use text_place::Pos;
 
 /// The type that words name (C17 6.7.2).
 pub fn words_type(checker: &mut Checker, simple: &Simple) -> Result<Option<CType>, AllocError>

@@ -1,6 +1,6 @@
 -- What is found of a part of the text from what is found of its parts.
 use Rattle.std.proofs.Common.{◌≡◌, Bool, true, false, List, ◌++◌, Option, Some, None, refl, sym, ap, subst, ◌∙◌}
-use Rattle.text_place.specs.declared.place.Pos.{Pos}
+use Rattle.run_theory.specs.declared.place.Pos.{Pos}
 use Rattle.c_rules.specs.declared.rule.TypeRule.{TypeRule}
 use Rattle.c_typed.specs.Table.{Interned, Grows}
 use Rattle.c_typed.proofs.Grown.{grows_refl, grows_trans, stays, list_stays}

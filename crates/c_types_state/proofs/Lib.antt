@@ -1,8 +1,13 @@
-mod Growing
-pub mod Named
-mod LocalTables
-pub mod Noted
 pub mod Findings
+pub mod IntegerOperands
+pub mod Named
+pub mod Noted
+pub mod OperandsStay
+pub mod ReadValues
+pub mod Steps
+mod Growing
 mod Listing
-mod LiteralsAdded
 mod LiteralTypes
+mod LiteralsAdded
+mod LocalTables
+mod TargetRules

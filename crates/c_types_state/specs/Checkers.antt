@@ -1,6 +1,6 @@
 -- What the fields of a checker stand for.
 use Rattle.std.specs.Prelude.{ℕ, List, map, Option, Vec}
-use Rattle.text_place.specs.declared.place.Pos.{Pos}
+use Rattle.run_theory.specs.declared.place.Pos.{Pos}
 use Rattle.c_syntax.specs.Trees.{NameTree}
 use Rattle.c_typed.specs.Table.{Interned}
 use Rattle.c_types_state.specs.declared.file_name.FileEntry.{FileEntry}

@@ -1,7 +1,10 @@
-pub mod Finding
-pub mod NameTables
-pub mod LocalTables
 pub mod Checkers
-pub mod Staying
-pub mod Lists
+pub mod Directions
+pub mod Finding
 pub mod Listed
+pub mod Lists
+pub mod LocalTables
+pub mod NameTables
+pub mod Operands
+pub mod Promises
+pub mod Staying

@@ -19,9 +19,9 @@ use c_rules::{TypeRule, Violation, is_before};
 use c_syntax::Name;
 use c_typed::{CType, Member, MemberAt, Parameters, Shape, StructId, TypeTable};
 use indexmap::{IndexMap, IndexSet};
+use run_theory::Pos;
 use std::alloc::{AllocError, Global};
 use std::marker::Model;
-use text_place::Pos;
 
 /// The types of a program, what is known at a place of its text (C17 6.2.1 to 6.2.3), and the least violation that was found
 /// so far.

@@ -7,7 +7,7 @@ ghost use Rattle.c_rules.specs.Known.{read_place};
 
 use c_rules::Constness;
 use c_typed::{ByteString, CType, Designator, LibraryFunction, Object, Part, Static, Value};
-use text_place::Pos;
+use run_theory::Pos;
 
 /// A typed tree: that of a value, an object or a function, or a library function's name in so many parentheses.
 #[derive(Drop)]

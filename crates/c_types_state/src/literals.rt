@@ -15,8 +15,8 @@ use c_syntax::{
     Member, Parameter, Program, Stmt, Suffix, SwitchItem, TypeName,
 };
 use c_typed::{ByteString, CType, LiteralDef, TypeTable};
+use run_theory::Pos;
 use std::alloc::{AllocError, Global};
-use text_place::Pos;
 
 /// The literals of a program, with their types.
 pub fn literals_of(

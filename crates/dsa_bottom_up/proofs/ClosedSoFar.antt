@@ -2,12 +2,12 @@
 use Rattle.std.proofs.Common.{ℕ, ◌<◌, subst, ltb-true}
 use Rattle.tac_ir.specs.Views.{tac_of}
 use Rattle.heap_graph.specs.Closed.{group_of}
-use Rattle.program_graphs.specs.declared.program.ProgramGraphs.{ProgramGraphs}
-use Rattle.inner_calls.proofs.CalledSteps.{target_within}
-use Rattle.group_crossings.specs.Before.{GraphsBefore}
-use Rattle.assembled_groups.specs.Making.{IsGrouped, family_at, BeginsWith, IsMaking}
-use Rattle.assembled_groups.proofs.Members.{noted_before}
-use Rattle.least_graphs.specs.Below.{ClosedBelow}
+use Rattle.heap_graph.specs.declared.program.ProgramGraphs.{ProgramGraphs}
+use Rattle.dsa_local.proofs.CalledSteps.{target_within}
+use Rattle.dsa_inlining.specs.Before.{GraphsBefore}
+use Rattle.dsa_bottom_up.specs.AssembledGroups.Making.{IsGrouped, family_at, BeginsWith, IsMaking}
+use Rattle.dsa_bottom_up.proofs.Members.{noted_before}
+use Rattle.dsa_bottom_up.specs.Below.{ClosedBelow}
 use Rattle.dsa_bottom_up.proofs.Outside.{group_is}
 
 pub closed_so_far : (before : GraphsBefore) → IsGrouped before.tac before.groups → (number : ℕ) → IsMaking before number → (all : ProgramGraphs) → BeginsWith before number all → ClosedBelow (family_at before all) number

@@ -3,16 +3,16 @@ use Rattle.std.proofs.Common.{◌≡◌, ℕ, suc, ◌<◌, ◌≤◌, ◌⊎◌
 use Rattle.std.proofs.lemmas.Bool.{cases_lt}
 use Rattle.tac_ir.specs.declared.program.Tac as memory_tac
 use Rattle.tac_ir.specs.Views.{tac_of}
-use Rattle.function_groups.specs.declared.group_lists.Groups.{Groups}
-use Rattle.function_groups.specs.GroupViews.{groups_of}
-use Rattle.program_graphs.specs.declared.program.ProgramGraphs.{ProgramGraphs}
-use Rattle.assembled_groups.specs.Making.{IsGrouped, family_at, BeginsWith, IsMaking}
-use Rattle.least_graphs.specs.Below.{LeastBelow}
-use Rattle.least_graphs.specs.Making.{AreLeast}
-use Rattle.least_graphs.proofs.Adding.{least_begins}
-use Rattle.least_graphs.proofs.Mapped.{none_below, below_more}
-use Rattle.bare_graphs.specs.Bare.{AreBare}
-use Rattle.bare_graphs.proofs.AllBare.{bare_begins}
+use Rattle.call_graph.specs.declared.group_lists.Groups.{Groups}
+use Rattle.call_graph.specs.GroupViews.{groups_of}
+use Rattle.heap_graph.specs.declared.program.ProgramGraphs.{ProgramGraphs}
+use Rattle.dsa_bottom_up.specs.AssembledGroups.Making.{IsGrouped, family_at, BeginsWith, IsMaking}
+use Rattle.dsa_bottom_up.specs.Below.{LeastBelow}
+use Rattle.dsa_bottom_up.specs.LeastGraphs.Making.{AreLeast}
+use Rattle.dsa_bottom_up.proofs.Adding.{least_begins}
+use Rattle.dsa_bottom_up.proofs.Mapped.{none_below, below_more}
+use Rattle.dsa_bottom_up.specs.Bare.{AreBare}
+use Rattle.dsa_bottom_up.proofs.AllBare.{bare_begins}
 use Rattle.dsa_bottom_up.specs.declared.making.Making.{Making}
 use Rattle.dsa_bottom_up.specs.Making.{made_in, AreKeptBelow}
 use Rattle.dsa_bottom_up.specs.Refused.{limit, AreFew, GroupCounts, StartCounts, IsRefused, in_group, in_start}

@@ -8,30 +8,30 @@ use Rattle.heap_graph.specs.Graphs.{Name, Graph}
 use Rattle.heap_graph.specs.Targets.{has_target}
 use Rattle.heap_graph.specs.Structures.{AreMade}
 use Rattle.heap_graph.specs.Merging.{IsSound}
-use Rattle.frozen_graphs.specs.Frozen.{graph_with}
-use Rattle.program_graphs.specs.declared.program.FunctionGraph.{FunctionGraph}
-use Rattle.call_copies.specs.Telling.{ArraysTold, OnlyAsked}
-use Rattle.made_graphs.specs.Going.{GoesOn}
-use Rattle.made_graphs.proofs.Goes.{goes_then}
-use Rattle.group_begins.specs.Told.{NamesTold}
-use Rattle.inner_calls.proofs.Kept.{calls_joined_kept, classes_joined_kept}
+use Rattle.heap_graph.specs.Frozen.{graph_with}
+use Rattle.heap_graph.specs.declared.program.FunctionGraph.{FunctionGraph}
+use Rattle.dsa_inlining.specs.CallCopies.Telling.{ArraysTold, OnlyAsked}
+use Rattle.graph_unification.specs.Going.{GoesOn}
+use Rattle.graph_unification.proofs.Goes.{goes_then}
+use Rattle.dsa_local.specs.Told.{NamesTold}
+use Rattle.dsa_local.proofs.InnerCalls.Kept.{calls_joined_kept, classes_joined_kept}
 use Rattle.dsa_local.specs.Local.{IsJoinedGroup}
 use Rattle.dsa_local.proofs.Keeping.{EachSame, joined_kept}
-use Rattle.group_rounds.specs.Rounds.{Settled}
-use Rattle.group_rounds.specs.Growing.{OnlyFlagsGrow, OnlyArrays}
-use Rattle.group_rounds.specs.Sizes.{SizesTold, AsksOwner}
-use Rattle.group_rounds.proofs.Grown.{grown_then}
-use Rattle.group_freezing.specs.declared.group.Frozen.{Frozen}
-use Rattle.group_freezing.specs.Groups.{IsFrozenGroup}
-use Rattle.group_freezing.specs.Kept.{IsFrozen}
-use Rattle.group_freezing.specs.Owners.{is_owner, names_in}
-use Rattle.group_crossings.specs.declared.before.Crossings.{Crossings}
-use Rattle.group_crossings.specs.Before.{GraphsBefore, is_inside}
-use Rattle.group_crossings.specs.Crossings.{owners_in, AllReached, NumbersApart, AreCrossed, AllCopiesTold}
-use Rattle.group_crossings.specs.Asking.{AsksCall}
-use Rattle.group_crossings.proofs.Arrays.{only_flags, settled_still, sizes_still}
-use Rattle.group_crossings.proofs.Keeping.{crossings_kept}
-use Rattle.assembled_groups.specs.Assembled.{IsAssembled}
+use Rattle.dsa_local.specs.Rounds.{Settled}
+use Rattle.dsa_local.specs.Growing.{OnlyFlagsGrow, OnlyArrays}
+use Rattle.dsa_local.specs.Sizes.{SizesTold, AsksOwner}
+use Rattle.dsa_local.proofs.Grown.{grown_then}
+use Rattle.dsa_inlining.specs.declared.group.Frozen.{Frozen}
+use Rattle.dsa_inlining.specs.GroupFreezing.Groups.{IsFrozenGroup}
+use Rattle.dsa_inlining.specs.Kept.{IsFrozen}
+use Rattle.dsa_inlining.specs.Owners.{is_owner, names_in}
+use Rattle.dsa_inlining.specs.declared.before.Crossings.{Crossings}
+use Rattle.dsa_inlining.specs.Before.{GraphsBefore, is_inside}
+use Rattle.dsa_inlining.specs.Crossings.{owners_in, AllReached, NumbersApart, AreCrossed, AllCopiesTold}
+use Rattle.dsa_inlining.specs.Asking.{AsksCall}
+use Rattle.dsa_inlining.proofs.Arrays.{only_flags, settled_still, sizes_still}
+use Rattle.dsa_inlining.proofs.Keeping.{crossings_kept}
+use Rattle.dsa_bottom_up.specs.Assembled.{IsAssembled}
 use Rattle.dsa_bottom_up.specs.Assembling.{TellEach}
 use Rattle.dsa_bottom_up.proofs.Leading.{LeadsWanted, only_asked}
 

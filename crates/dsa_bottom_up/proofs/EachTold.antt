@@ -6,13 +6,13 @@ use Rattle.std.proofs.lemmas.List.{length-map}
 use Rattle.std.proofs.lemmas.List.FromFn.{length-enumerate_from, get_or-enumerate_from}
 use Rattle.std.proofs.lemmas.Option.{none-some, same_Some}
 use Rattle.c_typed.specs.Table.{Interned}
-use Rattle.graph_memory.specs.declared.graph.Graph.{Graph}
-use Rattle.graph_memory.specs.Memory.{graph_in, IsGraph}
-use Rattle.graph_rows.proofs.Places.{at_more}
-use Rattle.frozen_graphs.specs.declared.frozen.FunctionNames.{FunctionNames}
-use Rattle.program_graphs.specs.declared.program.FunctionGraph.{FunctionGraph}
-use Rattle.group_crossings.specs.declared.before.Crossings.{Crossings}
-use Rattle.group_crossings.specs.Crossings.{TellsCrossings}
+use Rattle.graph_unification.specs.declared.graph.Graph.{Graph}
+use Rattle.graph_unification.specs.Memory.{graph_in, IsGraph}
+use Rattle.call_graph.proofs.RowPlaces.{at_more}
+use Rattle.heap_graph.specs.declared.frozen.FunctionNames.{FunctionNames}
+use Rattle.heap_graph.specs.declared.program.FunctionGraph.{FunctionGraph}
+use Rattle.dsa_inlining.specs.declared.before.Crossings.{Crossings}
+use Rattle.dsa_inlining.specs.Crossings.{TellsCrossings}
 use Rattle.dsa_local.proofs.Collecting.{map_more}
 use Rattle.dsa_bottom_up.specs.Assembling.{TellEach}
 

@@ -15,40 +15,40 @@ use Rattle.heap_graph.specs.Structures.{AreMade}
 use Rattle.heap_graph.specs.Merging.{IsSound}
 use Rattle.heap_graph.specs.Closed.{Closed}
 use Rattle.heap_graph.specs.Least.{Least}
-use Rattle.frozen_graphs.specs.declared.frozen.FrozenGraph.{FrozenGraph}
-use Rattle.call_targets.specs.ClassLists.{numbers_of}
-use Rattle.function_groups.specs.declared.group_lists.Groups.{Groups}
-use Rattle.function_groups.specs.GroupViews.{groups_of, IsOf}
-use Rattle.graph_memory.specs.declared.graph.Graph as memory_graph
-use Rattle.graph_memory.specs.Memory.{graph_in}
-use Rattle.graph_premises.specs.Standing.{CodeStands}
-use Rattle.program_graphs.specs.declared.program.FunctionGraph.{FunctionGraph}
-use Rattle.program_graphs.specs.declared.program.ProgramGraphs.{ProgramGraphs}
-use Rattle.group_begins.specs.Told.{NoCopies}
-use Rattle.inner_calls.proofs.Kept.{classes_joined_kept}
+use Rattle.heap_graph.specs.declared.frozen.FrozenGraph.{FrozenGraph}
+use Rattle.call_graph.specs.ClassLists.{numbers_of}
+use Rattle.call_graph.specs.declared.group_lists.Groups.{Groups}
+use Rattle.call_graph.specs.GroupViews.{groups_of, IsOf}
+use Rattle.graph_unification.specs.declared.graph.Graph as memory_graph
+use Rattle.graph_unification.specs.Memory.{graph_in}
+use Rattle.graph_unification.specs.Standing.{CodeStands}
+use Rattle.heap_graph.specs.declared.program.FunctionGraph.{FunctionGraph}
+use Rattle.heap_graph.specs.declared.program.ProgramGraphs.{ProgramGraphs}
+use Rattle.dsa_local.specs.Told.{NoCopies}
+use Rattle.dsa_local.proofs.InnerCalls.Kept.{classes_joined_kept}
 use Rattle.dsa_local.specs.Local.{IsJoinedGroup}
-use Rattle.first_values.specs.FirstTold.{FirstTold}
-use Rattle.first_values.specs.Keeping.{Keeps}
-use Rattle.first_values.proofs.GoingOn.{first_kept}
-use Rattle.first_values.proofs.Closing.{first_shown}
-use Rattle.group_crossings.specs.declared.before.Before.{Before}
-use Rattle.group_crossings.specs.Before.{GraphsBefore, graphs_before, is_inside}
-use Rattle.group_crossings.specs.Crossings.{owners_in, AllReached, IsKnown}
-use Rattle.assembled_groups.specs.Assembled.{kept_graph, IsAssembled}
-use Rattle.assembled_groups.specs.Making.{IsGrouped, family_at, BeginsWith, IsMaking}
-use Rattle.assembled_groups.proofs.Crossing.{kept_restricts}
-use Rattle.assembled_groups.proofs.Starting.{HasStart, start_shown}
-use Rattle.assembled_groups.proofs.Growing.{start_reached}
-use Rattle.assembled_groups.proofs.Whole.{program_closes}
-use Rattle.least_graphs.specs.Making.{AreLeast}
-use Rattle.least_graphs.specs.Smallest.{IsSmallest}
-use Rattle.least_graphs.proofs.StartGraph.{IsStartBegun}
-use Rattle.least_graphs.proofs.Smallest.{program_smallest}
-use Rattle.bare_graphs.specs.Bare.{AreBare}
-use Rattle.bare_graphs.proofs.AllBare.{program_least}
+use Rattle.dsa_local.specs.FirstTold.{FirstTold}
+use Rattle.dsa_local.specs.Keeping.{Keeps}
+use Rattle.dsa_local.proofs.GoingOn.{first_kept}
+use Rattle.dsa_local.proofs.FirstValues.Closing.{first_shown}
+use Rattle.dsa_inlining.specs.declared.before.Before.{Before}
+use Rattle.dsa_inlining.specs.Before.{GraphsBefore, graphs_before, is_inside}
+use Rattle.dsa_inlining.specs.Crossings.{owners_in, AllReached, IsKnown}
+use Rattle.dsa_bottom_up.specs.Assembled.{kept_graph, IsAssembled}
+use Rattle.dsa_bottom_up.specs.AssembledGroups.Making.{IsGrouped, family_at, BeginsWith, IsMaking}
+use Rattle.dsa_bottom_up.proofs.Crossing.{kept_restricts}
+use Rattle.dsa_bottom_up.proofs.Starting.{HasStart, start_shown}
+use Rattle.dsa_bottom_up.proofs.Growing.{start_reached}
+use Rattle.dsa_bottom_up.proofs.Whole.{program_closes}
+use Rattle.dsa_bottom_up.specs.LeastGraphs.Making.{AreLeast}
+use Rattle.dsa_bottom_up.specs.Smallest.{IsSmallest}
+use Rattle.dsa_bottom_up.proofs.StartGraph.{IsStartBegun}
+use Rattle.dsa_bottom_up.proofs.Smallest.{program_smallest}
+use Rattle.dsa_bottom_up.specs.Bare.{AreBare}
+use Rattle.dsa_bottom_up.proofs.AllBare.{program_least}
 use Rattle.dsa_bottom_up.specs.declared.making.Making.{Making}
-use Rattle.group_statics.specs.Groups.{HaveStatics}
-use Rattle.group_crossings.specs.Live.{AreLive}
+use Rattle.dsa_inlining.specs.GroupStatics.Groups.{HaveStatics}
+use Rattle.dsa_inlining.specs.Live.{AreLive}
 use Rattle.dsa_bottom_up.specs.Making.{made_in, AreKeptBelow}
 
 -- ---- what is known before

@@ -12,26 +12,26 @@ use Rattle.heap_graph.specs.Targets.{is_collapsed, shifted}
 use Rattle.heap_graph.specs.Structures.{AreMade}
 use Rattle.heap_graph.specs.Merging.{IsSlot, IsSound}
 use Rattle.heap_graph.proofs.MapsCompose.{shift_in, shifted_there}
-use Rattle.frozen_graphs.specs.Frozen.{bare, graph_with}
-use Rattle.frozen_graphs.specs.declared.frozen.FrozenGraph.{FrozenGraph}
-use Rattle.frozen_graphs.specs.declared.frozen.FunctionNames.{FunctionNames}
-use Rattle.program_graphs.specs.declared.program.FunctionGraph.{FunctionGraph}
-use Rattle.point_asks.specs.Asks.{is_certain}
-use Rattle.point_asks.specs.Restricted.{if_certain}
-use Rattle.point_asks.proofs.Certain.{certain_some, certain_there, if_yes}
-use Rattle.made_graphs.specs.Going.{GoesOn}
-use Rattle.group_statics.specs.Aligned.{is_collapsed_at, IsPlaced, AreAligned}
-use Rattle.group_statics.proofs.Going.{aligned_kept}
-use Rattle.group_statics.proofs.Same.{aligned_self}
-use Rattle.group_freezing.specs.declared.group.Frozen.{Frozen}
-use Rattle.group_freezing.specs.Kept.{KeepsIf}
-use Rattle.group_freezing.specs.Groups.{IsFrozenGroup}
-use Rattle.group_freezing.specs.Owners.{is_owner, names_in}
-use Rattle.group_freezing.proofs.KeptNodes.{before, after}
-use Rattle.group_crossings.specs.Before.{GraphsBefore}
-use Rattle.group_crossings.specs.Bases.{AreBases}
-use Rattle.assembled_groups.specs.Assembled.{kept_graph, IsAssembled}
-use Rattle.assembled_groups.proofs.Ready.{kept_sound}
+use Rattle.heap_graph.specs.Frozen.{bare, graph_with}
+use Rattle.heap_graph.specs.declared.frozen.FrozenGraph.{FrozenGraph}
+use Rattle.heap_graph.specs.declared.frozen.FunctionNames.{FunctionNames}
+use Rattle.heap_graph.specs.declared.program.FunctionGraph.{FunctionGraph}
+use Rattle.heap_graph.specs.Asks.{is_certain}
+use Rattle.heap_graph.specs.Restricted.{if_certain}
+use Rattle.heap_graph.proofs.Certain.{certain_some, certain_there, if_yes}
+use Rattle.graph_unification.specs.Going.{GoesOn}
+use Rattle.dsa_inlining.specs.Aligned.{is_collapsed_at, IsPlaced, AreAligned}
+use Rattle.dsa_inlining.proofs.Going.{aligned_kept}
+use Rattle.dsa_inlining.proofs.Same.{aligned_self}
+use Rattle.dsa_inlining.specs.declared.group.Frozen.{Frozen}
+use Rattle.dsa_inlining.specs.Kept.{KeepsIf}
+use Rattle.dsa_inlining.specs.GroupFreezing.Groups.{IsFrozenGroup}
+use Rattle.dsa_inlining.specs.Owners.{is_owner, names_in}
+use Rattle.dsa_inlining.proofs.KeptNodes.{before, after}
+use Rattle.dsa_inlining.specs.Before.{GraphsBefore}
+use Rattle.dsa_inlining.specs.Bases.{AreBases}
+use Rattle.dsa_bottom_up.specs.Assembled.{kept_graph, IsAssembled}
+use Rattle.dsa_bottom_up.proofs.Ready.{kept_sound}
 use Rattle.dsa_bottom_up.specs.Assembling.{HasBases}
 
 -- ---- a place that is kept

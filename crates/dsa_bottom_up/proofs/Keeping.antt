@@ -5,50 +5,50 @@ use Rattle.std.specs.Vec.{with_item}
 use Rattle.std.proofs.lemmas.Bool.{false≢true, cases_lt}
 use Rattle.std.proofs.lemmas.List.{length-map, length-append, length-set, at_drop_all}
 use Rattle.std.proofs.lemmas.Option.{none-some, same_Some, slice_get-get_or, slice_get-map, slice_get_within, get_or_from_slice_get}
-use Rattle.graph_rows.specs.Lists.{Has}
-use Rattle.graph_rows.proofs.Lists.{has_at, at_has}
-use Rattle.graph_rows.proofs.Places.{set_same, set_other}
+use Rattle.call_graph.specs.RowLists.{Has}
+use Rattle.call_graph.proofs.RowLists.{has_at, at_has}
+use Rattle.call_graph.proofs.RowPlaces.{set_same, set_other}
 use Rattle.tac_ir.specs.declared.program.Tac as memory_tac
 use Rattle.tac_ir.specs.declared.register.FunctionId.{FunctionId}
 use Rattle.tac_ir.specs.States.{InFunction}
 use Rattle.tac_ir.specs.Views.{tac_of, function_in}
-use Rattle.call_groups.specs.Groups.{IsAscending}
-use Rattle.call_targets.specs.ClassLists.{numbers_of}
+use Rattle.tac_ir.specs.Groups.{IsAscending}
+use Rattle.call_graph.specs.ClassLists.{numbers_of}
 use Rattle.heap_graph.specs.Graphs.{Graph}
-use Rattle.function_groups.specs.declared.group_lists.Groups.{Groups}
-use Rattle.function_groups.specs.GroupViews.{groups_of}
-use Rattle.program_graphs.proofs.GroupNumbers.{stands}
-use Rattle.group_freezing.specs.Owners.{IsFunctionOf}
+use Rattle.call_graph.specs.declared.group_lists.Groups.{Groups}
+use Rattle.call_graph.specs.GroupViews.{groups_of}
+use Rattle.heap_graph.proofs.GroupNumbers.{stands}
+use Rattle.dsa_inlining.specs.Owners.{IsFunctionOf}
 use Rattle.dsa_local.specs.Local as local
-use Rattle.group_crossings.specs.Crossings.{owners_in}
-use Rattle.assembled_groups.specs.Assembled.{IsAssembled}
-use Rattle.assembled_groups.proofs.Members.{inside_noted, listed_within, listed_inside}
-use Rattle.assembled_groups.proofs.Whole.{member_owner, member_listed}
-use Rattle.assembled_groups.proofs.Whole as whole
-use Rattle.assembled_groups.proofs.Growing.{begins_before}
+use Rattle.dsa_inlining.specs.Crossings.{owners_in}
+use Rattle.dsa_bottom_up.specs.Assembled.{IsAssembled}
+use Rattle.dsa_bottom_up.proofs.Members.{inside_noted, listed_within, listed_inside}
+use Rattle.dsa_bottom_up.proofs.Whole.{member_owner, member_listed}
+use Rattle.dsa_bottom_up.proofs.Whole as whole
+use Rattle.dsa_bottom_up.proofs.Growing.{begins_before}
 use Rattle.heap_graph.specs.Escaping.{Escapes}
 use Rattle.heap_graph.specs.Closed.{Family, graph_of}
-use Rattle.frozen_graphs.specs.declared.frozen.FunctionNames.{FunctionNames}
-use Rattle.frozen_graphs.specs.declared.frozen.FrozenGraph.{FrozenGraph}
-use Rattle.program_graphs.specs.declared.program.FunctionGraph.{FunctionGraph}
-use Rattle.program_graphs.specs.declared.program.ProgramGraphs.{ProgramGraphs}
-use Rattle.program_graphs.specs.Shows.{ShowsGraph, ShowsNames}
-use Rattle.reached_nodes.specs.declared.marks.NodeMarks.{NodeMarks}
-use Rattle.reached_nodes.specs.Marks.{is_marked}
-use Rattle.shared_lists.specs.declared.lists.SharedLists.{SharedLists}
-use Rattle.shared_lists.specs.Lists.{rows_in}
-use Rattle.group_crossings.specs.declared.live.LiveTargets.{LiveTargets}
-use Rattle.group_crossings.specs.Before.{Rises, is_some_list, is_listed}
-use Rattle.group_crossings.specs.Live.{IsOnce, AddsMembers}
-use Rattle.group_crossings.proofs.LiveRows.{lives_none, lives_more}
-use Rattle.assembled_groups.specs.Making.{IsGrouped, BeginsWith, IsMaking, ListsEscaping, AddsGroup}
-use Rattle.least_graphs.specs.Making.{AreLeast}
-use Rattle.least_graphs.proofs.Adding.{IsBegun, least_grows}
-use Rattle.bare_graphs.specs.Bare.{AreBare}
-use Rattle.bare_graphs.proofs.AllBare.{bare_grows}
+use Rattle.heap_graph.specs.declared.frozen.FunctionNames.{FunctionNames}
+use Rattle.heap_graph.specs.declared.frozen.FrozenGraph.{FrozenGraph}
+use Rattle.heap_graph.specs.declared.program.FunctionGraph.{FunctionGraph}
+use Rattle.heap_graph.specs.declared.program.ProgramGraphs.{ProgramGraphs}
+use Rattle.heap_graph.specs.Shows.{ShowsGraph, ShowsNames}
+use Rattle.heap_graph.specs.declared.marks.NodeMarks.{NodeMarks}
+use Rattle.heap_graph.specs.Marks.{is_marked}
+use Rattle.call_graph.specs.declared.lists.SharedLists.{SharedLists}
+use Rattle.call_graph.specs.Lists.{rows_in}
+use Rattle.dsa_inlining.specs.declared.live.LiveTargets.{LiveTargets}
+use Rattle.dsa_inlining.specs.Before.{Rises, is_some_list, is_listed}
+use Rattle.dsa_inlining.specs.Live.{IsOnce, AddsMembers}
+use Rattle.dsa_inlining.proofs.LiveRows.{lives_none, lives_more}
+use Rattle.dsa_bottom_up.specs.AssembledGroups.Making.{IsGrouped, BeginsWith, IsMaking, ListsEscaping, AddsGroup}
+use Rattle.dsa_bottom_up.specs.LeastGraphs.Making.{AreLeast}
+use Rattle.dsa_bottom_up.proofs.Adding.{IsBegun, least_grows}
+use Rattle.dsa_bottom_up.specs.Bare.{AreBare}
+use Rattle.dsa_bottom_up.proofs.AllBare.{bare_grows}
 use Rattle.dsa_bottom_up.specs.declared.making.Making.{Making}
-use Rattle.group_statics.specs.declared.statics.GroupStatics.{GroupStatics}
-use Rattle.group_statics.specs.Groups.{IsTold, HaveStatics}
+use Rattle.dsa_inlining.specs.declared.told_statics.GroupStatics.{GroupStatics}
+use Rattle.dsa_inlining.specs.GroupStatics.Groups.{IsTold, HaveStatics}
 use Rattle.dsa_bottom_up.specs.Making.{made_in, IsEmpty, AreKeptBelow, AreApart, KeepsOne, KeepsMembers}
 use Rattle.dsa_bottom_up.proofs.KeptStatics.{statics_added}
 

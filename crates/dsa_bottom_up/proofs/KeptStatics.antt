@@ -6,12 +6,12 @@ use Rattle.std.proofs.lemmas.List.{length-append}
 use Rattle.std.proofs.lemmas.Option.{same_Some, slice_get_within}
 use Rattle.c_typed.specs.Table.{Interned}
 use Rattle.heap_graph.specs.Graphs.{Name, OfGlobal, OfLiteral}
-use Rattle.frozen_graphs.specs.declared.frozen.FrozenGraph.{FrozenGraph}
-use Rattle.graph_rows.proofs.Places.{append_before}
-use Rattle.graph_memory.proofs.CellLists.{get_kept, get_last}
-use Rattle.group_statics.specs.declared.statics.GroupStatics.{GroupStatics}
-use Rattle.group_statics.specs.Listed.{Lists}
-use Rattle.group_statics.specs.Groups.{IsOfBase, IsBase, IsTold, HasStatics, HaveStatics}
+use Rattle.heap_graph.specs.declared.frozen.FrozenGraph.{FrozenGraph}
+use Rattle.call_graph.proofs.RowPlaces.{append_before}
+use Rattle.graph_unification.proofs.CellLists.{get_kept, get_last}
+use Rattle.dsa_inlining.specs.declared.told_statics.GroupStatics.{GroupStatics}
+use Rattle.dsa_inlining.specs.GroupStatics.Listed.{Lists}
+use Rattle.dsa_inlining.specs.GroupStatics.Groups.{IsOfBase, IsBase, IsTold, HasStatics, HaveStatics}
 
 -- an item of a list with one more is an old one or the last
 old_or_last : {X : Type 0} (xs : List X) (last x : X) (number : ℕ) → slice_get (xs ++ last ∷ []) number ≡ Some x → (slice_get xs number ≡ Some x) ⊎ ((number ≡ length xs) × (last ≡ x))

@@ -7,19 +7,19 @@ use Rattle.tac_ir.specs.declared.register.FunctionId.{FunctionId}
 use Rattle.tac_ir.specs.Views.{tac_of}
 use Rattle.heap_graph.specs.Graphs.{Node, Graph}
 use Rattle.heap_graph.specs.Merging.{GraphMap, Maps}
-use Rattle.graph_steps.specs.Leading.{Leads}
-use Rattle.call_copies.specs.Telling.{ArrayTold, ArraysTold, OnlyAsked}
-use Rattle.group_rounds.specs.Growing.{OnlyFlagsGrow, GetsArray, OnlyArrays}
-use Rattle.group_rounds.specs.Sizes.{AsksOwner}
-use Rattle.group_rounds.specs.Rounds.{Settled}
-use Rattle.group_rounds.proofs.ArraySteps.{asked_still}
-use Rattle.group_crossings.specs.declared.before.Crossings.{Crossings}
-use Rattle.group_crossings.specs.Before.{GraphsBefore}
-use Rattle.group_crossings.specs.Asking.{AsksCall}
-use Rattle.group_crossings.specs.Crossings.{owners_in}
-use Rattle.group_crossings.specs.CallSteps.{AllLead}
-use Rattle.group_crossings.proofs.AskedCalls.{calls_asked}
-use Rattle.assembled_groups.specs.Assembled.{IsWanted, AsksArray}
+use Rattle.graph_unification.specs.Leading.{Leads}
+use Rattle.dsa_inlining.specs.CallCopies.Telling.{ArrayTold, ArraysTold, OnlyAsked}
+use Rattle.dsa_local.specs.Growing.{OnlyFlagsGrow, GetsArray, OnlyArrays}
+use Rattle.dsa_local.specs.Sizes.{AsksOwner}
+use Rattle.dsa_local.specs.Rounds.{Settled}
+use Rattle.dsa_local.proofs.ArraySteps.{asked_still}
+use Rattle.dsa_inlining.specs.declared.before.Crossings.{Crossings}
+use Rattle.dsa_inlining.specs.Before.{GraphsBefore}
+use Rattle.dsa_inlining.specs.Asking.{AsksCall}
+use Rattle.dsa_inlining.specs.Crossings.{owners_in}
+use Rattle.dsa_inlining.specs.CallSteps.{AllLead}
+use Rattle.dsa_inlining.proofs.AskedCalls.{calls_asked}
+use Rattle.dsa_bottom_up.specs.Assembled.{IsWanted, AsksArray}
 
 -- the graph goes on from the one that was begun, on the way to each such other graph
 abbrev pub LeadsWanted : GraphsBefore → Option ℕ → List (Option FunctionId) → List Crossings → Graph → Graph → Type 0

@@ -6,30 +6,30 @@ use Rattle.std.proofs.lemmas.Option.{none-some, slice_get-map, slice_get_read, g
 use Rattle.tac_ir.specs.declared.register.FunctionId.{FunctionId}
 use Rattle.tac_ir.specs.States.{InFunction}
 use Rattle.tac_ir.specs.Views.{tac_of, function_in}
-use Rattle.call_targets.specs.ClassLists.{numbers_of}
-use Rattle.graph_rows.proofs.Lists.{some_at}
+use Rattle.call_graph.specs.ClassLists.{numbers_of}
+use Rattle.call_graph.proofs.RowLists.{some_at}
 use Rattle.heap_graph.specs.Graphs.{Target, Node, Name, OfGlobal, OfLiteral, Graph, there, node_at, edge_in}
 use Rattle.heap_graph.specs.Targets.{has_target, implies, is_collapsed}
 use Rattle.heap_graph.specs.Escaping.{Reaches, here, along, Escapes}
 use Rattle.heap_graph.specs.Closed.{Family, GraphClosed, graph_of, group_from, group_of, is_in, is_slot, of_group}
 use Rattle.heap_graph.proofs.MapsCompose.{at_there}
-use Rattle.frozen_graphs.specs.Frozen.{bare, optional_node}
-use Rattle.program_graphs.specs.declared.program.ProgramGraphs.{ProgramGraphs}
-use Rattle.program_graphs.specs.Shows.{ShowsGraph, ShowsNames}
-use Rattle.program_graphs.proofs.Showing.{shown_node}
-use Rattle.program_graphs.proofs.GroupNumbers.{is_then_in, own_number}
-use Rattle.function_groups.specs.GroupViews.{lists_of, groups_of, IsOf}
-use Rattle.group_crossings.specs.declared.before.Before.{Before}
-use Rattle.group_crossings.specs.Before.{GraphsBefore, IsReached, graphs_before, is_inside}
-use Rattle.group_statics.specs.Groups.{HaveStatics}
-use Rattle.group_crossings.specs.Live.{AreLive}
-use Rattle.group_crossings.specs.Crossings.{owners_in}
-use Rattle.group_counts.specs.Counting.{total, group_count, start_count}
-use Rattle.group_counts.specs.Tallies.{IsKnown}
-use Rattle.group_counts.specs.Sums.{outside_of, graph_at, graph_before, told_in, is_told}
-use Rattle.assembled_groups.specs.Making.{IsGrouped, family_at, BeginsWith, IsMaking}
-use Rattle.assembled_groups.proofs.Growing.{begins_shows}
-use Rattle.assembled_groups.proofs.Members.{inside_is}
+use Rattle.heap_graph.specs.Frozen.{bare, optional_node}
+use Rattle.heap_graph.specs.declared.program.ProgramGraphs.{ProgramGraphs}
+use Rattle.heap_graph.specs.Shows.{ShowsGraph, ShowsNames}
+use Rattle.heap_graph.proofs.Showing.{shown_node}
+use Rattle.heap_graph.proofs.GroupNumbers.{is_then_in, own_number}
+use Rattle.call_graph.specs.GroupViews.{lists_of, groups_of, IsOf}
+use Rattle.dsa_inlining.specs.declared.before.Before.{Before}
+use Rattle.dsa_inlining.specs.Before.{GraphsBefore, IsReached, graphs_before, is_inside}
+use Rattle.dsa_inlining.specs.GroupStatics.Groups.{HaveStatics}
+use Rattle.dsa_inlining.specs.Live.{AreLive}
+use Rattle.dsa_inlining.specs.Crossings.{owners_in}
+use Rattle.dsa_inlining.specs.Counting.{total, group_count, start_count}
+use Rattle.dsa_inlining.specs.Tallies.{IsKnown}
+use Rattle.dsa_inlining.specs.Sums.{outside_of, graph_at, graph_before, told_in, is_told}
+use Rattle.dsa_bottom_up.specs.AssembledGroups.Making.{IsGrouped, family_at, BeginsWith, IsMaking}
+use Rattle.dsa_bottom_up.proofs.Growing.{begins_shows}
+use Rattle.dsa_bottom_up.proofs.Members.{inside_is}
 use Rattle.dsa_bottom_up.specs.Making.{AreKeptBelow}
 use Rattle.dsa_bottom_up.specs.Refused.{AreEscaping, IsOutsideOf, GroupCounts, StartCounts}
 

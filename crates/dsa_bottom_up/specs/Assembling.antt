@@ -1,13 +1,13 @@
 -- What is told of the functions of a group.
 use Rattle.std.specs.Prelude.{◌≡◌, ℕ, List, map, slice_get, Contains, Some}
 use Rattle.heap_graph.specs.Graphs.{Graph}
-use Rattle.frozen_graphs.specs.declared.frozen.FrozenGraph.{FrozenGraph}
-use Rattle.frozen_graphs.specs.declared.frozen.FunctionNames.{FunctionNames}
-use Rattle.program_graphs.specs.declared.program.FunctionGraph.{FunctionGraph}
-use Rattle.group_statics.specs.Groups.{IsBase}
-use Rattle.group_crossings.specs.declared.before.Crossings.{Crossings}
-use Rattle.group_crossings.specs.Before.{GraphsBefore}
-use Rattle.group_crossings.specs.Crossings.{TellsCrossings}
+use Rattle.heap_graph.specs.declared.frozen.FrozenGraph.{FrozenGraph}
+use Rattle.heap_graph.specs.declared.frozen.FunctionNames.{FunctionNames}
+use Rattle.heap_graph.specs.declared.program.FunctionGraph.{FunctionGraph}
+use Rattle.dsa_inlining.specs.GroupStatics.Groups.{IsBase}
+use Rattle.dsa_inlining.specs.declared.before.Crossings.{Crossings}
+use Rattle.dsa_inlining.specs.Before.{GraphsBefore}
+use Rattle.dsa_inlining.specs.Crossings.{TellsCrossings}
 
 -- the functions have these names, and of each call it is told where the copies are
 pub record TellEach (graph : Graph) (names : List FunctionNames) (crossings : List Crossings) (functions : List FunctionGraph) : Type 0 where

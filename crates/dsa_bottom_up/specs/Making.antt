@@ -2,15 +2,15 @@
 use Rattle.std.specs.Prelude.{◌≡◌, ℕ, ◌≤◌, false, List, [], length, slice_get, Some}
 use Rattle.tac_ir.specs.declared.program.Tac as memory_tac
 use Rattle.tac_ir.specs.declared.register.FunctionId.{FunctionId}
-use Rattle.frozen_graphs.specs.declared.frozen.FrozenGraph.{FrozenGraph}
-use Rattle.program_graphs.specs.declared.program.FunctionGraph.{FunctionGraph}
-use Rattle.function_groups.specs.declared.group_lists.Groups.{Groups}
-use Rattle.call_targets.specs.ClassLists.{numbers_of}
-use Rattle.shared_lists.specs.Lists.{rows_in}
-use Rattle.group_statics.specs.Groups.{HaveStatics}
-use Rattle.group_crossings.specs.Before.{GraphsBefore, is_listed, is_live}
-use Rattle.group_crossings.specs.Live.{AreNoneLive, AddsMembers, AreLive}
-use Rattle.assembled_groups.specs.Making.{AreAt, ListsEscaping, SameOthers}
+use Rattle.heap_graph.specs.declared.frozen.FrozenGraph.{FrozenGraph}
+use Rattle.heap_graph.specs.declared.program.FunctionGraph.{FunctionGraph}
+use Rattle.call_graph.specs.declared.group_lists.Groups.{Groups}
+use Rattle.call_graph.specs.ClassLists.{numbers_of}
+use Rattle.call_graph.specs.Lists.{rows_in}
+use Rattle.dsa_inlining.specs.GroupStatics.Groups.{HaveStatics}
+use Rattle.dsa_inlining.specs.Before.{GraphsBefore, is_listed, is_live}
+use Rattle.dsa_inlining.specs.Live.{AreNoneLive, AddsMembers, AreLive}
+use Rattle.dsa_bottom_up.specs.AssembledGroups.Making.{AreAt, ListsEscaping, SameOthers}
 use Rattle.dsa_bottom_up.specs.declared.making.Making.{Making}
 
 abbrev pub made_in : memory_tac.Tac → Groups → Making → GraphsBefore

@@ -6,9 +6,9 @@ use Rattle.heap_graph.specs.Graphs.{Node, OfGlobal, OfLiteral, node_at}
 use Rattle.heap_graph.specs.Targets.{has_target}
 use Rattle.heap_graph.specs.Escaping.{Escapes}
 use Rattle.heap_graph.specs.Closed.{Family, graph_of, group_of, is_in}
-use Rattle.group_crossings.specs.Before.{Rises}
-use Rattle.least_graphs.specs.Below.{ClosedBelow, LeastBelow}
-use Rattle.group_counts.specs.Counting.{total, Outside, group_count, start_count}
+use Rattle.dsa_inlining.specs.Before.{Rises}
+use Rattle.dsa_bottom_up.specs.Below.{ClosedBelow, LeastBelow}
+use Rattle.dsa_inlining.specs.Counting.{total, Outside, group_count, start_count}
 
 -- how many nodes a group may begin with
 abbrev pub limit : ℕ

@@ -3,23 +3,20 @@
 ghost use Rattle.std.specs.Prelude.{◌≡◌, length, All, IfOk};
 ghost use Rattle.tac_ir.specs.Views.{tac_of};
 ghost use Rattle.c_typed.specs.Table.{Interned};
-ghost use Rattle.graph_memory.specs.Memory.{graph_in, IsGraph};
-ghost use Rattle.group_begins.specs.Told.{NoCopies};
-ghost use Rattle.group_rounds.specs.Rounds.{owners_of};
-ghost use Rattle.group_freezing.specs.Owners.{IsFunctionOf};
+ghost use Rattle.graph_unification.specs.Memory.{graph_in, IsGraph};
+ghost use Rattle.dsa_local.specs.Told.{NoCopies};
+ghost use Rattle.dsa_local.specs.Rounds.{owners_of};
+ghost use Rattle.dsa_inlining.specs.Owners.{IsFunctionOf};
 ghost use Rattle.dsa_local.specs.Local.{AreScopes, IsJoinedGroup};
-ghost use Rattle.group_crossings.specs.Before.{graphs_before, is_inside};
-ghost use Rattle.group_crossings.specs.Crossings.{owners_in, AllReached, IsKnown};
-ghost use Rattle.assembled_groups.specs.Assembled.{IsAssembled};
+ghost use Rattle.dsa_inlining.specs.Before.{graphs_before, is_inside};
+ghost use Rattle.dsa_inlining.specs.Crossings.{owners_in, AllReached, IsKnown};
+ghost use Rattle.dsa_bottom_up.specs.Assembled.{IsAssembled};
 ghost use Rattle.dsa_bottom_up.specs.Assembling.{HasBases, TellEach};
 
-use dsa_local::LocalGraph;
-use frozen_graphs::{FrozenGraph, FunctionNames};
-use graph_memory::Graph;
-use group_crossings::{Before, Crossings, JoinedCalls, frozen_crossings};
-use group_freezing::{Frozen, freeze_group};
-use group_rounds::{settle, tell_sizes};
-use program_graphs::FunctionGraph;
+use dsa_inlining::{Before, Crossings, Frozen, JoinedCalls, freeze_group, frozen_crossings};
+use dsa_local::{LocalGraph, settle, tell_sizes};
+use graph_unification::Graph;
+use heap_graph::{FrozenGraph, FunctionGraph, FunctionNames};
 use std::alloc::{AllocError, Global};
 use tac_ir::FunctionId;
 

@@ -1,18 +1,18 @@
 // How many nodes groups begin with.
 
 ghost use Rattle.std.specs.Prelude.{◌≡◌, ◌<◌, ◌≤◌, ℕ, length, get_or, Err, IfOk, OnOk};
-ghost use Rattle.call_targets.specs.ClassLists.{numbers_of};
-ghost use Rattle.group_counts.specs.Counting.{total};
-ghost use Rattle.program_graphs.specs.declared.program.ProgramGraphs as memory;
-ghost use Rattle.function_groups.specs.GroupViews.{groups_of};
-ghost use Rattle.assembled_groups.specs.Making.{IsGrouped, family_at, BeginsWith, IsMaking};
+ghost use Rattle.call_graph.specs.ClassLists.{numbers_of};
+ghost use Rattle.dsa_inlining.specs.Counting.{total};
+ghost use Rattle.heap_graph.specs.declared.program.ProgramGraphs as memory;
+ghost use Rattle.call_graph.specs.GroupViews.{groups_of};
+ghost use Rattle.dsa_bottom_up.specs.AssembledGroups.Making.{IsGrouped, family_at, BeginsWith, IsMaking};
 ghost use Rattle.dsa_bottom_up.specs.Making.{made_in, AreKeptBelow};
 ghost use Rattle.dsa_bottom_up.specs.Refused.{limit, GroupCounts, StartCounts};
 
 use crate::making::{Making, owners_of};
 use crate::program::{Counts, GraphErr};
-use function_groups::Groups;
-use group_counts::{group_count, start_count};
+use call_graph::Groups;
+use dsa_inlining::{group_count, start_count};
 use std::alloc::{AllocError, Global};
 use tac_ir::{FunctionId, Tac};
 

@@ -2,20 +2,20 @@
 
 ghost use Rattle.std.specs.Prelude.{◌≡◌, ◌≤◌, ℕ, length, Err, IfOk};
 ghost use Rattle.tac_ir.specs.Views.{tac_of};
-ghost use Rattle.function_groups.specs.GroupViews.{groups_of};
+ghost use Rattle.call_graph.specs.GroupViews.{groups_of};
 ghost use Rattle.heap_graph.specs.Closed.{Closed};
 ghost use Rattle.heap_graph.specs.Least.{Least};
-ghost use Rattle.program_graphs.specs.Programs.{family_in};
-ghost use Rattle.assembled_groups.specs.Making.{IsGrouped};
-ghost use Rattle.least_graphs.specs.Smallest.{IsSmallest};
-ghost use Rattle.dsa_bottom_up.specs.Ascending.{GraphsAscend};
-ghost use Rattle.least_graphs.specs.Below.{LeastBelow};
+ghost use Rattle.heap_graph.specs.Programs.{family_in};
+ghost use Rattle.dsa_bottom_up.specs.AssembledGroups.Making.{IsGrouped};
+ghost use Rattle.dsa_bottom_up.specs.Smallest.{IsSmallest};
+ghost use Rattle.heap_graph.specs.Ascending.{GraphsAscend};
+ghost use Rattle.dsa_bottom_up.specs.Below.{LeastBelow};
 ghost use Rattle.dsa_bottom_up.specs.Refused.{limit, AreFew, StartCounts, IsRefused};
 
 use crate::making::Making;
-use function_groups::Groups;
-use inner_calls::CalledClasses;
-use program_graphs::ProgramGraphs;
+use call_graph::Groups;
+use dsa_local::CalledClasses;
+use heap_graph::ProgramGraphs;
 use std::alloc::{AllocError, Global};
 use tac_ir::Tac;
 use thiserror::Error;

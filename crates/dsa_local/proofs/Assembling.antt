@@ -5,16 +5,16 @@ use Rattle.std.proofs.lemmas.Option.{slice_get_within}
 use Rattle.heap_graph.specs.Graphs.{Graph}
 use Rattle.heap_graph.specs.Structures.{AreMade}
 use Rattle.heap_graph.specs.Merging.{IsSound}
-use Rattle.graph_rows.proofs.Lists.{has_at, at_has}
-use Rattle.function_groups.specs.GroupViews.{groups_of, IsOf}
-use Rattle.made_graphs.specs.Going.{AllNamed}
-use Rattle.group_begins.specs.Told.{NamesTold}
-use Rattle.group_begins.proofs.Kept.{told_kept}
-use Rattle.inner_calls.specs.declared.members.Group.{Group}
-use Rattle.inner_calls.specs.Joined.{Joins, CallsJoined, ClassesJoined}
-use Rattle.inner_calls.specs.Members.{code_of, is_inside}
-use Rattle.inner_calls.proofs.Joining.{Below, AtEach, joins_for}
-use Rattle.inner_calls.proofs.Kept.{classes_joined_kept}
+use Rattle.call_graph.proofs.RowLists.{has_at, at_has}
+use Rattle.call_graph.specs.GroupViews.{groups_of, IsOf}
+use Rattle.graph_unification.specs.Going.{AllNamed}
+use Rattle.dsa_local.specs.Told.{NamesTold}
+use Rattle.dsa_local.proofs.GroupBegins.Kept.{told_kept}
+use Rattle.dsa_local.specs.declared.members.Group.{Group}
+use Rattle.dsa_local.specs.Joined.{Joins, CallsJoined, ClassesJoined}
+use Rattle.dsa_local.specs.Members.{code_of, is_inside}
+use Rattle.dsa_local.proofs.Joining.{Below, AtEach, joins_for}
+use Rattle.dsa_local.proofs.InnerCalls.Kept.{classes_joined_kept}
 use Rattle.dsa_local.specs.Local.{owners_at, AllCallsJoined, IsJoinedGroup}
 use Rattle.dsa_local.proofs.Owning.{inside_has}
 

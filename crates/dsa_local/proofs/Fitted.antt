@@ -8,14 +8,14 @@ use Rattle.tac_ir.specs.States.{Owner, InStart, InFunction, function_of, points_
 use Rattle.tac_ir.specs.Views.{tac_of}
 use Rattle.heap_graph.specs.Graphs.{Graph}
 use Rattle.heap_graph.specs.Escaping.{same_owner}
-use Rattle.function_scopes.specs.declared.scope.Scope.{Scope}
-use Rattle.function_scopes.specs.Known.{owner_at}
-use Rattle.graph_points.specs.Fits.{AllFit}
-use Rattle.graph_premises.specs.Standing.{CodeStands}
-use Rattle.graph_premises.proofs.Fitting.{code_fits}
-use Rattle.group_begins.specs.Mentioned.{is_among}
-use Rattle.group_begins.specs.Told.{NamesTold}
-use Rattle.group_rounds.specs.Rounds.{owners_of, IsFit, AreFit}
+use Rattle.heap_graph.specs.declared.scope.Scope.{Scope}
+use Rattle.heap_graph.specs.Known.{owner_at}
+use Rattle.graph_unification.specs.Fits.{AllFit}
+use Rattle.graph_unification.specs.Standing.{CodeStands}
+use Rattle.graph_unification.proofs.Fitting.{code_fits}
+use Rattle.dsa_local.specs.Mentioned.{is_among}
+use Rattle.dsa_local.specs.Told.{NamesTold}
+use Rattle.dsa_local.specs.Rounds.{owners_of, IsFit, AreFit}
 use Rattle.dsa_local.specs.Local.{AreScopes}
 
 same_itself : (owner : Owner) → same_owner owner owner ≡ true

@@ -7,12 +7,12 @@ use Rattle.heap_graph.specs.Graphs.{Target, Name, OfCopy, Graph}
 use Rattle.heap_graph.specs.Targets.{has_target}
 use Rattle.heap_graph.specs.Structures.{AreMade}
 use Rattle.heap_graph.specs.Merging.{IsSound}
-use Rattle.made_graphs.specs.Going.{GoesOn}
-use Rattle.group_begins.specs.Mentioned.{is_among}
-use Rattle.group_begins.specs.Told.{NamesTold, NoCopies, SameNames}
-use Rattle.group_begins.proofs.Kept.{told_kept}
-use Rattle.inner_calls.specs.Joined.{AllHaveOwn}
-use Rattle.inner_calls.proofs.Kept.{calls_joined_kept, classes_joined_kept}
+use Rattle.graph_unification.specs.Going.{GoesOn}
+use Rattle.dsa_local.specs.Mentioned.{is_among}
+use Rattle.dsa_local.specs.Told.{NamesTold, NoCopies, SameNames}
+use Rattle.dsa_local.proofs.GroupBegins.Kept.{told_kept}
+use Rattle.dsa_local.specs.Joined.{AllHaveOwn}
+use Rattle.dsa_local.proofs.InnerCalls.Kept.{calls_joined_kept, classes_joined_kept}
 use Rattle.dsa_local.specs.Local.{IsJoinedGroup}
 
 -- the same names have targets

@@ -3,14 +3,14 @@ use Rattle.std.proofs.Common.{◌≡◌, ℕ, Bool, List, Some}
 use Rattle.std.specs.Prelude.{slice_get}
 use Rattle.tac_ir.specs.Code.{Tac}
 use Rattle.tac_ir.specs.States.{Owner}
-use Rattle.call_groups.specs.Groups.{AreGroups}
+use Rattle.tac_ir.specs.Groups.{AreGroups}
 use Rattle.heap_graph.specs.Graphs.{Graph}
-use Rattle.function_groups.specs.GroupViews.{groups_of, IsOf}
-use Rattle.group_begins.specs.Beginning.{Begins}
-use Rattle.group_begins.proofs.Leading.{group_fits, begins_leads}
-use Rattle.inner_calls.specs.declared.members.Group.{Group}
-use Rattle.inner_calls.specs.Joined.{Joins, ClassesJoined}
-use Rattle.inner_calls.specs.Members.{code_of, is_inside}
+use Rattle.call_graph.specs.GroupViews.{groups_of, IsOf}
+use Rattle.dsa_local.specs.Beginning.{Begins}
+use Rattle.dsa_local.proofs.GroupBegins.Leading.{group_fits, begins_leads}
+use Rattle.dsa_local.specs.declared.members.Group.{Group}
+use Rattle.dsa_local.specs.Joined.{Joins, ClassesJoined}
+use Rattle.dsa_local.specs.Members.{code_of, is_inside}
 use Rattle.dsa_local.specs.Local.{AllCallsJoined, LeadsJoined}
 use Rattle.dsa_local.proofs.Owning.{has_inside}
 

@@ -5,15 +5,15 @@ use Rattle.std.proofs.lemmas.List.{length-map}
 use Rattle.std.proofs.lemmas.Option.{same_Some, slice_get-get_or, get_or_from_slice_get}
 use Rattle.tac_ir.specs.States.{InFunction}
 use Rattle.tac_ir.specs.Views.{function_in}
-use Rattle.call_groups.specs.Groups.{IsIn, AreGroups}
-use Rattle.graph_rows.specs.Lists.{Has}
+use Rattle.tac_ir.specs.Groups.{IsIn, AreGroups}
+use Rattle.call_graph.specs.RowLists.{Has}
 use Rattle.heap_graph.specs.Closed.{is_in}
-use Rattle.function_groups.specs.GroupViews.{groups_of, IsOf}
-use Rattle.program_graphs.proofs.GroupNumbers.{in_is, is_then_in, stands, among_at}
-use Rattle.group_begins.specs.Mentioned.{is_among}
-use Rattle.inner_calls.specs.declared.members.Group.{Group}
-use Rattle.inner_calls.specs.Members.{code_of, is_inside}
-use Rattle.inner_calls.proofs.Inside.{in_list, listed_inside}
+use Rattle.call_graph.specs.GroupViews.{groups_of, IsOf}
+use Rattle.heap_graph.proofs.GroupNumbers.{in_is, is_then_in, stands, among_at}
+use Rattle.dsa_local.specs.Mentioned.{is_among}
+use Rattle.dsa_local.specs.declared.members.Group.{Group}
+use Rattle.dsa_local.specs.Members.{code_of, is_inside}
+use Rattle.dsa_local.proofs.Inside.{in_list, listed_inside}
 use Rattle.dsa_local.specs.Local.{owners_in, owners_at}
 
 -- ---- what stands in lists

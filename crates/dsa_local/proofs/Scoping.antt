@@ -4,7 +4,7 @@ use Rattle.std.specs.Prelude.{slice_get}
 use Rattle.std.specs.List.{list_any}
 use Rattle.std.proofs.lemmas.List.{map-append}
 use Rattle.std.proofs.lemmas.Option.{slice_get-map, slice_get-get_or}
-use Rattle.graph_rows.proofs.Lists.{read_take}
+use Rattle.call_graph.proofs.RowLists.{read_take}
 use Rattle.tac_ir.specs.declared.program.Tac as memory_tac
 use Rattle.tac_ir.specs.declared.program.Function as memory_function
 use Rattle.tac_ir.specs.declared.register.FunctionId.{FunctionId}
@@ -12,9 +12,9 @@ use Rattle.tac_ir.specs.Objects.{own_type}
 use Rattle.tac_ir.specs.States.{Owner, function_of, points_of, objects_of}
 use Rattle.tac_ir.specs.Views.{function_in, tac_of}
 use Rattle.heap_graph.specs.Points.{makes_null, type_of_inner}
-use Rattle.call_targets.specs.ClassLists.{numbers_of}
-use Rattle.function_scopes.specs.declared.scope.Scope.{Scope}
-use Rattle.function_scopes.specs.Known.{owner_at, Describes}
+use Rattle.call_graph.specs.ClassLists.{numbers_of}
+use Rattle.heap_graph.specs.declared.scope.Scope.{Scope}
+use Rattle.heap_graph.specs.Known.{owner_at, Describes}
 use Rattle.dsa_local.specs.Local.{IsScope}
 
 pub scope_told : (tac : memory_tac.Tac) (owner : Owner) (function : memory_function.Function) (scope : Scope) → function_of (tac_of tac) owner ≡ Some (function_in tac.types function) → owner_at scope.owner ≡ owner

@@ -1,1 +1,16 @@
+pub mod Beginning
+pub mod Called
+pub mod FirstTold
+pub mod Growing
+pub mod Joined
+pub mod Keeping
 pub mod Local
+pub mod Members
+pub mod Mentioned
+pub mod Moved
+pub mod Roots
+pub mod Rounds
+pub mod Shown
+pub mod Sizes
+pub mod Storing
+pub mod Told

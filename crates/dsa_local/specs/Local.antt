@@ -12,15 +12,15 @@ use Rattle.tac_ir.specs.Views.{tac_of}
 use Rattle.heap_graph.specs.Graphs.{Graph}
 use Rattle.heap_graph.specs.Merging.{GraphMap, Maps}
 use Rattle.heap_graph.specs.Points.{is_null, type_of_inner}
-use Rattle.function_groups.specs.declared.group_lists.Groups.{Groups}
-use Rattle.function_scopes.specs.declared.scope.Scope.{Scope}
-use Rattle.function_scopes.specs.Known.{is_marked, local_type, owner_at}
-use Rattle.graph_rows.specs.Lists.{Has}
-use Rattle.made_graphs.specs.Going.{AllNamed}
-use Rattle.group_begins.specs.Told.{NamesTold, NoCopies, GroupFits}
-use Rattle.inner_calls.specs.Joined.{CallsJoined, ClassesJoined}
-use Rattle.inner_calls.specs.Members.{is_numbered}
-use Rattle.group_rounds.specs.Rounds.{Settled}
+use Rattle.call_graph.specs.declared.group_lists.Groups.{Groups}
+use Rattle.heap_graph.specs.declared.scope.Scope.{Scope}
+use Rattle.heap_graph.specs.Known.{is_marked, local_type, owner_at}
+use Rattle.call_graph.specs.RowLists.{Has}
+use Rattle.graph_unification.specs.Going.{AllNamed}
+use Rattle.dsa_local.specs.Told.{NamesTold, NoCopies, GroupFits}
+use Rattle.dsa_local.specs.Joined.{CallsJoined, ClassesJoined}
+use Rattle.dsa_local.specs.Members.{is_numbered}
+use Rattle.dsa_local.specs.Rounds.{Settled}
 
 -- ---- functions of a group
 

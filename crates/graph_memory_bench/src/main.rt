@@ -7,10 +7,10 @@
 ghost use Rattle.std.specs.Prelude.{IfOk, OnOk};
 ghost use Rattle.c_typed.specs.Table.{structs_in};
 ghost use Rattle.heap_graph.specs.Structures.{AreMade};
-ghost use Rattle.graph_memory.specs.Memory.{IsGraph};
+ghost use Rattle.graph_unification.specs.Memory.{IsGraph};
 
 use c_typed::TypeTable;
-use graph_memory::{Graph, Name};
+use graph_unification::{Graph, Name};
 use heap_graph::{Element, Flags, Target};
 use std::alloc::{AllocError, Global};
 use std::io::{self, BufRead, BufReader, BufWriter, Write};

@@ -4,11 +4,11 @@ use Rattle.std.specs.Prelude.{slice_get}
 use Rattle.std.proofs.lemmas.List.{drop_more, drop_all}
 use Rattle.c_typed.specs.Table.{Interned}
 use Rattle.tac_ir.specs.declared.register.FunctionId.{FunctionId}
-use Rattle.frozen_graphs.specs.declared.frozen.Node.{Node}
-use Rattle.program_graphs.specs.declared.program.ProgramGraphs.{ProgramGraphs}
-use Rattle.node_order.specs.declared.order.NodeOrder.{NodeOrder}
-use Rattle.node_order.specs.Orders.{number_in, number_of, Visited, IsOrderOf}
-use Rattle.graph_text.specs.declared.labels.Labels.{Labels}
+use Rattle.heap_graph.specs.declared.frozen.Node.{Node}
+use Rattle.heap_graph.specs.declared.program.ProgramGraphs.{ProgramGraphs}
+use Rattle.heap_graph.specs.declared.order.NodeOrder.{NodeOrder}
+use Rattle.heap_graph.specs.Orders.{number_in, number_of, Visited, IsOrderOf}
+use Rattle.graph_text.specs.declared.function_labels.Labels.{Labels}
 use Rattle.graph_text.specs.declared.names.Named.{Named}
 use Rattle.graph_text.specs.declared.names.Owner.TheVariants as O
 use Rattle.graph_text.specs.Names.{own_names}

@@ -14,7 +14,7 @@ use Rattle.std.proofs.lemmas.Map.Keys.{IsDistinct-IsPermutation, IsStrictlyIncre
 use Rattle.std.proofs.lemmas.Map.Views.{Contains-keys_from_lookup}
 use Rattle.indexmap.specs.IndexMap.{IndexMap, IsUnique, keys}
 use Rattle.heap_graph.specs.declared.graph.Target.{Target}
-use Rattle.frozen_graphs.specs.declared.frozen.FrozenGraph.{FrozenGraph}
+use Rattle.heap_graph.specs.declared.frozen.FrozenGraph.{FrozenGraph}
 use Rattle.graph_text.specs.declared.names.Named.{Named}
 use Rattle.graph_text.specs.declared.names.Name.TheVariants as N
 use Rattle.graph_text.specs.Names.{AreStatics, AddsStatics, static_names}

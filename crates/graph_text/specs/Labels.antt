@@ -1,8 +1,8 @@
 -- What things of a program are called in the text of its graphs. A name that is missing is empty, a number 0.
 use Rattle.std.specs.Prelude.{◌≡◌, ℕ, List, [], Vec, get_or, slice_get, Option, Some, None, codes}
 use Rattle.std.specs.Borrow.{Bor}
-use Rattle.graph_text.specs.declared.labels.FunctionLabels.{FunctionLabels}
-use Rattle.graph_text.specs.declared.labels.Labels.{Labels}
+use Rattle.graph_text.specs.declared.function_labels.FunctionLabels.{FunctionLabels}
+use Rattle.graph_text.specs.declared.function_labels.Labels.{Labels}
 use Rattle.graph_text.specs.declared.names.Owner.{Owner}
 use Rattle.graph_text.specs.declared.names.Owner.TheVariants as O
 

@@ -4,8 +4,8 @@ use Rattle.std.specs.List.Sorted.{IsStrictlyIncreasing}
 use Rattle.indexmap.specs.IndexMap.{IndexMap, get_by}
 use Rattle.tac_ir.specs.declared.register.FunctionId.{FunctionId}
 use Rattle.heap_graph.specs.declared.graph.Target.{Target}
-use Rattle.frozen_graphs.specs.declared.frozen.FunctionNames.{FunctionNames}
-use Rattle.program_graphs.specs.declared.program.FunctionGraph.{FunctionGraph}
+use Rattle.heap_graph.specs.declared.frozen.FunctionNames.{FunctionNames}
+use Rattle.heap_graph.specs.declared.program.FunctionGraph.{FunctionGraph}
 use Rattle.graph_text.specs.declared.names.Owner.{Owner}
 use Rattle.graph_text.specs.declared.names.Owner.TheVariants as O
 use Rattle.graph_text.specs.declared.names.Kind.{Kind}

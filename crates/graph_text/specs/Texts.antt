@@ -6,16 +6,16 @@ use Rattle.tac_ir.specs.declared.program.Tac.{Tac}
 use Rattle.tac_ir.specs.declared.register.FunctionId.{FunctionId}
 use Rattle.heap_graph.specs.Memory.{element_in}
 use Rattle.heap_graph.specs.declared.graph.Target.{Target}
-use Rattle.frozen_graphs.specs.Frozen.{node_there}
-use Rattle.frozen_graphs.specs.declared.frozen.Edge.{Edge}
-use Rattle.frozen_graphs.specs.declared.frozen.Node.{Node}
-use Rattle.frozen_graphs.specs.declared.frozen.FrozenGraph.{FrozenGraph}
-use Rattle.function_groups.specs.declared.group_lists.Groups.{Groups}
-use Rattle.program_graphs.specs.declared.program.FunctionGraph.{FunctionGraph}
-use Rattle.program_graphs.specs.declared.program.ProgramGraphs.{ProgramGraphs}
-use Rattle.node_text.specs.Parts.{element_text, flags_text}
-use Rattle.node_order.specs.Orders.{by_slot, number_in, Visited}
-use Rattle.graph_text.specs.declared.labels.Labels.{Labels}
+use Rattle.heap_graph.specs.Frozen.{node_there}
+use Rattle.heap_graph.specs.declared.frozen.Edge.{Edge}
+use Rattle.heap_graph.specs.declared.frozen.Node.{Node}
+use Rattle.heap_graph.specs.declared.frozen.FrozenGraph.{FrozenGraph}
+use Rattle.call_graph.specs.declared.group_lists.Groups.{Groups}
+use Rattle.heap_graph.specs.declared.program.FunctionGraph.{FunctionGraph}
+use Rattle.heap_graph.specs.declared.program.ProgramGraphs.{ProgramGraphs}
+use Rattle.graph_text.specs.Parts.{element_text, flags_text}
+use Rattle.heap_graph.specs.Orders.{by_slot, number_in, Visited}
+use Rattle.graph_text.specs.declared.function_labels.Labels.{Labels}
 use Rattle.graph_text.specs.declared.names.Owner.{Owner}
 use Rattle.graph_text.specs.declared.names.Owner.TheVariants as O
 use Rattle.graph_text.specs.declared.names.Kind.{Kind}

@@ -1,20 +1,18 @@
 // The text of all graphs of a program.
 
 ghost use Rattle.std.specs.Prelude.{◌≡◌, ◌++◌, ℕ, [], Some, map, slice_get, IfOk, OnOk};
-ghost use Rattle.frozen_graphs.specs.declared.frozen.FrozenGraph.{FrozenGraph as Graph};
-ghost use Rattle.node_order.specs.Orders.{EdgesAscend};
+ghost use Rattle.heap_graph.specs.declared.frozen.FrozenGraph.{FrozenGraph as Graph};
+ghost use Rattle.heap_graph.specs.Orders.{EdgesAscend};
 ghost use Rattle.graph_text.specs.Names.{member_names, names_if, own_names};
 ghost use Rattle.graph_text.specs.declared.names.Owner.TheVariants as O;
 ghost use Rattle.graph_text.specs.Texts.{members_text, group_heading, start_heading, AppendsLines, AppendsGraph, AppendsGroup, AppendsGroups, AreNames, GraphIs, FunctionIs, GraphText};
 
-use crate::labels::Labels;
+use crate::function_labels::Labels;
 use crate::lines::{put_names, put_nodes};
 use crate::names::{Named, Owner, add_function, add_globals, add_literals};
 use c_typed::TypeTable;
-use frozen_graphs::FrozenGraph;
-use function_groups::Groups;
-use node_order::ordered;
-use program_graphs::{FunctionGraph, ProgramGraphs};
+use call_graph::Groups;
+use heap_graph::{FrozenGraph, FunctionGraph, ProgramGraphs, ordered};
 use std::alloc::{AllocError, Global};
 use tac_ir::{FunctionId, Tac};
 

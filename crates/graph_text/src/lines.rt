@@ -1,16 +1,16 @@
 // The lines of names and of nodes.
 
 ghost use Rattle.std.specs.Prelude.{◌≡◌, ◌++◌, OnOk};
-ghost use Rattle.node_order.specs.Orders.{number_of, by_slot, EdgesAscend, SlotsAscend};
+ghost use Rattle.heap_graph.specs.Orders.{number_of, by_slot, EdgesAscend, SlotsAscend};
 ghost use Rattle.graph_text.specs.Texts.{target_text, name_text, own_text, name_line, name_lines, edge_text, edges_text, node_line, node_lines};
 
-use crate::labels::{Labels, put_label};
+use crate::element::put_element;
+use crate::flags::put_flags;
+use crate::function_labels::{Labels, put_label};
 use crate::names::{Kind, Name, Named, Owner};
+use crate::number::put_number;
 use c_typed::TypeTable;
-use frozen_graphs::{Edge, FrozenGraph, Node};
-use heap_graph::Target;
-use node_order::NodeOrder;
-use node_text::{put_element, put_flags, put_number};
+use heap_graph::{Edge, FrozenGraph, Node, NodeOrder, Target};
 use std::alloc::AllocError;
 
 /// Appends the lines of names.

@@ -5,8 +5,7 @@ ghost use Rattle.indexmap.specs.IndexMap.{keys, IsUnique};
 ghost use Rattle.graph_text.specs.Names.{named_if, target_at, numbered_names, local_name, local_names, own_names, AreStatics, AddsStatics};
 ghost use Rattle.graph_text.specs.declared.names.Name.TheVariants as N;
 
-use frozen_graphs::FunctionNames;
-use heap_graph::Target;
+use heap_graph::{FunctionNames, Target};
 use indexmap::IndexMap;
 use std::alloc::{AllocError, Global};
 

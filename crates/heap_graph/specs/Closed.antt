@@ -16,7 +16,7 @@ use Rattle.tac_ir.specs.Code.{AtGlobal, AtLiteral, Base, Callee, Through, Op, Lo
 use Rattle.tac_ir.specs.Values.{same_local}
 use Rattle.tac_ir.specs.First.{named_global, placed_literal}
 use Rattle.tac_ir.specs.States.{Owner, InStart, InFunction, function_of}
-use Rattle.call_groups.specs.Targets.{is_target}
+use Rattle.tac_ir.specs.Targets.{is_target}
 use Rattle.heap_graph.specs.Graphs.{Target, Flags, Edge, Node, Name, OfRegister, OfResult, OfObject, OfGlobal, OfLiteral, OfCopy, Graph, Crossing, Embedding, ProgramGraphs, edge_in, node_at}
 use Rattle.heap_graph.specs.Targets.{same_target, has_target, at_target, is_collapsed, shifted, edge_at, holds_part, is_array, elements_of, implies, types_differ, flags_kept, element_kept}
 use Rattle.heap_graph.specs.Targets as T

@@ -6,7 +6,7 @@ use Rattle.std.proofs.Math.Nat.{mod-eq_of_lt}
 use Rattle.byteorder.specs.Endian.{little_from, little_bytes, little_number}
 use Rattle.byteorder.specs.Numbers.{length-bytes_low_first}
 use Rattle.raw_slab.specs.declared.RawSlab.{RawSlab}
-use Rattle.raw_slab.specs.Words.{zeros, word_at, with_word}
+use Rattle.run_theory.specs.Words.{zeros, word_at, with_word}
 use Rattle.raw_slab.proofs.WordsWritten.{length-with_word}
 use Rattle.slab_space.proofs.Pieces.{length-flat, flat_parts, flat_parts-set, length-before}
 use Rattle.slab_space.proofs.WordsInside.{word_at-inside, with_word-inside}

@@ -6,7 +6,7 @@ use Rattle.std.specs.Int.{byte_at, bytes_low_first}
 use Rattle.byteorder.specs.Endian.{little_from, little_bytes}
 use Rattle.byteorder.specs.Numbers.{little_from-take, length-bytes_low_first}
 use Rattle.byteorder.proofs.Bytes.{pow256}
-use Rattle.raw_slab.specs.Words.{word_at, with_word}
+use Rattle.run_theory.specs.Words.{word_at, with_word}
 
 little_from-drop : (i n p : ℕ) (xs : List ℕ) → little_from i n (drop p xs) ≡ little_from (p + i) n xs
 little_from-drop i zero p xs = refl

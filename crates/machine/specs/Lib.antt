@@ -1,7 +1,8 @@
-pub mod Pages
-pub mod Regions
-pub mod Steps
 pub mod Heaps
-pub mod Run
 pub mod Loaded
+pub mod Pages
 pub mod Promises
+pub mod Regions
+pub mod Run
+pub mod Steps
+pub mod Words

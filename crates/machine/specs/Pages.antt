@@ -1,7 +1,7 @@
 -- Bytes in pages of 4,096: a page that was never written has no memory, and its bytes are zero.
 use Rattle.std.specs.Prelude.{ℕ, List, Option, Some, None}
 use Rattle.std.specs.List.{flat_map}
-use Rattle.raw_slab.specs.Words.{zeros}
+use Rattle.run_theory.specs.Words.{zeros}
 use Rattle.raw_slab.specs.declared.RawSlab.{RawSlab}
 
 abbrev pub page_bytes : Option RawSlab → List ℕ

@@ -4,11 +4,12 @@ ghost use Rattle.std.specs.Prelude.{◌≡◌, ◌+◌, ◌^◌, ◌<◌};
 ghost use Rattle.pool_isa.specs.Machine.{next_start};
 
 use crate::activation::Activation;
+use crate::bits::converted_word;
 use crate::ends::Step;
+use crate::operators::{binary_word, compared_word, complement_word, negated_word};
 use c_num::{BinOp, IntType, Relation};
 use pool_isa::Instr;
 use run_theory::TrapKind;
-use word_arithmetic::{binary_word, compared_word, complement_word, converted_word, negated_word};
 
 impl Activation {
     ghost use Rattle.pool_isa.specs.Machine as machine;

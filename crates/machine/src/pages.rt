@@ -1,7 +1,7 @@
 // Bytes in pages of 4,096: a page has memory once it is written, and is zero before.
 
 ghost use Rattle.std.specs.Prelude.{◌≡◌, ◌+◌, ◌*◌, ◌^◌, ◌<◌, ◌≤◌, length, take, replicate, IfOk, OnOk, None};
-ghost use Rattle.raw_slab.specs.Words.{word_at, with_word, zeros};
+ghost use Rattle.run_theory.specs.Words.{word_at, with_word, zeros};
 ghost use Rattle.machine.specs.Pages.{bytes_in};
 
 use raw_slab::{RawSlab, SLAB_BYTES};

@@ -6,10 +6,10 @@ ghost use Rattle.pcc_outside.specs.Outside.{TakesByte};
 ghost use Rattle.pool_isa.specs.Machine.{size_of, bytes_in};
 ghost use Rattle.machine.specs.Promises.{TakesWord};
 
+pub(crate) use crate::bits::converted_word;
 use byteorder::{ByteOrder, LittleEndian};
 use c_num::IntType;
 use pool_isa::Width;
-pub(crate) use word_arithmetic::converted_word;
 
 /// The bytes of a value.
 pub(crate) fn size_of(int_type: IntType) -> usize

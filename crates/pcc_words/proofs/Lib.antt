@@ -2,7 +2,9 @@ pub mod FlagRule
 pub mod FoundLine
 pub mod NumberReads
 pub mod NumberRule
+pub mod Pieces
 pub mod Ranges
+pub mod Saying
 pub mod WordApp
 pub mod WordLine
 pub mod WordLooks

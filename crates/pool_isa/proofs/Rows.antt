@@ -6,7 +6,7 @@ use Rattle.run_theory.specs.Runs.{Run, Output, Called, Returned, Allocated, Free
 use Rattle.c_num.specs.declared.IntType.TheVariants as types
 use Rattle.c_num.specs.Conversion.{convert_to, word_of}
 use Rattle.c_num.specs.Arith.{wrapped}
-use Rattle.raw_slab.specs.Words.{zeros}
+use Rattle.run_theory.specs.Words.{zeros}
 use Rattle.pool_isa.specs.declared.instr.Width.TheVariants as widths
 use Rattle.pool_isa.specs.declared.instr.Instr.{Instr}
 use Rattle.pool_isa.specs.declared.instr.Instr.TheVariants as instrs

@@ -1,8 +1,9 @@
-pub mod Spelling
-pub mod Number
+pub mod Accesses
 pub mod Code
-pub mod Instr
 pub mod Head
-pub mod Tally
+pub mod Instr
 pub mod Machine
+pub mod Number
 pub mod Ranges
+pub mod Spelling
+pub mod Tally

@@ -1,4 +1,6 @@
 //! The machine's instructions, and the one spelling of each as bytes.
+//!
+//! Which ranges of memory a step of the machine loads and stores, and that each of them is safe. A crate of definitions and proofs alone.
 #![tactic(auto)]
 
 mod code;

@@ -2,7 +2,7 @@
 use Rattle.std.proofs.Common.{◌≡◌, ℕ, zero, suc, ◌+◌, ◌*◌, ◌^◌, ◌<◌, ◌≤◌, min, Bool, true, false, if◌then◌else◌, List, [], ◌∷◌, ◌++◌, map, length, get_or, slice_get, Option, Some, None, option_map, bytes_eq, refl, sym, ap, subst, ◌∙◌, arith}
 use Rattle.std.proofs.lemmas.Option.{none-some, same_Some, slice_get-map, slice_get_within, slice_get_read}
 use Rattle.std.proofs.lemmas.List.{length-map}
-use Rattle.text_place.specs.declared.place.Pos.{Pos}
+use Rattle.run_theory.specs.declared.place.Pos.{Pos}
 use Rattle.c_typed.specs.declared.definition.GlobalDef as memory_global
 use Rattle.c_typed.specs.declared.definition.LiteralDef as memory_literal
 use Rattle.c_typed.specs.Places.{is_same_place}

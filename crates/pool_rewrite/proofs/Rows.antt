@@ -7,7 +7,7 @@ use Rattle.c_num.specs.Conversion.{convert_to, word_of}
 use Rattle.c_num.specs.Arith.{outcome_of, wrapped}
 use Rattle.c_typed.specs.Types.{CType, Integer, Pointer, Struct, Function as FunctionType, NoTypes, MoreTypes}
 use Rattle.c_typed.specs.Layouts.{StructDef}
-use Rattle.raw_slab.specs.Words.{zeros}
+use Rattle.run_theory.specs.Words.{zeros}
 use Rattle.run_theory.specs.Runs.{Answer, AnswerOf, Going, Over, Ended, HeapExhausted, Called, Returned, Allocated, Freed, Loaded, Stored, Event}
 use Rattle.tac_ir.specs.declared.register.Local.TheVariants as L
 use Rattle.tac_ir.specs.declared.register.Register.TheVariants as R

@@ -5,9 +5,9 @@ ghost use Rattle.pool_rewrite.specs.Names.{NumbersFunctions, NumbersGlobals, Num
 
 use c_typed::{GlobalDef, LiteralDef};
 use indexmap::IndexMap;
+use run_theory::Pos;
 use std::alloc::{AllocError, Global};
 use tac_ir::{Function, Tac};
-use text_place::Pos;
 
 /// The numbers of functions and of variables outside functions by their names, and of literals by their places: that of the first of
 /// several.

@@ -2,7 +2,7 @@
 use Rattle.std.proofs.Common.{◌≡◌, ℕ, zero, suc, ◌+◌, ◌-◌, ◌*◌, ◌/◌, ◌%◌, ◌^◌, ◌<◌, ◌≤◌, Bool, true, false, List, length, set, refl, sym, ap, subst, ◌∙◌, inl, inr, arith}
 use Rattle.std.specs.Prelude.{if◌then◌else◌, ◌||◌, ◌==◌, nat_lt, is_some, slice_get, slice_index, slice_index_or}
 use borrow.Author.Tests.{ltb-true, ne_eqb}
-use Rattle.raw_slab.specs.Words.{zeros, word_at, with_word}
+use Rattle.run_theory.specs.Words.{zeros, word_at, with_word}
 use Rattle.raw_slab.proofs.WordsWritten.{length-with_word}
 use Rattle.slab_space.specs.Runs.{with_run}
 use Rattle.slab_space.specs.Space.{Space}

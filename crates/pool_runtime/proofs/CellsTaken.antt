@@ -2,7 +2,7 @@
 use Rattle.std.proofs.Common.{◌≡◌, ℕ, suc, ◌+◌, ◌-◌, ◌*◌, ◌/◌, ◌%◌, ◌≤◌, Bool, true, false, List, [], ◌∷◌, ◌++◌, Option, Some, None, length, replicate, get_or, set, refl, sym, ap, subst, ◌∙◌, arith}
 use Rattle.std.specs.Prelude.{if◌then◌else◌, slice_index, slice_index_or}
 use Rattle.std.proofs.lemmas.List.{get_or-set_same, get_or-set_other, length-set}
-use Rattle.raw_slab.specs.Words.{zeros, word_at}
+use Rattle.run_theory.specs.Words.{zeros, word_at}
 use Rattle.slab_space.specs.Pool.{cells_per_run, with_next, with_freed, live_cells}
 use Rattle.slab_space.specs.Pool as seen
 use Rattle.pool_runtime.specs.declared.cells.Cells.{Cells}

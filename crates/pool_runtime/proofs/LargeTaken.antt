@@ -7,7 +7,7 @@ use Rattle.std.specs.List.{AllByRecursion}
 use Rattle.std.proofs.lemmas.Bool.{ne_eqb}
 use Rattle.std.proofs.lemmas.List.{same_lists, length-replicate, get_or-replicate, get_or_default}
 use Rattle.std.proofs.lemmas.List.Sums.{sum_by-cons}
-use Rattle.raw_slab.specs.Words.{zeros}
+use Rattle.run_theory.specs.Words.{zeros}
 use Rattle.slab_space.specs.Runs.{need, with_run, lowest_run, IsLowestRun}
 use Rattle.slab_space.specs.Space.{Space, IsZero, with_taken}
 use Rattle.slab_space.specs.Pool.{with_large, with_peak, live_in, classes_of}

@@ -11,7 +11,7 @@ use Rattle.std.proofs.lemmas.Map.Entries.{place_from_lookup, btree_map_get_place
 use Rattle.std.proofs.lemmas.Bool.{leb-true, le-leb, false_from_ne_true}
 use Rattle.std.proofs.lemmas.Option.{same_Some, slice_get-get_or}
 use Rattle.std.proofs.Math.Nat.{mul_comm}
-use Rattle.raw_slab.specs.Words.{word_at}
+use Rattle.run_theory.specs.Words.{word_at}
 use Rattle.slab_space.specs.Runs.{need}
 use Rattle.slab_space.specs.Pool.{Object, cells_per_run, large_object}
 use Rattle.slab_space.specs.PoolSteps.{covers}

@@ -6,7 +6,7 @@ use Rattle.std.specs.Int.{byte_at, bytes_low_first}
 use Rattle.byteorder.specs.Endian.{little_from, little_bytes}
 use Rattle.byteorder.specs.Numbers.{length-bytes_low_first}
 use Rattle.byteorder.proofs.Bytes.{pow256}
-use Rattle.raw_slab.specs.Words.{word_at, with_word}
+use Rattle.run_theory.specs.Words.{word_at, with_word}
 use Rattle.slab_space.specs.Runs.{with_run}
 use Rattle.slab_space.proofs.WithRun.{with_run_step}
 use Rattle.pool_runtime.proofs.Ranges.{word_from}

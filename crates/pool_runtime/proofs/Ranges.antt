@@ -5,7 +5,7 @@ use Rattle.std.proofs.lemmas.List.{length-replicate, append-nil, take_at, drop_a
 use Rattle.std.proofs.lemmas.Bool.{cases_lt}
 use Rattle.byteorder.specs.Endian.{little_from, little_number, little_bytes}
 use Rattle.byteorder.specs.Numbers.{little_from-take, little_number-reads_back, length-bytes_low_first}
-use Rattle.raw_slab.specs.Words.{word_at, with_word}
+use Rattle.run_theory.specs.Words.{word_at, with_word}
 use Rattle.raw_slab.proofs.WordsWritten.{length-with_word}
 use Rattle.slab_space.specs.Runs.{owner_at, with_run}
 use Rattle.slab_space.specs.Space.{Space}

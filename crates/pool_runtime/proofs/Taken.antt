@@ -6,7 +6,7 @@ use Rattle.std.proofs.lemmas.Option.{same_Some}
 use Rattle.std.proofs.lemmas.List.{length_push, length-set}
 use Rattle.std.proofs.Math.Nat.{mul-le-mul_left}
 use Rattle.slab_space.specs.Runs.{need, free_count, with_run, IsHeldRun}
-use Rattle.raw_slab.specs.Words.{word_at, zeros}
+use Rattle.run_theory.specs.Words.{word_at, zeros}
 use Rattle.slab_space.specs.Space.{Space}
 use Rattle.slab_space.specs.Pool.{cells_per_run, cell_address, next_number, with_next, has_room, with_peak, live_in}
 use Rattle.slab_space.specs.Pool as seen

@@ -24,7 +24,7 @@ pub(crate) struct Cells {
 
 impl Cells {
     ghost use Rattle.slab_space.specs.Space.{Space};
-    ghost use Rattle.raw_slab.specs.Words.{with_word};
+    ghost use Rattle.run_theory.specs.Words.{with_word};
     ghost use Rattle.slab_space.specs.Runs.{with_run};
     ghost use Rattle.pool_runtime.specs.Seen.{place as cell_place, class_seen, freed_seen, cell_found, after_next, number_next};
     ghost use Rattle.pool_runtime.specs.Tables.{IsSpace, IsCells, AreRuns};

@@ -1,7 +1,7 @@
 // The bytes of a space, where they may lie in more than one slab.
 
 ghost use Rattle.std.specs.Prelude.{◌≡◌, ◌*◌, ◌^◌, ◌<◌, ◌≤◌};
-ghost use Rattle.raw_slab.specs.Words.{word_at, with_word};
+ghost use Rattle.run_theory.specs.Words.{word_at, with_word};
 ghost use Rattle.slab_space.specs.Runs.{need as slabs_needed, with_run};
 ghost use Rattle.pool_runtime.specs.Tables.{IsSpace, AreHeld};
 

@@ -5,12 +5,12 @@ use Rattle.std.specs.List.{AllByRecursion}
 use Rattle.std.proofs.lemmas.Option.{same_Some, none-some}
 use Rattle.run_theory.specs.declared.ends.TrapKind.TheVariants as traps
 use Rattle.run_theory.specs.Runs.{Move}
-use Rattle.raw_slab.specs.Words.{word_at}
+use Rattle.run_theory.specs.Words.{word_at}
 use Rattle.c_typed.specs.Types.{CType}
 use Rattle.slab_space.specs.declared.kind.PoolKind.{PoolKind}
 use Rattle.slab_space.specs.Pool.{Object, IsKind}
 use Rattle.slab_space.specs.Pools.{Pools, init_step, destroy_step, load_step, lives_of}
-use Rattle.slab_exhaustion.specs.Needs.{HavePlaced, after_init, after_destroy}
+use Rattle.slab_space.specs.Needs.{HavePlaced, after_init, after_destroy}
 use Rattle.tac_ir.specs.Values as V
 use Rattle.tac_ir.specs.Values.{OfHeap, OfGlobal, OfLiteral, OfActivation, Value, Typed}
 use Rattle.tac_ir.specs.Events.{TacEvent}

@@ -9,8 +9,8 @@ use Rattle.c_num.specs.Types.{is_value}
 use Rattle.slab_space.specs.Runs.{need}
 use Rattle.slab_space.specs.PoolSteps.{Allocation, placed, index_exhausted, heap_exhausted}
 use Rattle.slab_space.specs.Pools.{Pools, pool_at, alloc_step, lives_of}
-use Rattle.slab_exhaustion.specs.Needs.{needs, after_alloc}
-use Rattle.slab_exhaustion.proofs.Exhausted.{exhaustion_tells_needs}
+use Rattle.slab_space.specs.Needs.{needs, after_alloc}
+use Rattle.slab_space.proofs.Exhausted.{exhaustion_tells_needs}
 use Rattle.tac_ir.specs.declared.register.Register.TheVariants as R
 use Rattle.tac_ir.specs.Values as V
 use Rattle.tac_ir.specs.Values.{OfHeap, OfGlobal, OfLiteral, OfActivation, same_object, Value, NoAddress, Address, Content, Untyped}

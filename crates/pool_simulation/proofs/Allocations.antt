@@ -5,7 +5,7 @@ use Rattle.std.specs.List.{AllByRecursion}
 use Rattle.std.specs.Option.{IfSome}
 use Rattle.std.proofs.lemmas.Bool.{cases_lt, cases_eq, and_from, le-leb, lt-ltb, eqb-true, eqb-false}
 use Rattle.std.proofs.lemmas.List.{get_or_append_left}
-use Rattle.raw_slab.specs.Words.{zeros, word_at}
+use Rattle.run_theory.specs.Words.{zeros, word_at}
 use Rattle.slab_space.specs.declared.kind.PoolKind.{PoolKind}
 use Rattle.slab_space.specs.declared.kind.PoolKind.TheVariants.{Homogeneous, Mixed}
 use Rattle.slab_space.specs.Runs.{need, lowest_run}
@@ -14,7 +14,7 @@ use Rattle.slab_space.specs.PoolSteps.{PoolInSlabs, Allocation, placed, index_ex
 use Rattle.slab_space.specs.Pools.{Pools, pool_at, with_change, init_step, destroyed, destroy_step, allocated, alloc_in, alloc_step, free_in, free_step, objects_of, objects, object_at, load_step, kind_of, lives_of}
 use Rattle.slab_space.proofs.Peaks.{either}
 use Rattle.slab_space.proofs.Held.{total}
-use Rattle.slab_exhaustion.specs.Needs.{NeedsItsCell, Suits, after_init, after_destroy, after_alloc, after_free}
+use Rattle.slab_space.specs.Needs.{NeedsItsCell, Suits, after_init, after_destroy, after_alloc, after_free}
 use Rattle.pool_isa.specs.Machine.{fits_kind, fits_pool, number_of}
 use Rattle.pool_ir.specs.States.{State, Same}
 use Rattle.pool_ir.specs.Memory.{access}

@@ -8,7 +8,7 @@ use Rattle.std.proofs.lemmas.Option.{none-some}
 use Rattle.run_theory.specs.Runs.{To}
 use Rattle.c_typed.specs.Types.{literal_type}
 use Rattle.c_typed.specs.Typed.{GlobalDef, LiteralDef}
-use Rattle.slab_exhaustion.specs.Needs.{at_start}
+use Rattle.slab_space.specs.Needs.{at_start}
 use Rattle.tac_ir.specs.Values as V
 use Rattle.tac_ir.specs.Values.{OfHeap, OfGlobal, OfLiteral, OfActivation, Value, Number, NoAddress, Code, Address}
 use Rattle.tac_ir.specs.Objects.{is_there}

@@ -9,7 +9,7 @@ use Rattle.run_theory.specs.Runs.{Move}
 use Rattle.c_typed.specs.Types.{CType}
 use Rattle.slab_space.specs.Pool.{Pool, Object}
 use Rattle.slab_space.specs.Pools.{Pools, pool_at, free_step, objects_of, lives_of}
-use Rattle.slab_exhaustion.specs.Needs.{needs, after_free}
+use Rattle.slab_space.specs.Needs.{needs, after_free}
 use Rattle.tac_ir.specs.declared.register.Register.{Register}
 use Rattle.tac_ir.specs.Values as V
 use Rattle.tac_ir.specs.Values.{OfHeap, OfGlobal, OfLiteral, OfActivation, same_object, Value, Number, NoAddress, Code, Address, Content, Absent, Typed}

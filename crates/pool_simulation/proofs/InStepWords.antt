@@ -5,7 +5,7 @@ use Rattle.c_typed.specs.Types as Types
 use Rattle.c_typed.specs.Types.{CType, Void, Integer, Pointer, Array, Struct}
 use Rattle.c_typed.specs.Layouts.{StructDef}
 use Rattle.slab_space.specs.Pools.{Pools}
-use Rattle.slab_exhaustion.specs.Needs.{needs}
+use Rattle.slab_space.specs.Needs.{needs}
 use Rattle.tac_ir.specs.declared.register.Register.{Register}
 use Rattle.tac_ir.specs.Values as V
 use Rattle.tac_ir.specs.Values.{OfHeap, OfGlobal, OfLiteral, OfActivation, Value, Number, NoAddress, Code, Address, Content, Absent, Untyped, Typed, Objects}

@@ -7,11 +7,11 @@ use Rattle.std.proofs.lemmas.Bool.{leb-true, and_parts}
 use Rattle.std.proofs.lemmas.List.{length-replicate, map-set, length-set, get_or_append_left}
 use Rattle.std.proofs.lemmas.Nat.{div_below, mul-le}
 use Rattle.std.proofs.Math.Nat.{le-max_left}
-use Rattle.raw_slab.specs.Words.{zeros}
+use Rattle.run_theory.specs.Words.{zeros}
 use Rattle.slab_space.specs.Runs.{need}
 use Rattle.slab_space.specs.Pool.{Cells, Object, slab_address, no_cells, cells_per_run, cell_address, made_in, live_from, live_cells, with_next, next_number, with_freed}
 use Rattle.slab_space.specs.PoolSteps.{covers, written, written_from, written_cells}
-use Rattle.raw_slab.specs.Words.{with_word}
+use Rattle.run_theory.specs.Words.{with_word}
 use Rattle.raw_slab.proofs.WordsWritten.{length-with_word}
 use Rattle.slab_space.proofs.Peaks.{either}
 use Rattle.pool_simulation.proofs.Inserted.{Inserted, here, there, at_end}

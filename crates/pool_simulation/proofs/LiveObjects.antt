@@ -10,9 +10,9 @@ use Rattle.slab_space.specs.Runs.{need, owner_at}
 use Rattle.slab_space.specs.Pool.{Cells, Large, Pool, Object, IsKind, slab_address, cells_per_run, cell_address, made_in, live_from, live_cells, large_object, classes_of, objects_in}
 use Rattle.slab_space.specs.Pools.{Pools, objects_of, objects}
 use Rattle.slab_space.proofs.Held.{total, one_of, two_of, in_run, is_owner, owner_once, owned, cells_cover, pool_cover, all_fit}
-use Rattle.slab_exhaustion.specs.Needs.{HavePlaced}
-use Rattle.slab_exhaustion.proofs.Calls.{placed_reached}
-use Rattle.slab_exhaustion.proofs.Cells.{sizes_of}
+use Rattle.slab_space.specs.Needs.{HavePlaced}
+use Rattle.slab_space.proofs.Calls.{placed_reached}
+use Rattle.slab_space.proofs.Cells.{sizes_of}
 use Rattle.pool_simulation.specs.Regions.{IsIn, OfKind}
 use Rattle.pool_simulation.proofs.Inserted.{in_either}
 use Rattle.pool_simulation.proofs.LiveCells.{Whole, SoundCells, some_per_run, run_of}

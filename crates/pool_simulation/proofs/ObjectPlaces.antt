@@ -3,7 +3,7 @@ use Rattle.std.proofs.Common.{◌≡◌, ℕ, ◌+◌, ◌-◌, ◌*◌, ◌^◌
 use Rattle.std.specs.Prelude.{⊤, zero, suc, option_map}
 use Rattle.std.proofs.lemmas.Bool.{false≢true, cases_lt}
 use Rattle.std.proofs.lemmas.Option.{same_Some}
-use Rattle.raw_slab.specs.Words.{word_at}
+use Rattle.run_theory.specs.Words.{word_at}
 use Rattle.slab_space.specs.Pool.{Object}
 use Rattle.slab_space.specs.Pools.{Pools, object_at}
 use Rattle.c_typed.specs.Types.{CType, literal_type}

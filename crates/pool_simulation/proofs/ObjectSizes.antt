@@ -6,8 +6,8 @@ use Rattle.slab_space.specs.declared.kind.PoolKind.TheVariants.{Homogeneous, Mix
 use Rattle.slab_space.specs.Pool.{Cells, Pool, Object, cells_per_run, live_cells, large_object, classes_of, objects_in}
 use Rattle.slab_space.specs.Pools.{Pools, pool_at, objects_of, kind_of}
 use Rattle.slab_space.proofs.Peaks.{OneHolds, pool_holds, all_hold}
-use Rattle.slab_exhaustion.proofs.Calls.{placed_reached}
-use Rattle.slab_exhaustion.proofs.Cells.{sizes_of}
+use Rattle.slab_space.proofs.Calls.{placed_reached}
+use Rattle.slab_space.proofs.Cells.{sizes_of}
 use Rattle.pool_simulation.specs.Regions.{IsIn, Lives, LivesIn, SoundHeap}
 use Rattle.pool_simulation.proofs.Inserted.{in_either}
 use Rattle.pool_simulation.proofs.LiveCells.{SoundCells}

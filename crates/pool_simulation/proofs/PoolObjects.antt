@@ -5,14 +5,14 @@ use Rattle.std.specs.List.{AllByRecursion}
 use Rattle.std.proofs.lemmas.Bool.{cases_lt, cases_eq}
 use Rattle.std.proofs.lemmas.List.{map-append, length-replicate, get_or_past}
 use Rattle.std.proofs.lemmas.List.Concat.{flat_map-append}
-use Rattle.raw_slab.specs.Words.{zeros}
+use Rattle.run_theory.specs.Words.{zeros}
 use Rattle.slab_space.specs.declared.kind.PoolKind.{PoolKind}
 use Rattle.slab_space.specs.declared.kind.PoolKind.TheVariants.{Homogeneous, Mixed}
 use Rattle.slab_space.specs.Pool.{Pool, Object, IsKind, new_pool, objects_in}
 use Rattle.slab_space.specs.PoolSteps.{PoolInSlabs, Allocation, placed, index_exhausted, heap_exhausted, placed_in, freed_in, written_in}
 use Rattle.slab_space.specs.Pools.{Pools, new_pools, pool_at, with_change, init_step, destroyed, allocated, alloc_in, alloc_step, free_in, free_step, objects_of, objects, object_at, store_step, kind_of}
 use Rattle.slab_space.proofs.Peaks.{either}
-use Rattle.slab_exhaustion.specs.Needs.{HavePlaced, at_start, after_init, after_destroy, after_alloc, after_free, after_store}
+use Rattle.slab_space.specs.Needs.{HavePlaced, at_start, after_init, after_destroy, after_alloc, after_free, after_store}
 use Rattle.pool_simulation.specs.Regions.{IsIn, LivesIn, OfKind}
 use Rattle.pool_simulation.proofs.Inserted.{in_part, new_in, old_in, new_or_old, Inserted, more_in_part, less_in_part}
 use Rattle.pool_simulation.proofs.LiveCells.{all_push, all_set, all_or, all_mapped}

@@ -5,10 +5,10 @@ use Rattle.std.specs.List.{AllByRecursion}
 use Rattle.std.proofs.lemmas.Bool.{and_parts, leb-true}
 use Rattle.byteorder.specs.Endian.{little_bytes}
 use Rattle.byteorder.specs.Numbers.{length-bytes_low_first}
-use Rattle.raw_slab.specs.Words.{word_at}
+use Rattle.run_theory.specs.Words.{word_at}
 use Rattle.slab_space.specs.Pool.{Object}
 use Rattle.slab_space.specs.Pools.{Pools, object_at, load_step, store_step}
-use Rattle.slab_exhaustion.specs.Needs.{HavePlaced, after_store}
+use Rattle.slab_space.specs.Needs.{HavePlaced, after_store}
 use Rattle.tac_ir.specs.Events.{TacEvent}
 use Rattle.pool_isa.specs.Machine.{spliced, globals_start, in_globals, number_of}
 use Rattle.pool_ir.specs.States.{Activation, State, Same}

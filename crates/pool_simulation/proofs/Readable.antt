@@ -4,10 +4,10 @@ use Rattle.std.specs.Prelude.{nat_le, option_map, if◌then◌else◌}
 use Rattle.std.specs.List.{AllByRecursion}
 use Rattle.std.proofs.lemmas.Bool.{cases_lt, and_parts, and_from, and_right, leb-true, le-leb, lt-leb}
 use Rattle.std.proofs.lemmas.List.{length-replicate}
-use Rattle.raw_slab.specs.Words.{word_at}
+use Rattle.run_theory.specs.Words.{word_at}
 use Rattle.slab_space.specs.Pool.{Object}
 use Rattle.slab_space.specs.Pools.{object_at, load_step}
-use Rattle.slab_exhaustion.specs.Needs.{at_start}
+use Rattle.slab_space.specs.Needs.{at_start}
 use Rattle.pool_isa.specs.Machine.{globals_start, in_globals}
 use Rattle.tac_ir.specs.declared.register.Register.TheVariants as R
 use Rattle.tac_ir.specs.Calls.{greatest_depth}

@@ -3,7 +3,7 @@ use Rattle.std.proofs.Common.{◌≡◌, ℕ, ◌^◌, ◌≤◌, Bool, true, Li
 use Rattle.std.specs.Prelude.{nat_lt}
 use Rattle.std.proofs.lemmas.Bool.{false≢true}
 use Rattle.run_theory.specs.Runs.{Event, Allocated, Final, Ended, DepthReached, Undefined, HeapExhausted, IndexExhausted, Trapped, AnswerOf, Comparison, Appends, Refused, MatchesBy, wrong, going, ended, short, RunOf, SimulatesBy}
-use Rattle.slab_exhaustion.specs.Needs.{needs}
+use Rattle.slab_space.specs.Needs.{needs}
 use Rattle.tac_ir.specs.Events.{TacEvent, Wrote, Entered, Left, Made, Released, ReadFrom, WroteTo, Crossed, seen}
 use Rattle.tac_ir.specs.First.{tac_run}
 use Rattle.tac_ir.proofs.Seen.{seen_append}

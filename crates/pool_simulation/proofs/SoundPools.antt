@@ -6,7 +6,7 @@ use Rattle.std.specs.List.{AllByRecursion}
 use Rattle.std.proofs.lemmas.Bool.{ltb-true, and_parts}
 use Rattle.std.proofs.lemmas.List.{map-append, length-replicate}
 use Rattle.std.proofs.lemmas.List.Quantifiers.{position-Some}
-use Rattle.raw_slab.specs.Words.{zeros}
+use Rattle.run_theory.specs.Words.{zeros}
 use Rattle.slab_space.specs.declared.kind.PoolKind.{PoolKind}
 use Rattle.slab_space.specs.declared.kind.PoolKind.TheVariants.{Homogeneous, Mixed}
 use Rattle.slab_space.specs.Runs.{need, with_run, lowest_run}
@@ -15,7 +15,7 @@ use Rattle.slab_space.specs.PoolSteps.{PoolInSlabs, Allocation, placed, index_ex
 use Rattle.slab_space.proofs.Peaks.{either}
 use Rattle.slab_space.proofs.LowestRun.{free_from_found}
 use Rattle.slab_space.proofs.WithRun.{length-with_run}
-use Rattle.slab_exhaustion.proofs.Cells.{sizes_of, OfItsSizes, SizesStay, size_of_next, sizes_set, sizes_written, sizes_freed}
+use Rattle.slab_space.proofs.Cells.{sizes_of, OfItsSizes, SizesStay, size_of_next, sizes_set, sizes_written, sizes_freed}
 use Rattle.pool_simulation.proofs.Inserted.{Inserted, here, there, before_all, behind_all, more_in_part}
 use Rattle.pool_simulation.proofs.LiveCells.{all_set, all_or, all_mapped, length-zeros, SoundCells, no_cells_sound, some_per_run, with_one_run, run_same_live, run_sound, next_sound, freed_sound, long_written, written_object, written_live, written_sound}
 

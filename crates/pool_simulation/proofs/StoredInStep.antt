@@ -8,7 +8,7 @@ use Rattle.c_typed.specs.Layouts.{layouts}
 use Rattle.c_typed.specs.Typed.{GlobalDef, LiteralDef}
 use Rattle.slab_space.specs.Pool.{Object}
 use Rattle.slab_space.specs.Pools.{Pools, store_step, objects}
-use Rattle.slab_exhaustion.specs.Needs.{HavePlaced, after_store}
+use Rattle.slab_space.specs.Needs.{HavePlaced, after_store}
 use Rattle.tac_ir.specs.Values as V
 use Rattle.tac_ir.specs.Values.{OfHeap, OfGlobal, OfLiteral, OfActivation, same_object, Value, Content, Absent, Untyped, Typed, Objects, with_held}
 use Rattle.tac_ir.specs.Layouts.{size_of, leaf_at, leaves_in, leaves_by_tag}

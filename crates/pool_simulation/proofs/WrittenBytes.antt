@@ -7,7 +7,7 @@ use Rattle.std.proofs.lemmas.Nat.{pow-add}
 use Rattle.std.proofs.lemmas.Bool.{cases_lt}
 use Rattle.byteorder.specs.Endian.{little_from, little_bytes}
 use Rattle.byteorder.specs.Numbers.{length-bytes_low_first, little_from-bytes}
-use Rattle.raw_slab.specs.Words.{word_at, with_word}
+use Rattle.run_theory.specs.Words.{word_at, with_word}
 
 -- ---- numbers in equal bytes
 

@@ -2,7 +2,7 @@
 -- refuses: an allocation that needs more slabs, with all that were made before, than there are.
 use Rattle.std.specs.Prelude.{ℕ, Bool, false, nat_lt, List, [], ◌∷◌}
 use Rattle.run_theory.specs.Runs.{Event, Allocated, Trace, Final, HeapExhausted, Comparison}
-use Rattle.slab_exhaustion.specs.Needs.{needs}
+use Rattle.slab_space.specs.Needs.{needs}
 use Rattle.tac_ir.specs.Events.{TacEvent, Made, seen}
 use Rattle.pool_ir.specs.States.{PoolEvent, same}
 

@@ -4,7 +4,7 @@ use Rattle.std.specs.Prelude.{◌≡◌, ⊤, ℕ, zero, suc, ◌+◌, ◌*◌, 
 use Rattle.c_typed.specs.Types.{CType, literal_type}
 use Rattle.c_typed.specs.Typed.{GlobalDef, LiteralDef}
 use Rattle.slab_space.specs.Pool.{Object}
-use Rattle.slab_exhaustion.specs.Needs.{needs}
+use Rattle.slab_space.specs.Needs.{needs}
 use Rattle.tac_ir.specs.declared.register.Local.{Local}
 use Rattle.tac_ir.specs.declared.register.Register.{Register}
 use Rattle.tac_ir.specs.Values as V

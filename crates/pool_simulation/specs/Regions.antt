@@ -4,7 +4,7 @@ use Rattle.std.specs.Prelude.{◌≡◌, ◌≤◌, ⊤, ℕ, ◌+◌, ◌^◌, 
 use Rattle.std.specs.List.{AllByRecursion}
 use Rattle.slab_space.specs.Pool.{Pool, Object, IsKind}
 use Rattle.slab_space.specs.Pools.{Pools, pool_at, kind_of, objects_of, objects, address_of, index_of}
-use Rattle.slab_exhaustion.specs.Needs.{HavePlaced}
+use Rattle.slab_space.specs.Needs.{HavePlaced}
 use Rattle.pool_isa.specs.Machine.{globals_start}
 use Rattle.pool_ir.specs.States.{Activation, State}
 use Rattle.pool_ir.specs.Meaning.{next_start}

@@ -4,9 +4,9 @@ use Rattle.pcc_outside.specs.Outside.{Adds, AddsPart}
 use Rattle.c_syntax.specs.Trees.{ProgramTree}
 use Rattle.image_form.specs.declared.image.MachineLimits.{MachineLimits}
 use Rattle.image_form.specs.Form.{Form, image_bytes}
-use Rattle.pcc_status.specs.declared.status.Refusal.{Refusal}
-use Rattle.pcc_status.specs.declared.status.Status.{Status}
-use Rattle.pcc_status.specs.declared.status.Status.TheVariants as S
+use Rattle.pcc_words.specs.declared.status.Refusal.{Refusal}
+use Rattle.pcc_words.specs.declared.status.Status.{Status}
+use Rattle.pcc_words.specs.declared.status.Status.TheVariants as S
 use Rattle.poolcc.specs.Build.{Builds, BuildsPart, BuildGives}
 use Rattle.poolcc.specs.Compiled.{IsBuildable, Compiles}
 use Rattle.poolcc.specs.Complete.{IsBuiltUnlessMemory}

@@ -1,8 +1,8 @@
 -- What a command line comes to, where it is one of a command.
 use Rattle.std.proofs.Common.{◌≡◌, ℕ, ◌⊎◌, Bool, List, Option, Some, refl, sym, subst}
 use Rattle.pcc_outside.specs.Outside.{Told, Missing, Holds}
-use Rattle.pcc_status.specs.declared.status.Status.{Status}
-use Rattle.pcc_status.specs.declared.status.Status.TheVariants as S
+use Rattle.pcc_words.specs.declared.status.Status.{Status}
+use Rattle.pcc_words.specs.declared.status.Status.TheVariants as S
 use Rattle.pcc_words.specs.Line.{Line, Limits, Build, Exec, Graph}
 use Rattle.poolcc.specs.Answering.{IsAnswer}
 use Rattle.poolcc.specs.Build.{BuildGives}

@@ -12,15 +12,15 @@ use Rattle.image_form.specs.declared.image.MachineLimits.{MachineLimits}
 use Rattle.image_form.specs.Form.{Form, code_of}
 use Rattle.machine.specs.Run.{HaltsAt, ComesTo}
 use Rattle.machine.proofs.Mach.{mach_over, mach_going}
-use Rattle.pcc_status.specs.declared.status.Status.{Status}
-use Rattle.pcc_status.specs.declared.status.Status.TheVariants as S
-use Rattle.pcc_status.specs.Said.{Said, after_failed_line}
+use Rattle.pcc_words.specs.declared.status.Status.{Status}
+use Rattle.pcc_words.specs.declared.status.Status.TheVariants as S
+use Rattle.pcc_words.specs.Said.{Said, after_failed_line}
 use Rattle.poolcc.specs.Compiled.{IsAccepted, IsBuildable, Compiles, image_run, first_of_run}
 use Rattle.pcc_words.specs.Line.{Line, NoCommand, NoLine, Build, Exec, Run, Ref, Graph}
 use Rattle.poolcc.specs.Command.{Names}
 use Rattle.poolcc.specs.Complete.{told, RunsAs, RunsUnlessMemory}
 use Rattle.poolcc.specs.Exec.{source_limit, ExecGives}
-use Rattle.program_machine.proofs.Seen.{trapped_is_undefined}
+use Rattle.backend_correct.proofs.Seen.{trapped_is_undefined}
 use Rattle.poolcc.proofs.Refusals.{not_buildable}
 
 -- a line that was written leaves the answer as it was

@@ -11,7 +11,7 @@ use Rattle.c_types.specs.declared.program.Typed.{Typed}
 use Rattle.c_types.specs.InitialValues.{first_values}
 use Rattle.tac_ir.specs.Code.{Tac}
 use Rattle.heap_graph.specs.Graphs.{ProgramGraphs}
-use Rattle.code_graphs.specs.Graphed.{HasGraphs, IsOvergrown}
+use Rattle.dsa_bottom_up.specs.Graphed.{HasGraphs, IsOvergrown}
 use Rattle.poolcc.specs.Compiled.{IsAccepted, listed, initial_values}
 use Rattle.poolcc.specs.Lowered.{first_of}
 use Rattle.poolcc.specs.Refused.{IsOverfull}

@@ -8,8 +8,8 @@ use Rattle.machine.specs.declared.ends.RunEnd.{RunEnd}
 use Rattle.machine.specs.declared.ends.RunEnd.TheVariants as E
 use Rattle.machine.specs.Run.{HaltsAt, ComesTo}
 use Rattle.machine.proofs.Mach.{mach_over, mach_going}
-use Rattle.pcc_status.specs.declared.status.Status.{Status}
-use Rattle.pcc_status.specs.declared.status.Status.TheVariants as S
+use Rattle.pcc_words.specs.declared.status.Status.{Status}
+use Rattle.pcc_words.specs.declared.status.Status.TheVariants as S
 use Rattle.poolcc.specs.Compiled.{RunsImageTo, image_run, first_of_run}
 use Rattle.poolcc.specs.Complete.{told, IsToldOf, IsToldUnlessMemory, IsBadUnlessMemory}
 use Rattle.poolcc.specs.ImageRun.{image_limit, RunsImage, ImageGives}

@@ -1,18 +1,18 @@
 -- The tokens of a text have at most one that is misplaced, in one way.
 use Rattle.std.proofs.Common.{◌≡◌, ℕ, Bool, true, List, [], ◌∷◌, ◌++◌, sym, ap, ◌∙◌, refl, subst, append_assoc}
-use Rattle.text_place.specs.declared.place.Pos.{Pos}
-use Rattle.text_place.specs.Places.{first_place}
-use Rattle.grammar_table.specs.Prefixes.{Accepted, BeginsAccepted}
+use Rattle.run_theory.specs.declared.place.Pos.{Pos}
+use Rattle.run_theory.specs.Places.{first_place}
+use Rattle.c_grammar.specs.Prefixes.{Accepted, BeginsAccepted}
 use Rattle.c_grammar.specs.Forms.{Program}
-use Rattle.c_token.specs.Leaves.{Leaf}
+use Rattle.c_grammar.specs.Leaves.{Leaf}
 use Rattle.c_lexer.specs.Tokens.{DividesFrom, at_end, blank, token}
 use Rattle.c_lexer.proofs.Dividing.{one_division}
-use Rattle.c_reader_tokens.specs.Grammar.{grammar}
-use Rattle.c_reader_tokens.specs.Shapes.{place_of}
-use Rattle.c_reader.specs.Readings.{nesting_limit, EndsText, IsThere, MisfitAt, TooDeepAt}
-use Rattle.pcc_status.specs.declared.status.SyntaxKind.{SyntaxKind}
-use Rattle.pcc_status.specs.declared.status.SyntaxKind.TheVariants as Y
-use Rattle.pcc_status.specs.declared.status.Refusal.TheVariants as R
+use Rattle.c_reader.specs.Grammar.{grammar}
+use Rattle.c_reader.specs.Shapes.{place_of}
+use Rattle.c_reader.specs.ProgramReadings.{nesting_limit, EndsText, IsThere, MisfitAt, TooDeepAt}
+use Rattle.pcc_words.specs.declared.status.SyntaxKind.{SyntaxKind}
+use Rattle.pcc_words.specs.declared.status.SyntaxKind.TheVariants as Y
+use Rattle.pcc_words.specs.declared.status.Refusal.TheVariants as R
 use Rattle.poolcc.specs.Refused.{Misplaced, IsSyntactic}
 
 -- ---- the tokens of a text end in its end

@@ -14,19 +14,19 @@ use Rattle.pool_isa.specs.Ranges.{IsFunction}
 use Rattle.pool_ir.specs.Code.{PoolCode}
 use Rattle.pool_rewrite.specs.Plan.{Plan, one_pool}
 use Rattle.pool_rewrite.specs.Rewriting.{rewritten}
-use Rattle.pool_stack.specs.Emitting.{emitted_function, emitted}
-use Rattle.stack_ranges.specs.FitsImage.{FitsImage}
-use Rattle.stack_ranges.proofs.EmittedRanges.{emitted_in_range, emitted_count, emitted_begins}
-use Rattle.image_premises.proofs.FittingImage.{accepted_fits_image}
-use Rattle.lowered_heights.proofs.Heights.{heights_fit}
+use Rattle.stack_code.specs.Emitting.{emitted_function, emitted}
+use Rattle.stack_code.specs.FitsImage.{FitsImage}
+use Rattle.stack_code.proofs.EmittedRanges.{emitted_in_range, emitted_count, emitted_begins}
+use Rattle.backend_correct.proofs.FittingImage.{accepted_fits_image}
+use Rattle.backend_correct.proofs.Heights.{heights_fit}
 use Rattle.image_form.specs.declared.image.MachineLimits.{MachineLimits}
 use Rattle.image_form.specs.declared.image.Image.{Image}
 use Rattle.image_form.specs.Form.{Form, code_of, form_of, BeginsWithStart, IsKind, IsImage}
 use Rattle.pool_linker.specs.Linking.{linked}
 use Rattle.pool_linker.proofs.LinkedRuns.{linked_runs, kinds_there}
-use Rattle.machine_accesses.proofs.SafeAccesses.{run_accesses_safe}
-use Rattle.program_machine.specs.HeapEvents.{heap_events}
-use Rattle.program_machine.proofs.Follows.{one_pool_code, one_pool_follows}
+use Rattle.pool_isa.proofs.SafeAccesses.{run_accesses_safe}
+use Rattle.backend_correct.specs.HeapEvents.{heap_events}
+use Rattle.backend_correct.proofs.Follows.{one_pool_code, one_pool_follows}
 use Rattle.poolcc.specs.Compiled.{IsCompilable, IsImageFor}
 
 -- ---- emitted code can be linked

@@ -6,15 +6,15 @@ use Rattle.std.specs.Prelude.{Vec}
 use Rattle.std.specs.declared.alloc.AllocError.{AllocError}
 use Rattle.tac_ir.specs.declared.program.Tac.{Tac}
 use Rattle.tac_ir.specs.Views.{tac_of}
-use Rattle.function_groups.specs.GroupViews.{groups_of}
-use Rattle.code_graphs.specs.declared.graphed.CodeGraphs.{CodeGraphs}
-use Rattle.code_graphs.specs.Made.{graphs_in}
-use Rattle.graph_text.specs.declared.labels.Labels.{Labels}
+use Rattle.call_graph.specs.GroupViews.{groups_of}
+use Rattle.dsa_bottom_up.specs.declared.graphed.CodeGraphs.{CodeGraphs}
+use Rattle.dsa_bottom_up.specs.CodeGraphs.Made.{graphs_in}
+use Rattle.graph_text.specs.declared.function_labels.Labels.{Labels}
 use Rattle.graph_text.specs.Texts.{GraphText}
-use Rattle.graph_labels.specs.Labels.{labels_of, labels_in}
-use Rattle.pcc_status.specs.declared.status.Refusal.{Refusal}
-use Rattle.pcc_status.specs.declared.status.Status.{Status}
-use Rattle.pcc_status.specs.declared.status.Status.TheVariants as S
+use Rattle.graph_text.specs.ProgramLabels.{labels_of, labels_in}
+use Rattle.pcc_words.specs.declared.status.Refusal.{Refusal}
+use Rattle.pcc_words.specs.declared.status.Status.{Status}
+use Rattle.pcc_words.specs.declared.status.Status.TheVariants as S
 use Rattle.poolcc.specs.Compiled.{IsBuildable}
 use Rattle.poolcc.specs.Complete.{AreShownUnlessMemory}
 use Rattle.poolcc.specs.Exec.{source_limit}

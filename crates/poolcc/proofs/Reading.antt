@@ -1,10 +1,10 @@
 -- What the reader answers of a text's tokens, as facts of the text.
 use Rattle.std.proofs.Common.{◌≡◌, ℕ, List, sym, subst}
-use Rattle.text_place.specs.Places.{first_place}
-use Rattle.c_token.specs.Leaves.{Leaf}
+use Rattle.run_theory.specs.Places.{first_place}
+use Rattle.c_grammar.specs.Leaves.{Leaf}
 use Rattle.c_lexer.specs.Tokens.{Divides}
 use Rattle.c_syntax.specs.Trees
-use Rattle.c_reader.specs.Readings.{IsProgram}
+use Rattle.c_reader.specs.ProgramReadings.{IsProgram}
 use Rattle.poolcc.specs.Compiled.{Reads, ReadsAs}
 
 module _ (text : List ℕ) (leaves : List Leaf) (divides : Divides first_place text leaves) (alone : (others : List Leaf) → Divides first_place text others → leaves ≡ others) where

@@ -4,8 +4,8 @@ use Rattle.run_theory.specs.Runs.{output_of, trace_of}
 use Rattle.run_theory.proofs.Traces.{output_of-append}
 use Rattle.c_syntax.specs.Trees
 use Rattle.c_rules.specs.Elaborated.{typed_of}
-use Rattle.ref_steps.proofs.Spans.{kept}
-use Rattle.ref_store.specs.Holding.{left}
+use Rattle.ref_semantics.proofs.Spans.{kept}
+use Rattle.ref_meaning.specs.RefStore.Holding.{left}
 use Rattle.ref_meaning.specs.declared.run.RefRun.{RefRun}
 use Rattle.ref_meaning.specs.declared.run.RefEnd.{RefEnd}
 use Rattle.ref_meaning.specs.declared.run.RefEnd.TheVariants as E

@@ -1,29 +1,29 @@
 -- A text has at most one refusal, and none where it is accepted. That for its heap graphs comes only where it is accepted so far.
 use Rattle.std.proofs.Common.{◌≡◌, ℕ, List, Option, Some, None, sym, ap, subst, ◌∙◌, refl}
-use Rattle.text_place.specs.declared.place.Pos.{Pos}
+use Rattle.run_theory.specs.declared.place.Pos.{Pos}
 use Rattle.c_syntax.specs.Trees
 use Rattle.c_rules.specs.declared.violation.Violation.{Violation}
 use Rattle.c_rules.specs.Known.{least}
 use Rattle.c_rules.specs.Programs as rules
 use Rattle.c_rules.specs.Elaborated as elaborated
-use Rattle.c_types.specs.NamedItems.{named_types}
-use Rattle.c_types_limits.specs.declared.limits.LimitErr.{LimitErr}
-use Rattle.c_types_limits.specs.declared.limits.Limit.{Limit}
-use Rattle.c_types_limits.specs.declared.limits.Limit.TheVariants as L
-use Rattle.c_types_limits.specs.Limits.{exceeded}
-use Rattle.pcc_status.specs.declared.status.LexKind.{LexKind}
-use Rattle.pcc_status.specs.declared.status.LexKind.TheVariants as K
-use Rattle.pcc_status.specs.declared.status.SyntaxKind.{SyntaxKind}
-use Rattle.pcc_status.specs.declared.status.LimitKind.{LimitKind}
-use Rattle.pcc_status.specs.declared.status.LimitKind.TheVariants as M
-use Rattle.pcc_status.specs.declared.status.Refusal.{Refusal}
-use Rattle.pcc_status.specs.declared.status.Refusal.TheVariants as R
+use Rattle.c_rules.specs.NamedItems.{named_types}
+use Rattle.c_types.specs.declared.limits.LimitErr.{LimitErr}
+use Rattle.c_types.specs.declared.limits.Limit.{Limit}
+use Rattle.c_types.specs.declared.limits.Limit.TheVariants as L
+use Rattle.c_types.specs.Limits.{exceeded}
+use Rattle.pcc_words.specs.declared.status.LexKind.{LexKind}
+use Rattle.pcc_words.specs.declared.status.LexKind.TheVariants as K
+use Rattle.pcc_words.specs.declared.status.SyntaxKind.{SyntaxKind}
+use Rattle.pcc_words.specs.declared.status.LimitKind.{LimitKind}
+use Rattle.pcc_words.specs.declared.status.LimitKind.TheVariants as M
+use Rattle.pcc_words.specs.declared.status.Refusal.{Refusal}
+use Rattle.pcc_words.specs.declared.status.Refusal.TheVariants as R
 use Rattle.poolcc.specs.declared.text.Stop as code
 use Rattle.poolcc.specs.declared.text.Stop.TheVariants as stops
 use Rattle.tac_ir.specs.Code.{Tac}
 use Rattle.heap_graph.specs.Graphs.{ProgramGraphs}
-use Rattle.code_graphs.specs.Graphed.{HasGraphs, IsOvergrown}
-use Rattle.code_graphs.proofs.Once.{one_overgrown, not_overgrown}
+use Rattle.dsa_bottom_up.specs.Graphed.{HasGraphs, IsOvergrown}
+use Rattle.dsa_bottom_up.proofs.Once.{one_overgrown, not_overgrown}
 use Rattle.poolcc.specs.Compiled.{ReadsAs, IsAccepted, IsBuildable, initial_values}
 use Rattle.poolcc.specs.Refused.{fault_of, IsLexical, IsSyntactic, IsRefused, IsOverfull, IsUncompiled, IsStop, IsHalt, limit_named, stop_of}
 use Rattle.poolcc.proofs.Misplacing.{one_syntactic}

@@ -1,18 +1,18 @@
 -- What the code refuses is refused, and what is refused gets that answer.
 use Rattle.std.proofs.Common.{◌≡◌, ℕ, ◌≤◌, ◌⊎◌, inl, inr, true, List, Option, length, ap, refl, arith}
-use Rattle.text_place.specs.declared.place.Pos.{Pos}
-use Rattle.text_place.specs.Places.{first_place}
+use Rattle.run_theory.specs.declared.place.Pos.{Pos}
+use Rattle.run_theory.specs.Places.{first_place}
 use Rattle.c_lexer.specs.declared.lex_err.LexErr.{LexErr}
 use Rattle.c_lexer.specs.declared.lex_err.LexErr.TheVariants as X
 use Rattle.c_lexer.specs.Tokens.{Faults, UnlessMemory}
 use Rattle.c_lexer.proofs.Dividing.{one_fault, no_both}
 use Rattle.image_form.specs.declared.image.MachineLimits.{MachineLimits}
 use Rattle.image_form.specs.Form.{Form}
-use Rattle.pcc_status.specs.declared.status.LexKind.{LexKind}
-use Rattle.pcc_status.specs.declared.status.LexKind.TheVariants as K
-use Rattle.pcc_status.specs.declared.status.Refusal.{Refusal}
-use Rattle.pcc_status.specs.declared.status.Status.{Status}
-use Rattle.pcc_status.specs.declared.status.Status.TheVariants as S
+use Rattle.pcc_words.specs.declared.status.LexKind.{LexKind}
+use Rattle.pcc_words.specs.declared.status.LexKind.TheVariants as K
+use Rattle.pcc_words.specs.declared.status.Refusal.{Refusal}
+use Rattle.pcc_words.specs.declared.status.Status.{Status}
+use Rattle.pcc_words.specs.declared.status.Status.TheVariants as S
 use Rattle.poolcc.specs.Compiled.{Compiles}
 use Rattle.poolcc.specs.Exec.{source_limit, ExecGives}
 use Rattle.poolcc.specs.Refused.{fault_of, IsLexical, IsUncompiled, IsStop, stop_of}

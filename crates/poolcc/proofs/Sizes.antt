@@ -2,9 +2,9 @@
 use Rattle.std.proofs.Common.{ℕ, ◌≤◌, List, length, arith}
 use Rattle.c_syntax.specs.Trees.{ProgramTree}
 use Rattle.c_rules.specs.Elaborated.{typed_of}
-use Rattle.c_sizes.specs.TypedNodes.{program_nodes, greatest_nodes}
-use Rattle.c_rules_sizes.proofs.Programs.{typed_nodes}
-use Rattle.c_reader_sizes.proofs.Texts.{nodes_within_text}
+use Rattle.c_typed.specs.TypedNodes.{program_nodes, greatest_nodes}
+use Rattle.c_rules.proofs.Sizes.Programs.{typed_nodes}
+use Rattle.accepted_programs.proofs.Texts.{nodes_within_text}
 use Rattle.poolcc.specs.Compiled.{IsAccepted}
 use Rattle.poolcc.specs.Exec.{source_limit}
 

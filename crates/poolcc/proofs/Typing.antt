@@ -3,12 +3,12 @@ use Rattle.std.proofs.Common.{◌≡◌, ℕ, ◌≤◌, List, length, is_some, 
 use Rattle.c_syntax.specs.Trees.{ProgramTree}
 use Rattle.c_typed.specs.Typed.{Program}
 use Rattle.c_rules.specs.Elaborated.{typed_of}
-use Rattle.c_types.specs.NamedItems.{named_types}
-use Rattle.c_types_premises.proofs.Premises.{Premises, accepted_premises}
-use Rattle.c_types_arguments.proofs.Program.{limits_give_few_arguments}
-use Rattle.image_premises.proofs.FewParameters.{few_parameters}
-use Rattle.counted_slots.proofs.FewSlots.{accepted_few_slots}
-use Rattle.c_program_depths.proofs.Programs.{accepted_depth}
+use Rattle.c_rules.specs.NamedItems.{named_types}
+use Rattle.accepted_programs.proofs.Premises.{Premises, accepted_premises}
+use Rattle.accepted_programs.proofs.CTypesArguments.Program.{limits_give_few_arguments}
+use Rattle.accepted_programs.proofs.FewParameters.{few_parameters}
+use Rattle.accepted_programs.proofs.FewSlots.{accepted_few_slots}
+use Rattle.accepted_programs.proofs.CProgramDepths.Programs.{accepted_depth}
 use Rattle.poolcc.specs.Compiled.{IsAccepted, IsCompilable}
 use Rattle.poolcc.specs.Exec.{source_limit}
 use Rattle.poolcc.proofs.Sizes.{nodes_within}

@@ -1,9 +1,9 @@
 -- What a whole command does.
 use Rattle.std.specs.Prelude.{◌≡◌, ℕ, ◌⊎◌, Bool, List, Option, Some}
 use Rattle.pcc_outside.specs.Outside.{Told, Missing, Holds}
-use Rattle.pcc_status.specs.declared.status.Status.{Status}
-use Rattle.pcc_status.specs.declared.status.Status.TheVariants as S
-use Rattle.pcc_status.specs.declared.status.UsageKind.TheVariants as U
+use Rattle.pcc_words.specs.declared.status.Status.{Status}
+use Rattle.pcc_words.specs.declared.status.Status.TheVariants as S
+use Rattle.pcc_words.specs.declared.status.UsageKind.TheVariants as U
 use Rattle.poolcc.specs.Build.{BuildGives}
 use Rattle.pcc_words.specs.Line.{Line, Limits, NoCommand, NoLine, Build, Exec, Run, Ref, Graph}
 use Rattle.poolcc.specs.Command.{Names, machine_limits}

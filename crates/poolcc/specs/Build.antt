@@ -3,8 +3,8 @@ use Rattle.std.specs.Prelude.{◌≡◌, ℕ, ◌<◌, ◌≤◌, List, ◌++◌
 use Rattle.pcc_outside.specs.Outside.{AddsPart}
 use Rattle.image_form.specs.declared.image.MachineLimits.{MachineLimits}
 use Rattle.image_form.specs.Form.{Form}
-use Rattle.pcc_status.specs.declared.status.Status.{Status}
-use Rattle.pcc_status.specs.declared.status.Status.TheVariants as S
+use Rattle.pcc_words.specs.declared.status.Status.{Status}
+use Rattle.pcc_words.specs.declared.status.Status.TheVariants as S
 use Rattle.poolcc.specs.Compiled.{Compiles}
 use Rattle.poolcc.specs.Exec.{source_limit}
 use Rattle.poolcc.specs.Refused.{IsUncompiled}

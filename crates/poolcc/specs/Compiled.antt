@@ -1,37 +1,37 @@
 -- When an image is a program's.
 use Rattle.std.specs.Prelude.{◌≡◌, ℕ, ◌≤◌, List, [], ◌∷◌, Option, None}
-use Rattle.text_place.specs.Places.{first_place}
+use Rattle.run_theory.specs.Places.{first_place}
 use Rattle.run_theory.specs.Runs.{Run, FollowsBy}
-use Rattle.c_token.specs.Leaves.{Leaf}
+use Rattle.c_grammar.specs.Leaves.{Leaf}
 use Rattle.c_lexer.specs.Tokens.{Divides}
 use Rattle.c_syntax.specs.Trees
-use Rattle.c_reader.specs.Readings.{IsProgram}
+use Rattle.c_reader.specs.ProgramReadings.{IsProgram}
 use Rattle.c_typed.specs.Typed as T
 use Rattle.c_typed.specs.Typed.{Value, Values, Program}
-use Rattle.c_well_typed.specs.Programs.{IsWellTyped}
-use Rattle.c_well_typed.specs.Sizes.{HasStorableTypes}
-use Rattle.c_sizes.specs.TypedNodes.{program_nodes, greatest_nodes}
-use Rattle.c_depths.specs.TypedDepths.{program_depth, greatest_depth}
-use Rattle.c_arguments.specs.TypedArguments.{CallsFew}
-use Rattle.image_premises.specs.Parameters.{HasFewParameters}
-use Rattle.c_types_expressions.specs.Named.{NamedType}
+use Rattle.c_typed.specs.Programs.{IsWellTyped}
+use Rattle.c_typed.specs.Sizes.{HasStorableTypes}
+use Rattle.c_typed.specs.TypedNodes.{program_nodes, greatest_nodes}
+use Rattle.c_typed.specs.TypedDepths.{program_depth, greatest_depth}
+use Rattle.c_typed.specs.TypedArguments.{CallsFew}
+use Rattle.c_typed.specs.Parameters.{HasFewParameters}
+use Rattle.c_rules.specs.Named.{NamedType}
 use Rattle.ref_semantics.specs.First.{reference}
 use Rattle.c_rules.specs.Programs as rules
 use Rattle.c_rules.specs.Elaborated as elaborated
 use Rattle.c_types.specs.InitialValues.{first_values}
-use Rattle.c_types.specs.NamedItems.{named_types}
-use Rattle.c_types_limits.specs.Limits.{exceeded}
+use Rattle.c_rules.specs.NamedItems.{named_types}
+use Rattle.c_types.specs.Limits.{exceeded}
 use Rattle.tac_ir.specs.Code.{Tac}
 use Rattle.heap_graph.specs.Graphs.{ProgramGraphs}
-use Rattle.lowered_points.specs.Counted.{HaveFewSlots}
-use Rattle.code_graphs.specs.Graphed.{HasGraphs, IsOvergrown}
+use Rattle.dsa_bottom_up.specs.Counted.{HaveFewSlots}
+use Rattle.dsa_bottom_up.specs.Graphed.{HasGraphs, IsOvergrown}
 use Rattle.pool_isa.specs.Machine.{State, initial, mach}
 use Rattle.image_form.specs.declared.image.MachineLimits.{MachineLimits}
 use Rattle.image_form.specs.Form.{Form, code_of, IsImage, ImageOf}
 use Rattle.machine.specs.declared.ends.RunEnd.{RunEnd}
 use Rattle.machine.specs.Run.{RunsTo}
-use Rattle.machine_accesses.specs.Accesses.{AccessesAreSafe}
-use Rattle.program_machine.specs.HeapEvents.{heap_events}
+use Rattle.pool_isa.specs.Accesses.{AccessesAreSafe}
+use Rattle.backend_correct.specs.HeapEvents.{heap_events}
 use Rattle.poolcc.specs.Seen.{AreInRange}
 
 -- The text divides into the tokens of the program.

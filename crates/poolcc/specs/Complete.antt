@@ -4,8 +4,8 @@ use Rattle.run_theory.specs.Runs.{output_of, Ended, DepthReached, Undefined, Hea
 use Rattle.image_form.specs.declared.image.MachineLimits.{MachineLimits}
 use Rattle.image_form.specs.Form.{Form}
 use Rattle.image_form.specs.Faults.{IsBadAt}
-use Rattle.pcc_status.specs.declared.status.Status.{Status}
-use Rattle.pcc_status.specs.declared.status.Status.TheVariants as S
+use Rattle.pcc_words.specs.declared.status.Status.{Status}
+use Rattle.pcc_words.specs.declared.status.Status.TheVariants as S
 use Rattle.ref_meaning.specs.Running.{Reached}
 use Rattle.poolcc.specs.Compiled.{image_run, Compiles}
 use Rattle.poolcc.specs.Printed.{IsPrinted}

@@ -4,8 +4,8 @@ use Rattle.image_form.specs.declared.image.MachineLimits.{MachineLimits}
 use Rattle.image_form.specs.Form.{Form}
 use Rattle.machine.specs.declared.ends.RunEnd.{RunEnd}
 use Rattle.machine.specs.declared.ends.RunEnd.TheVariants as E
-use Rattle.pcc_status.specs.declared.status.Status.{Status}
-use Rattle.pcc_status.specs.declared.status.Status.TheVariants as S
+use Rattle.pcc_words.specs.declared.status.Status.{Status}
+use Rattle.pcc_words.specs.declared.status.Status.TheVariants as S
 use Rattle.poolcc.specs.Compiled.{RunsImageTo, Compiles}
 use Rattle.poolcc.specs.Refused.{IsUncompiled}
 

@@ -1,8 +1,8 @@
 -- What the contracts of commands say of the outside: what they presume of it, and what they leave.
 use Rattle.std.specs.Prelude.{◌≡◌, ℕ, ◌≤◌, ◌<◌, ◌⊎◌, List, length, map, String, string_bytes, Option, Some}
 use Rattle.pcc_outside.specs.Outside.{Told, Missing, Holds, Rose}
-use Rattle.pcc_status.specs.declared.status.Status.{Status}
-use Rattle.pcc_status.specs.declared.status.Status.TheVariants as S
+use Rattle.pcc_words.specs.declared.status.Status.{Status}
+use Rattle.pcc_words.specs.declared.status.Status.TheVariants as S
 use Rattle.pcc_words.specs.Line.{Line, line_of}
 use Rattle.poolcc.specs.Command.{Names}
 

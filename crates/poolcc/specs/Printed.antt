@@ -1,19 +1,19 @@
 -- What `graph` answers.
 use Rattle.std.specs.Prelude.{◌≡◌, ℕ, ◌<◌, ◌≤◌, List, ◌++◌, map, length, Option, Some}
 use Rattle.pcc_outside.specs.Outside.{AddsPart}
-use Rattle.pcc_status.specs.declared.status.Status.{Status}
-use Rattle.pcc_status.specs.declared.status.Status.TheVariants as S
+use Rattle.pcc_words.specs.declared.status.Status.{Status}
+use Rattle.pcc_words.specs.declared.status.Status.TheVariants as S
 use Rattle.c_syntax.specs.Trees.{ProgramTree}
 use Rattle.c_rules.specs.Elaborated.{typed_of}
 use Rattle.tac_ir.specs.declared.program.Tac.{Tac}
 use Rattle.tac_ir.specs.Views.{tac_of}
-use Rattle.function_groups.specs.GroupViews.{groups_of}
-use Rattle.code_graphs.specs.declared.graphed.CodeGraphs.{CodeGraphs}
-use Rattle.code_graphs.specs.Graphed.{HasGraphs}
-use Rattle.code_graphs.specs.Made.{graphs_in}
-use Rattle.graph_text.specs.declared.labels.Labels.{Labels}
+use Rattle.call_graph.specs.GroupViews.{groups_of}
+use Rattle.dsa_bottom_up.specs.declared.graphed.CodeGraphs.{CodeGraphs}
+use Rattle.dsa_bottom_up.specs.Graphed.{HasGraphs}
+use Rattle.dsa_bottom_up.specs.CodeGraphs.Made.{graphs_in}
+use Rattle.graph_text.specs.declared.function_labels.Labels.{Labels}
 use Rattle.graph_text.specs.Texts.{GraphText}
-use Rattle.graph_labels.specs.Labels.{labels_of, labels_in}
+use Rattle.graph_text.specs.ProgramLabels.{labels_of, labels_in}
 use Rattle.poolcc.specs.Compiled.{IsAccepted, initial_values}
 use Rattle.poolcc.specs.Exec.{source_limit}
 use Rattle.poolcc.specs.Refused.{IsUncompiled}

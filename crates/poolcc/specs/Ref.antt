@@ -3,8 +3,8 @@ use Rattle.std.specs.Prelude.{◌≡◌, ℕ, ◌<◌, ◌≤◌, ◌⊎◌, Lis
 use Rattle.run_theory.specs.Runs.{Answer, Final, Trace, Ended, DepthReached, Undefined, Going, Over, output_of, trace_of}
 use Rattle.c_syntax.specs.Trees
 use Rattle.c_rules.specs.Elaborated.{typed_of}
-use Rattle.pcc_status.specs.declared.status.Status.{Status}
-use Rattle.pcc_status.specs.declared.status.Status.TheVariants as S
+use Rattle.pcc_words.specs.declared.status.Status.{Status}
+use Rattle.pcc_words.specs.declared.status.Status.TheVariants as S
 use Rattle.ref_meaning.specs.declared.run.RefEnd.{RefEnd}
 use Rattle.ref_meaning.specs.declared.run.RefEnd.TheVariants as E
 use Rattle.ref_meaning.specs.Running.{Reached, behaviour_of}

@@ -1,29 +1,29 @@
 -- When a text is refused, and of which kind and place.
 use Rattle.std.specs.Prelude.{◌≡◌, ℕ, List, [], Some}
-use Rattle.text_place.specs.declared.place.Pos.{Pos}
-use Rattle.text_place.specs.Places.{first_place}
-use Rattle.c_token.specs.Leaves.{Leaf}
+use Rattle.run_theory.specs.declared.place.Pos.{Pos}
+use Rattle.run_theory.specs.Places.{first_place}
+use Rattle.c_grammar.specs.Leaves.{Leaf}
 use Rattle.c_lexer.specs.declared.lex_err.LexErr.{LexErr}
 use Rattle.c_lexer.specs.declared.lex_err.LexErr.TheVariants as X
 use Rattle.c_lexer.specs.Tokens.{Divides, Faults}
 use Rattle.c_syntax.specs.Trees
-use Rattle.c_reader.specs.Readings.{MisfitAt, TooDeepAt}
+use Rattle.c_reader.specs.ProgramReadings.{MisfitAt, TooDeepAt}
 use Rattle.c_rules.specs.declared.rule.TypeRule.{TypeRule}
 use Rattle.c_rules.specs.Programs as rules
 use Rattle.c_rules.specs.Elaborated as elaborated
-use Rattle.c_types.specs.NamedItems.{named_types}
-use Rattle.c_types_limits.specs.declared.limits.Limit.{Limit}
-use Rattle.c_types_limits.specs.declared.limits.Limit.TheVariants as L
-use Rattle.c_types_limits.specs.Limits.{exceeded}
-use Rattle.code_graphs.specs.Graphed.{IsOvergrown}
-use Rattle.pcc_status.specs.declared.status.LexKind.{LexKind}
-use Rattle.pcc_status.specs.declared.status.LexKind.TheVariants as K
-use Rattle.pcc_status.specs.declared.status.SyntaxKind.{SyntaxKind}
-use Rattle.pcc_status.specs.declared.status.SyntaxKind.TheVariants as Y
-use Rattle.pcc_status.specs.declared.status.LimitKind.{LimitKind}
-use Rattle.pcc_status.specs.declared.status.LimitKind.TheVariants as M
-use Rattle.pcc_status.specs.declared.status.Refusal.{Refusal}
-use Rattle.pcc_status.specs.declared.status.Refusal.TheVariants as R
+use Rattle.c_rules.specs.NamedItems.{named_types}
+use Rattle.c_types.specs.declared.limits.Limit.{Limit}
+use Rattle.c_types.specs.declared.limits.Limit.TheVariants as L
+use Rattle.c_types.specs.Limits.{exceeded}
+use Rattle.dsa_bottom_up.specs.Graphed.{IsOvergrown}
+use Rattle.pcc_words.specs.declared.status.LexKind.{LexKind}
+use Rattle.pcc_words.specs.declared.status.LexKind.TheVariants as K
+use Rattle.pcc_words.specs.declared.status.SyntaxKind.{SyntaxKind}
+use Rattle.pcc_words.specs.declared.status.SyntaxKind.TheVariants as Y
+use Rattle.pcc_words.specs.declared.status.LimitKind.{LimitKind}
+use Rattle.pcc_words.specs.declared.status.LimitKind.TheVariants as M
+use Rattle.pcc_words.specs.declared.status.Refusal.{Refusal}
+use Rattle.pcc_words.specs.declared.status.Refusal.TheVariants as R
 use Rattle.poolcc.specs.Compiled.{Reads, ReadsAs, IsAccepted, initial_values}
 use Rattle.poolcc.specs.declared.text.Stop as code
 use Rattle.poolcc.specs.declared.text.Stop.TheVariants as stops

@@ -3,8 +3,8 @@ use Rattle.image_form.specs.declared.image.MachineLimits.{MachineLimits}
 use Rattle.pool_isa.specs.Ranges.{IsWithin}
 use Rattle.machine.specs.declared.ends.RunEnd.{RunEnd}
 use Rattle.machine.specs.declared.ends.RunEnd.TheVariants as E
-use Rattle.pcc_status.specs.declared.status.Status.{Status}
-use Rattle.pcc_status.specs.declared.status.Status.TheVariants as S
+use Rattle.pcc_words.specs.declared.status.Status.{Status}
+use Rattle.pcc_words.specs.declared.status.Status.TheVariants as S
 use Rattle.ref_meaning.specs.declared.run.RefEnd.{RefEnd}
 use Rattle.ref_meaning.specs.declared.run.RefEnd.TheVariants as R
 

@@ -11,7 +11,7 @@ use crate::execution::SOURCE_LIMIT;
 use crate::text::{Stop, image_of};
 use image_form::{MachineLimits, to_bytes};
 use pcc_outside::{Files, ReadErr, Sink, read_all, write_all};
-use pcc_status::Status;
+use pcc_words::Status;
 use std::alloc::Global;
 
 /// Compiles a file within limits, and writes the bytes of its image.

@@ -12,7 +12,7 @@ use crate::text::{Stop, image_of};
 use image_form::{Image, MachineLimits};
 use machine::{Machine, RunEnd};
 use pcc_outside::{Files, ReadErr, Sink, Source, read_all};
-use pcc_status::Status;
+use pcc_words::Status;
 use std::alloc::Global;
 
 /// The most bytes of a source.

@@ -3,7 +3,7 @@
 ghost use Rattle.std.specs.Prelude.{◌≡◌, ◌≢◌, ℕ, ◌<◌, ◌≤◌, List, Some, length, IfOk, IfErr};
 ghost use Rattle.pcc_outside.specs.Outside.{Rose, Holds};
 ghost use Rattle.c_syntax.specs.Views.{program_tree};
-ghost use Rattle.dsa_bottom_up.specs.Ascending.{GraphsAscend};
+ghost use Rattle.heap_graph.specs.Ascending.{GraphsAscend};
 ghost use Rattle.poolcc.specs.Premises.{NoFileFailed, AnswersNoSource};
 ghost use Rattle.poolcc.specs.Exec.{IsUsage, source_limit};
 ghost use Rattle.poolcc.specs.Printed.{IsTextOf, IsPrinted, GraphGives};
@@ -13,11 +13,10 @@ use crate::compilation::{CompileErr, analyse};
 use crate::execution::SOURCE_LIMIT;
 use crate::text::{Stop, elaborate, parse};
 use c_syntax::Program;
-use code_graphs::CodeGraphs;
-use graph_labels::labels;
-use graph_text::graph_lines;
+use dsa_bottom_up::CodeGraphs;
+use graph_text::{graph_lines, labels};
 use pcc_outside::{Files, ReadErr, Sink, read_all, write_all};
-use pcc_status::{Refusal, Status};
+use pcc_words::{Refusal, Status};
 use std::alloc::{AllocError, Global};
 use tac_ir::Tac;
 

@@ -9,7 +9,7 @@ ghost use Rattle.poolcc.specs.ImageRun.{ImageGives, image_limit};
 use crate::execution::{run_image, status_of};
 use image_form::{ImageErr, from_bytes};
 use pcc_outside::{Files, ReadErr, Sink, Source, read_all};
-use pcc_status::Status;
+use pcc_words::Status;
 use std::alloc::Global;
 
 /// The most bytes of an image.

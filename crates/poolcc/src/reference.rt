@@ -3,8 +3,8 @@
 ghost use Rattle.std.specs.Prelude.{◌≡◌, ◌≢◌, ℕ, ◌<◌, ◌≤◌, List, Some, length};
 ghost use Rattle.pcc_outside.specs.Outside.{Rose, Holds};
 ghost use Rattle.c_typed.specs.DefinitionViews.{program_of, ProgramStands};
-ghost use Rattle.c_well_typed.specs.Programs.{IsWellTyped};
-ghost use Rattle.c_well_typed.specs.Sizes.{HasStorableTypes};
+ghost use Rattle.c_typed.specs.Programs.{IsWellTyped};
+ghost use Rattle.c_typed.specs.Sizes.{HasStorableTypes};
 ghost use Rattle.ref_meaning.specs.Running.{behaviour_of};
 ghost use Rattle.poolcc.specs.Premises.{AReadFailed, NoneFailed, AnswersMissing};
 ghost use Rattle.poolcc.specs.Exec.{IsUsage, source_limit};
@@ -15,7 +15,7 @@ use crate::execution::SOURCE_LIMIT;
 use crate::text::{Stop, typed_program};
 use c_typed::Program;
 use pcc_outside::{Files, ReadErr, Sink, Source, read_all};
-use pcc_status::Status;
+use pcc_words::Status;
 use ref_meaning::{RefEnd, RefRun};
 use std::alloc::Global;
 

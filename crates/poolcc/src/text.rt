@@ -1,11 +1,11 @@
 // From a text to its image.
 
 ghost use Rattle.std.specs.Prelude.{◌≡◌, ◌≤◌, ℕ, true, List, length, IfOk, IfErr};
-ghost use Rattle.text_place.specs.Places.{first_place};
+ghost use Rattle.run_theory.specs.Places.{first_place};
 ghost use Rattle.c_syntax.specs.Trees as whole;
 ghost use Rattle.c_rules.specs.Elaborated as elaborated;
 ghost use Rattle.c_typed.specs.DefinitionViews.{program_of as typed_program_of};
-ghost use Rattle.c_token.specs.Leaves.{Leaf, leaves_of};
+ghost use Rattle.c_grammar.specs.Leaves.{Leaf, leaves_of};
 ghost use Rattle.c_lexer.specs.Tokens.{Divides};
 ghost use Rattle.c_syntax.specs.Views.{program_tree};
 ghost use Rattle.pool_isa.specs.Ranges.{IsWithin};
@@ -16,15 +16,14 @@ ghost use Rattle.poolcc.specs.Lowered.{first_of, IsStanding};
 ghost use Rattle.poolcc.specs.Refused.{IsStop, IsHalt, limit_named, stop_of};
 
 use crate::compilation::{CompileErr, compile};
+use c_grammar::Token;
 use c_lexer::{LexErr, tokens};
 use c_reader::{SyntaxErr, read};
 use c_rules::Violation;
 use c_syntax::Program;
-use c_token::Token;
-use c_types::Typed;
-use c_types_limits::{Limit, LimitErr, check_limits};
+use c_types::{Limit, LimitErr, Typed, check_limits};
 use image_form::{Image, ImageErr, MachineLimits, from_bytes, to_bytes};
-use pcc_status::{LexKind, LimitKind, Refusal, SyntaxKind};
+use pcc_words::{LexKind, LimitKind, Refusal, SyntaxKind};
 use std::alloc::Global;
 
 /// Why a text has no typed tree or image.

@@ -2,7 +2,7 @@
 
 ghost use Rattle.std.specs.Prelude.{◌≡◌, ℕ, Bool, ◌<◌, ◌≤◌, ◌⊎◌, List, Some};
 ghost use Rattle.pcc_outside.specs.Outside.{Rose};
-ghost use Rattle.pcc_status.specs.Said.{Said};
+ghost use Rattle.pcc_words.specs.Said.{Said};
 ghost use Rattle.pcc_words.specs.Line.{Limits as SaidLimits, NoCommand, NoLine, Build, Exec, Run, Ref, Graph};
 ghost use Rattle.pcc_words.specs.Seen.{AreLimits, limits_seen};
 ghost use Rattle.poolcc.specs.Premises.{line_said, FromText, FromSource, Undisturbed, AReadFailed, NoneFailed, ReachesBeyond};
@@ -11,11 +11,11 @@ ghost use Rattle.poolcc.specs.Seen.{AreInRange};
 ghost use Rattle.run_theory.specs.Runs.{IsUndefined};
 ghost use Rattle.run_theory.specs.declared.ends.TrapKind.{TrapKind};
 ghost use Rattle.pcc_outside.specs.Outside.{Holds};
-ghost use Rattle.text_place.specs.Places.{first_place};
-ghost use Rattle.text_place.specs.declared.place.Pos.{Pos};
-ghost use Rattle.pcc_status.specs.declared.status.LexKind.{LexKind};
-ghost use Rattle.pcc_status.specs.declared.status.Refusal.{Refusal};
-ghost use Rattle.pcc_status.specs.declared.status.Refusal.TheVariants as Refusal;
+ghost use Rattle.run_theory.specs.Places.{first_place};
+ghost use Rattle.run_theory.specs.declared.place.Pos.{Pos};
+ghost use Rattle.pcc_words.specs.declared.status.LexKind.{LexKind};
+ghost use Rattle.pcc_words.specs.declared.status.Refusal.{Refusal};
+ghost use Rattle.pcc_words.specs.declared.status.Refusal.TheVariants as Refusal;
 ghost use Rattle.c_lexer.specs.Tokens.{Faults};
 ghost use Rattle.poolcc.specs.Refused.{fault_of, IsRefused, IsUncompiled};
 ghost use Rattle.poolcc.specs.Compiled.{IsAccepted, IsBuildable, image_run};
@@ -36,8 +36,7 @@ use crate::image_run::run_file;
 use crate::reference::ref_file;
 use image_form::MachineLimits;
 use pcc_outside::{Files, Sink, Source};
-use pcc_status::{Status, UsageKind, say};
-use pcc_words::{Limits, Line, read_line};
+use pcc_words::{Limits, Line, Status, UsageKind, read_line, say};
 use std::alloc::Global;
 
 /// Does what a command line says, the program's name first: reads the named file from `files`, and the program's

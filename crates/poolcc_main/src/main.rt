@@ -4,7 +4,7 @@
 ghost use Rattle.std.specs.Prelude.{◌≡◌, ◌≢◌};
 
 use pcc_outside::{HostFiles, StdSink, StdSource};
-use pcc_status::{Status, UsageKind, say};
+use pcc_words::{Status, UsageKind, say};
 use poolcc::poolcc;
 use std::io::ErrorKind;
 use std::process::ExitCode;

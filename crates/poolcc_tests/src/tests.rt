@@ -1,7 +1,7 @@
 // The worked rows, over objects in memory. Expected answers come from the rules of the language and of the machine.
 
 use pcc_outside::{MemFiles, MemSink, MemSource};
-use pcc_status::{Status, UsageKind};
+use pcc_words::{Status, UsageKind};
 use poolcc::poolcc;
 use std::alloc::{AllocError, Global};
 use std::collections::BTreeMap;

@@ -2,7 +2,7 @@
 use Rattle.std.proofs.Common.{◌≡◌, ℕ, ◌+◌, ◌≤◌, List, ◌++◌, length, take, drop, sym, ap, ◌∙◌, append_assoc, arith, length-append, length-take, length-drop, drop-drop}
 use Rattle.byteorder.specs.Endian.{little_bytes}
 use Rattle.byteorder.specs.Numbers.{length-bytes_low_first}
-use Rattle.raw_slab.specs.Words.{with_word}
+use Rattle.run_theory.specs.Words.{with_word}
 
 pub length-with_word : (bytes : List ℕ) (off width word : ℕ) → off + width ≤ length bytes → length (with_word bytes off width word) ≡ length bytes
 length-with_word bytes off width word inside =

@@ -8,7 +8,7 @@ ghost use Rattle.std.specs.Prelude.{◌≡◌, ◌+◌, ◌≤◌, ◌^◌, ◌<
 ghost use Rattle.std.specs.Borrow.{Array, u8 as byte};
 ghost use Rattle.std.specs.Box.Ownership.{box_owns};
 ghost use denote.Struct.Lending.{lent_at};
-ghost use Rattle.raw_slab.specs.Words.{zeros, word_at, with_word};
+ghost use Rattle.run_theory.specs.Words.{zeros, word_at, with_word};
 
 use byteorder::{ByteOrder, LittleEndian};
 use std::alloc::{Allocator, Global};
@@ -39,7 +39,7 @@ impl Model for RawSlab {
 
 impl RawSlab {
     /// A slab of zero bytes.
-    #[tactic(auto, unfolding(crate::specs::Words::zeros))]
+    #[tactic(auto, unfolding(run_theory::specs::Words::zeros))]
     pub fn new(alloc: Global) -> Result<RawSlab, OutOfMemory>
         ensures { IfOk result (λ slab. slab.bytes ≡ zeros 4096) }
     {

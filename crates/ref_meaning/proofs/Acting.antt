@@ -9,9 +9,9 @@ use Rattle.std.specs.Borrow.{Bor}
 use Rattle.c_typed.specs.Table.{Interned}
 use Rattle.ref_semantics.specs.Store.{State, Eval}
 use Rattle.ref_semantics.specs.Meaning.{Normal}
-use Rattle.ref_steps.specs.Steps as steps
-use Rattle.ref_steps.specs.Steps.{Config}
-use Rattle.ref_steps.specs.Units as units
+use Rattle.ref_semantics.specs.Steps as steps
+use Rattle.ref_semantics.specs.Steps.{Config}
+use Rattle.ref_semantics.specs.Units as units
 use Rattle.ref_meaning.specs.declared.control.Node as memory_node
 use Rattle.ref_meaning.specs.declared.control.Node.TheVariants as N
 use Rattle.ref_meaning.specs.declared.control.Completion.TheVariants as W

@@ -16,15 +16,15 @@ use Rattle.ref_semantics.specs.Store.{TypeEnvironment, State, Eval, ◌>>=◌, g
 use Rattle.ref_semantics.specs.Pointers.{write}
 use Rattle.ref_semantics.specs.Meaning as rules
 use Rattle.ref_semantics.specs.Meaning.{Completion, Normal}
-use Rattle.ref_steps.specs.Parts.{Part, ValuePart, StmtPart, BodyPart}
-use Rattle.ref_steps.specs.Steps as steps
-use Rattle.ref_steps.specs.Steps.{Config, WayGiven}
-use Rattle.ref_store.specs.declared.value.Place as memory_place
-use Rattle.ref_store.specs.declared.value.Scalar as memory_scalar
-use Rattle.ref_store.specs.declared.value.Stop.{Stop}
-use Rattle.ref_store.specs.declared.store.Store.{Store}
-use Rattle.ref_store.specs.Views.{place_in, scalar_in, PlaceStands}
-use Rattle.ref_store.specs.Holding.{At, Comes, CallGives}
+use Rattle.ref_semantics.specs.Parts.{Part, ValuePart, StmtPart, BodyPart}
+use Rattle.ref_semantics.specs.Steps as steps
+use Rattle.ref_semantics.specs.Steps.{Config, WayGiven}
+use Rattle.ref_meaning.specs.declared.value.Place as memory_place
+use Rattle.ref_meaning.specs.declared.value.Scalar as memory_scalar
+use Rattle.ref_meaning.specs.declared.value.Stop.{Stop}
+use Rattle.ref_meaning.specs.declared.store.Store.{Store}
+use Rattle.ref_meaning.specs.RefStore.Views.{place_in, scalar_in, PlaceStands}
+use Rattle.ref_meaning.specs.RefStore.Holding.{At, Comes, CallGives}
 use Rattle.ref_meaning.specs.declared.control.Control.{Control}
 use Rattle.ref_meaning.specs.declared.control.Frame as memory_frame
 use Rattle.ref_meaning.specs.declared.control.Given as memory_given

@@ -10,12 +10,12 @@ use Rattle.c_typed.specs.Views.{value_in}
 use Rattle.ref_semantics.specs.Values.{Scalar}
 use Rattle.ref_semantics.specs.Store.{State, Then, Eval, ◌>>=◌, continue_with, give}
 use Rattle.ref_semantics.specs.Meaning.{greatest_depth}
-use Rattle.ref_steps.specs.Steps as steps
-use Rattle.ref_steps.specs.Steps.{Config, ScalarGiven}
-use Rattle.ref_steps.specs.Units as units
-use Rattle.ref_store.specs.declared.value.Scalar as memory_scalar
-use Rattle.ref_store.specs.Views.{scalar_in, ScalarStands}
-use Rattle.ref_store.specs.Holding.{At, left}
+use Rattle.ref_semantics.specs.Steps as steps
+use Rattle.ref_semantics.specs.Steps.{Config, ScalarGiven}
+use Rattle.ref_semantics.specs.Units as units
+use Rattle.ref_meaning.specs.declared.value.Scalar as memory_scalar
+use Rattle.ref_meaning.specs.RefStore.Views.{scalar_in, ScalarStands}
+use Rattle.ref_meaning.specs.RefStore.Holding.{At, left}
 use Rattle.ref_meaning.specs.declared.control.Control.{Control}
 use Rattle.ref_meaning.specs.declared.control.Given.TheVariants as G
 use Rattle.ref_meaning.specs.declared.control.Node as memory_node

@@ -9,17 +9,17 @@ use Rattle.c_typed.specs.declared.c_type.CType as memory_type
 use Rattle.c_typed.specs.Typed as T
 use Rattle.c_typed.specs.Typed.{Values}
 use Rattle.c_typed.specs.Table.{Interned}
-use Rattle.ref_store.specs.Fitting.{IsObjectType}
+use Rattle.ref_meaning.specs.Fitting.{IsObjectType}
 use Rattle.c_typed.specs.Views.{value_in, values_in}
 use Rattle.ref_meaning.specs.Trees.{TypesFit}
 use Rattle.ref_semantics.specs.Store.{State, give}
 use Rattle.ref_semantics.specs.Meaning.{greatest_depth}
-use Rattle.ref_steps.specs.Parts.{ValuePart}
-use Rattle.ref_steps.specs.Steps as steps
-use Rattle.ref_steps.specs.Steps.{Config}
-use Rattle.ref_store.specs.declared.value.Scalar as memory_scalar
-use Rattle.ref_store.specs.Views.{scalar_in, ScalarStands}
-use Rattle.ref_store.specs.Holding.{At}
+use Rattle.ref_semantics.specs.Parts.{ValuePart}
+use Rattle.ref_semantics.specs.Steps as steps
+use Rattle.ref_semantics.specs.Steps.{Config}
+use Rattle.ref_meaning.specs.declared.value.Scalar as memory_scalar
+use Rattle.ref_meaning.specs.RefStore.Views.{scalar_in, ScalarStands}
+use Rattle.ref_meaning.specs.RefStore.Holding.{At}
 use Rattle.ref_meaning.specs.declared.control.Frame as memory_frame
 use Rattle.ref_meaning.specs.declared.control.Node as memory_node
 use Rattle.ref_meaning.specs.declared.control.Node.TheVariants as N

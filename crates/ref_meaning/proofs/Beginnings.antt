@@ -2,17 +2,17 @@
 use Rattle.std.proofs.Common.{◌≡◌, ℕ, suc, ◌+◌, ◌-◌, ◌≤◌, ◌<◌, List, [], ◌∷◌, ◌++◌, length, drop, take, reverse, Bool, refl, sym, ap, subst, ◌∙◌, arith, take_all, add-one}
 use Rattle.std.proofs.lemmas.List.{drop_all}
 use Rattle.std.specs.Borrow.{Bor}
-use Rattle.text_place.specs.declared.place.Pos.{Pos}
+use Rattle.run_theory.specs.declared.place.Pos.{Pos}
 use Rattle.run_theory.specs.Runs as Runs
 use Rattle.c_typed.specs.declared.definition.FunctionDef as memory_function
 use Rattle.c_typed.specs.DefinitionViews.{function_in}
 use Rattle.ref_meaning.specs.Trees.{FunctionFits}
 use Rattle.ref_semantics.specs.Store.{State, Then}
 use Rattle.ref_semantics.specs.Meaning.{greatest_depth}
-use Rattle.ref_steps.specs.Steps as steps
-use Rattle.ref_steps.specs.Steps.{Config, Frame}
-use Rattle.ref_store.specs.Holding.{At, left}
-use Rattle.ref_store.proofs.Updating.{unheard}
+use Rattle.ref_semantics.specs.Steps as steps
+use Rattle.ref_semantics.specs.Steps.{Config, Frame}
+use Rattle.ref_meaning.specs.RefStore.Holding.{At, left}
+use Rattle.ref_meaning.proofs.Updating.{unheard}
 use Rattle.ref_meaning.specs.declared.control.Node.TheVariants as N
 use Rattle.ref_meaning.specs.declared.control.Stage.TheVariants as S
 use Rattle.ref_meaning.specs.declared.control.Task.TheVariants as K

@@ -7,11 +7,11 @@ use Rattle.c_typed.specs.Typed.{FunctionDef}
 use Rattle.c_typed.specs.Table.{Interned}
 use Rattle.ref_semantics.specs.Store.{TypeEnvironment, State, give}
 use Rattle.ref_semantics.specs.Meaning.{greatest_depth}
-use Rattle.ref_steps.specs.Parts.{Part, ValuePart, StmtPart}
-use Rattle.ref_steps.specs.Steps as steps
-use Rattle.ref_steps.specs.Steps.{Loop, WhileLoop, DoLoop, ForLoop, Config}
-use Rattle.ref_store.specs.Holding.{At}
-use Rattle.ref_store.specs.declared.value.Scalar as memory_scalar
+use Rattle.ref_semantics.specs.Parts.{Part, ValuePart, StmtPart}
+use Rattle.ref_semantics.specs.Steps as steps
+use Rattle.ref_semantics.specs.Steps.{Loop, WhileLoop, DoLoop, ForLoop, Config}
+use Rattle.ref_meaning.specs.RefStore.Holding.{At}
+use Rattle.ref_meaning.specs.declared.value.Scalar as memory_scalar
 use Rattle.ref_meaning.specs.declared.control.Control.{Control}
 use Rattle.ref_meaning.specs.declared.control.Node as memory_node
 use Rattle.ref_meaning.specs.declared.control.Node.TheVariants as N

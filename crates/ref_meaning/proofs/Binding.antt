@@ -6,9 +6,9 @@ use Rattle.c_typed.specs.Types.{CType}
 use Rattle.c_typed.specs.Typed.{FunctionDef}
 use Rattle.ref_semantics.specs.Values.{Scalar}
 use Rattle.ref_semantics.specs.Store.{TypeEnvironment, give}
-use Rattle.ref_steps.specs.Parts.{BodyPart}
-use Rattle.ref_steps.specs.Steps as steps
-use Rattle.ref_steps.specs.Steps.{Config}
+use Rattle.ref_semantics.specs.Parts.{BodyPart}
+use Rattle.ref_semantics.specs.Steps as steps
+use Rattle.ref_semantics.specs.Steps.{Config}
 
 -- the last items are the newest ones
 module _ {X : Type 0} (items : List X) (count : ℕ) (there : count ≤ length items) where

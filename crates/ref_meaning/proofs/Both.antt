@@ -1,6 +1,6 @@
 -- What an expression comes to once both operands are known.
 use Rattle.std.proofs.Common.{◌≡◌, ℕ, ℤ, neg_ℤ, Bool, false, if◌then◌else◌, ◌⊎◌, inl, inr, Result, Ok, Err, IsErrAnd, refl, sym, ap, subst}
-use Rattle.text_place.specs.declared.place.Pos.{Pos}
+use Rattle.run_theory.specs.declared.place.Pos.{Pos}
 use Rattle.c_num.specs.declared.IntType.{IntType}
 use Rattle.c_num.specs.declared.BinOp.{BinOp}
 use Rattle.c_num.specs.declared.BinOp.TheVariants as B
@@ -14,14 +14,14 @@ use Rattle.ref_semantics.specs.Values.{Scalar, IntegerValue, integer_of, place_o
 use Rattle.ref_semantics.specs.Store.{TypeEnvironment, State, Eval, ◌>>=◌, give}
 use Rattle.ref_semantics.specs.Meaning.{arithmetic, converted, outcome_at, kind_of, right_of}
 use Rattle.ref_semantics.specs.Pointers.{read, write, added}
-use Rattle.ref_store.specs.declared.value.Place as memory_place
-use Rattle.ref_store.specs.declared.value.Scalar as memory_scalar
-use Rattle.ref_store.specs.declared.store.Store.{Store}
-use Rattle.ref_store.specs.declared.value.Stop.{Stop}
-use Rattle.ref_store.specs.declared.value.Stop.TheVariants as T
-use Rattle.ref_store.specs.Views.{place_in, scalar_in}
-use Rattle.ref_store.specs.Holding.{At, left, IsUndefined, Comes, CallGives}
-use Rattle.ref_store.proofs.Giving.{undefined-first, undefined-behind, undefined-here, comes-bind, comes-same}
+use Rattle.ref_meaning.specs.declared.value.Place as memory_place
+use Rattle.ref_meaning.specs.declared.value.Scalar as memory_scalar
+use Rattle.ref_meaning.specs.declared.store.Store.{Store}
+use Rattle.ref_meaning.specs.declared.value.Stop.{Stop}
+use Rattle.ref_meaning.specs.declared.value.Stop.TheVariants as T
+use Rattle.ref_meaning.specs.RefStore.Views.{place_in, scalar_in}
+use Rattle.ref_meaning.specs.RefStore.Holding.{At, left, IsUndefined, Comes, CallGives}
+use Rattle.ref_meaning.proofs.Giving.{undefined-first, undefined-behind, undefined-here, comes-bind, comes-same}
 
 -- ---- one call behind another that changes nothing
 

@@ -4,9 +4,9 @@ use Rattle.std.proofs.lemmas.List.{length-reverse}
 use Rattle.c_typed.specs.Table.{Interned}
 use Rattle.ref_semantics.specs.Store.{Eval, State, give}
 use Rattle.ref_semantics.specs.Meaning.{greatest_depth}
-use Rattle.ref_steps.specs.Steps.{Config}
-use Rattle.ref_store.specs.declared.value.Scalar as memory_scalar
-use Rattle.ref_store.specs.Holding.{At}
+use Rattle.ref_semantics.specs.Steps.{Config}
+use Rattle.ref_meaning.specs.declared.value.Scalar as memory_scalar
+use Rattle.ref_meaning.specs.RefStore.Holding.{At}
 use Rattle.ref_meaning.specs.declared.control.Control.{Control}
 use Rattle.ref_meaning.specs.declared.run.RefRun.{RefRun}
 use Rattle.ref_meaning.specs.Views.{config_in, around_run, table_of, operands_of, operands_after, stack_of, part_in, task_in, frames_in}

@@ -2,14 +2,14 @@
 use Rattle.std.proofs.Common.{◌≡◌, Result, Ok, Err, IfOk, sym, subst}
 use Rattle.c_typed.specs.Table.{Interned, structs_in}
 use Rattle.ref_semantics.specs.Values.{Place, place_of}
-use Rattle.ref_store.specs.declared.value.Place as memory_place
-use Rattle.ref_store.specs.declared.value.Scalar as memory_scalar
-use Rattle.ref_store.specs.declared.value.Scalar.TheVariants as A
-use Rattle.ref_store.specs.declared.value.Stop.{Stop}
-use Rattle.ref_store.specs.Fitting.{HasRoom}
-use Rattle.ref_store.specs.Views.{place_in, scalar_in, IsElement}
+use Rattle.ref_meaning.specs.declared.value.Place as memory_place
+use Rattle.ref_meaning.specs.declared.value.Scalar as memory_scalar
+use Rattle.ref_meaning.specs.declared.value.Scalar.TheVariants as A
+use Rattle.ref_meaning.specs.declared.value.Stop.{Stop}
+use Rattle.ref_meaning.specs.Fitting.{HasRoom}
+use Rattle.ref_meaning.specs.RefStore.Views.{place_in, scalar_in, IsElement}
 use Rattle.ref_meaning.specs.declared.control.Node as memory_node
-use Rattle.ref_meaning.specs.declared.first.Next as memory_next
+use Rattle.ref_meaning.specs.declared.first_operand.Next as memory_next
 use Rattle.ref_meaning.specs.Holding.{PointsToElement}
 use Rattle.ref_meaning.specs.Doing.{NextFinds}
 use Rattle.ref_meaning.specs.Nexts.{place_next}

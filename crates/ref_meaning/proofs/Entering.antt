@@ -5,14 +5,14 @@ use Rattle.c_typed.specs.Typed as T
 use Rattle.c_typed.specs.Typed.{FunctionDef, Value}
 use Rattle.ref_semantics.specs.Store.{TypeEnvironment, State, Eval, ◌>>=◌, give}
 use Rattle.ref_semantics.specs.Values as V
-use Rattle.ref_steps.specs.Parts.{Part, ValuePart, entry_of}
-use Rattle.ref_steps.specs.Steps as steps
-use Rattle.ref_steps.specs.Steps.{Config}
-use Rattle.ref_store.specs.declared.value.Place as memory_place
-use Rattle.ref_store.specs.declared.value.Scalar as memory_scalar
-use Rattle.ref_store.specs.declared.value.Scalar.TheVariants as M
-use Rattle.ref_store.specs.Views.{place_in, scalar_in, ScalarStands, PlaceStands, IsElement}
-use Rattle.ref_store.specs.Holding.{At, Comes}
+use Rattle.ref_semantics.specs.Parts.{Part, ValuePart, entry_of}
+use Rattle.ref_semantics.specs.Steps as steps
+use Rattle.ref_semantics.specs.Steps.{Config}
+use Rattle.ref_meaning.specs.declared.value.Place as memory_place
+use Rattle.ref_meaning.specs.declared.value.Scalar as memory_scalar
+use Rattle.ref_meaning.specs.declared.value.Scalar.TheVariants as M
+use Rattle.ref_meaning.specs.RefStore.Views.{place_in, scalar_in, ScalarStands, PlaceStands, IsElement}
+use Rattle.ref_meaning.specs.RefStore.Holding.{At, Comes}
 use Rattle.ref_meaning.specs.declared.control.Control.{Control}
 use Rattle.ref_meaning.specs.declared.control.Frame as memory_frame
 use Rattle.ref_meaning.specs.declared.control.Given.TheVariants as G

@@ -5,7 +5,7 @@ use Rattle.c_typed.specs.Views.{object_in}
 use Rattle.c_typed.specs.Typed as T
 use Rattle.c_typed.specs.declared.typed.Object as memory_object
 use Rattle.c_typed.specs.declared.typed.Object.TheVariants as O
-use Rattle.ref_steps.specs.Parts.{Part, ObjectPart}
+use Rattle.ref_semantics.specs.Parts.{Part, ObjectPart}
 use Rattle.ref_meaning.specs.declared.control.Node as memory_node
 use Rattle.ref_meaning.specs.declared.control.Node.TheVariants as N
 use Rattle.ref_meaning.specs.declared.control.Stage as memory_stage

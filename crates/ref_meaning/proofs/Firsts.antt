@@ -1,16 +1,16 @@
 -- What waits is given what it waits for.
 use Rattle.std.proofs.Common.{◌≡◌, ℕ, List, ◌∷◌, Result, Ok, Err, IsErrAnd, length, refl, sym, ap, subst, ◌∙◌}
 use Rattle.ref_semantics.specs.Store.{State, ◌>>=◌, give}
-use Rattle.ref_steps.specs.Parts as parts
-use Rattle.ref_steps.specs.Parts.{Part}
-use Rattle.ref_steps.specs.Steps as steps
-use Rattle.ref_steps.specs.Steps.{Config, Frame, Given, ScalarGiven}
-use Rattle.ref_steps.specs.Units as units
-use Rattle.ref_store.specs.declared.store.Store.{Store}
-use Rattle.ref_store.specs.declared.value.Stop.{Stop}
-use Rattle.ref_store.specs.declared.value.Scalar as memory_scalar
-use Rattle.ref_store.specs.Views.{scalar_in, ScalarStands}
-use Rattle.ref_store.specs.Holding.{At, Comes, CallGives}
+use Rattle.ref_semantics.specs.Parts as parts
+use Rattle.ref_semantics.specs.Parts.{Part}
+use Rattle.ref_semantics.specs.Steps as steps
+use Rattle.ref_semantics.specs.Steps.{Config, Frame, Given, ScalarGiven}
+use Rattle.ref_semantics.specs.Units as units
+use Rattle.ref_meaning.specs.declared.store.Store.{Store}
+use Rattle.ref_meaning.specs.declared.value.Stop.{Stop}
+use Rattle.ref_meaning.specs.declared.value.Scalar as memory_scalar
+use Rattle.ref_meaning.specs.RefStore.Views.{scalar_in, ScalarStands}
+use Rattle.ref_meaning.specs.RefStore.Holding.{At, Comes, CallGives}
 use Rattle.ref_meaning.specs.declared.control.Control.{Control}
 use Rattle.ref_meaning.specs.declared.control.Given as memory_given
 use Rattle.ref_meaning.specs.declared.control.Given.TheVariants as G
@@ -19,10 +19,10 @@ use Rattle.ref_meaning.specs.declared.control.Node.TheVariants as N
 use Rattle.ref_meaning.specs.declared.control.Stage as memory_stage
 use Rattle.ref_meaning.specs.declared.control.Stage.TheVariants as S
 use Rattle.ref_meaning.specs.declared.control.Task.TheVariants as K
-use Rattle.ref_meaning.specs.declared.first.Next as memory_next
-use Rattle.ref_meaning.specs.declared.first.Next.TheVariants as X
-use Rattle.ref_meaning.specs.declared.first.Role as memory_role
-use Rattle.ref_meaning.specs.declared.first.Role.TheVariants as O
+use Rattle.ref_meaning.specs.declared.first_operand.Next as memory_next
+use Rattle.ref_meaning.specs.declared.first_operand.Next.TheVariants as X
+use Rattle.ref_meaning.specs.declared.first_operand.Role as memory_role
+use Rattle.ref_meaning.specs.declared.first_operand.Role.TheVariants as O
 use Rattle.ref_meaning.specs.declared.run.Halt.{Halt}
 use Rattle.ref_meaning.specs.declared.run.RefRun.{RefRun}
 use Rattle.ref_meaning.specs.Views.{config_in, around_run, functions_of, table_of, operands_of, part_in, task_in, given_in, waiting}

@@ -7,10 +7,10 @@ use Rattle.run_theory.specs.Runs.{Final, Trace, Going, Over, IsGoing, output_of}
 use Rattle.ref_semantics.specs.Store.{State, ◌>>=◌, continue_with}
 use Rattle.ref_semantics.specs.First.{around_of}
 use Rattle.c_typed.specs.DefinitionViews.{program_of}
-use Rattle.ref_steps.specs.Steps.{Config, goes_on, task_then, resume}
-use Rattle.ref_steps.specs.Units.{takes_unit}
-use Rattle.ref_steps.proofs.Spending.{goes-spending, goes-nowhere, goes-freely}
-use Rattle.ref_store.specs.Holding.{left}
+use Rattle.ref_semantics.specs.Steps.{Config, goes_on, task_then, resume}
+use Rattle.ref_semantics.specs.Units.{takes_unit}
+use Rattle.ref_semantics.proofs.Spending.{goes-spending, goes-nowhere, goes-freely}
+use Rattle.ref_meaning.specs.RefStore.Holding.{left}
 use Rattle.ref_meaning.specs.declared.control.Final as memory_final
 use Rattle.ref_meaning.specs.declared.control.Final.TheVariants as F
 use Rattle.ref_meaning.specs.declared.control.Task as memory_task

@@ -4,9 +4,9 @@ use Rattle.c_typed.specs.Typed as T
 use Rattle.c_typed.specs.Typed.{FunctionDef, Stmt, Value}
 use Rattle.ref_semantics.specs.Store.{TypeEnvironment}
 use Rattle.ref_semantics.specs.Values.{Scalar}
-use Rattle.ref_steps.specs.Parts.{Part, ValuePart, StmtPart}
-use Rattle.ref_steps.specs.Steps as steps
-use Rattle.ref_steps.specs.Steps.{Given, ScalarGiven, Config}
+use Rattle.ref_semantics.specs.Parts.{Part, ValuePart, StmtPart}
+use Rattle.ref_semantics.specs.Steps as steps
+use Rattle.ref_semantics.specs.Steps.{Given, ScalarGiven, Config}
 use Rattle.ref_meaning.specs.declared.control.Stage as memory_stage
 use Rattle.ref_meaning.specs.declared.control.Stage.TheVariants as S
 use Rattle.ref_meaning.specs.declared.run.RefRun.{RefRun}

@@ -10,8 +10,8 @@ use Rattle.ref_semantics.specs.Store.{State, Outcome, Then, Stopped, continue_wi
 use Rattle.ref_semantics.specs.Library.{low_byte}
 use Rattle.ref_semantics.specs.Meaning.{greatest_depth}
 use Rattle.ref_semantics.specs.First.{around_of, first_state, run_main}
-use Rattle.ref_steps.specs.Steps.{Start, Config, goes_on}
-use Rattle.ref_store.specs.Holding.{At, left}
+use Rattle.ref_semantics.specs.Steps.{Start, Config, goes_on}
+use Rattle.ref_meaning.specs.RefStore.Holding.{At, left}
 use Rattle.ref_meaning.specs.declared.control.Node.TheVariants as N
 use Rattle.ref_meaning.specs.declared.control.Task.TheVariants as K
 use Rattle.ref_meaning.specs.declared.run.RefRun.{RefRun}

@@ -13,11 +13,11 @@ use Rattle.c_typed.specs.Table.{Interned}
 use Rattle.c_typed.specs.StatementViews.{stmt_in}
 use Rattle.ref_semantics.specs.Meaning.{Normal}
 use Rattle.ref_semantics.specs.Store.{State, Eval, give}
-use Rattle.ref_steps.specs.Parts.{StmtPart}
-use Rattle.ref_steps.specs.Steps as steps
-use Rattle.ref_steps.specs.Steps.{Config, go_in, next_task, first_of, WayGiven}
-use Rattle.ref_steps.specs.Units.{act, looks}
-use Rattle.ref_store.specs.Holding.{At}
+use Rattle.ref_semantics.specs.Parts.{StmtPart}
+use Rattle.ref_semantics.specs.Steps as steps
+use Rattle.ref_semantics.specs.Steps.{Config, go_in, next_task, first_of, WayGiven}
+use Rattle.ref_semantics.specs.Units.{act, looks}
+use Rattle.ref_meaning.specs.RefStore.Holding.{At}
 use Rattle.ref_meaning.specs.declared.control.Control.{Control}
 use Rattle.ref_meaning.specs.declared.control.Node as memory_node
 use Rattle.ref_meaning.specs.declared.control.Node.TheVariants as N

@@ -7,7 +7,7 @@ use Rattle.c_typed.specs.Table.{Interned}
 use Rattle.c_typed.specs.Views.{value_in}
 use Rattle.ref_semantics.specs.Values.{Scalar}
 use Rattle.ref_semantics.specs.Store.{TypeEnvironment, give}
-use Rattle.ref_steps.specs.Parts as parts
+use Rattle.ref_semantics.specs.Parts as parts
 
 pub value_last : (around : TypeEnvironment) (table : Interned) (v : memory_value.Value) (a : Scalar)
     → ((place : _) (object : _) → v ≡ V.Read place object → ⊥)

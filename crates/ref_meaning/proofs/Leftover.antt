@@ -4,7 +4,7 @@ use Rattle.c_typed.specs.declared.typed.Value.{Value, roll-Value, roll-out-Value
 use Rattle.c_typed.specs.declared.typed.Value.TheVariants as V
 use Rattle.c_typed.specs.Table.{Interned}
 use Rattle.c_typed.specs.Views.{value_in}
-use Rattle.ref_steps.specs.Parts.{value_entry}
+use Rattle.ref_semantics.specs.Parts.{value_entry}
 use Rattle.ref_meaning.specs.Doing.{IsAwaited, IsAssignment}
 
 -- an assignment

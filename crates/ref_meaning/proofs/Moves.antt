@@ -1,7 +1,7 @@
 -- How a run moves.
 use Rattle.std.proofs.Common.{◌≡◌, ℕ, ◌-◌, ◌≤◌, List, [], ◌∷◌, Result, Err, Ok, IsOk, OnOk, OnErr, IfErr, length, take, drop, reverse, refl, sym, ap, ap₂, subst, ◌∙◌, true≢false, take-take, bytes_eq, option_map, codes}
 use Rattle.indexmap.specs.IndexMap.{get_by}
-use Rattle.text_place.specs.declared.place.Pos.{Pos}
+use Rattle.run_theory.specs.declared.place.Pos.{Pos}
 use Rattle.run_theory.specs.declared.ends.UbKind.{UbKind}
 use Rattle.run_theory.specs.Runs as Runs
 use Rattle.c_typed.specs.Table.{Interned}
@@ -10,15 +10,15 @@ use Rattle.ref_meaning.specs.Trees.{ProgramFits}
 use Rattle.ref_semantics.specs.Store.{State, Eval, ◌>>=◌, continue_with, give}
 use Rattle.ref_semantics.specs.Meaning.{greatest_depth, function_from}
 use Rattle.ref_semantics.specs.First.{around_of}
-use Rattle.ref_steps.specs.Parts.{Part}
-use Rattle.ref_steps.specs.Steps as steps
-use Rattle.ref_steps.specs.Steps.{Config, Frame}
-use Rattle.ref_store.specs.declared.value.Scalar as memory_scalar
-use Rattle.ref_store.specs.declared.value.Stop.{Stop}
-use Rattle.ref_store.specs.declared.value.Stop.TheVariants as T
-use Rattle.ref_store.specs.declared.store.Store.{Store}
-use Rattle.ref_store.specs.Holding.{At, left, Comes, CallGives, IsUndefined}
-use Rattle.ref_store.proofs.Giving.{does-bind}
+use Rattle.ref_semantics.specs.Parts.{Part}
+use Rattle.ref_semantics.specs.Steps as steps
+use Rattle.ref_semantics.specs.Steps.{Config, Frame}
+use Rattle.ref_meaning.specs.declared.value.Scalar as memory_scalar
+use Rattle.ref_meaning.specs.declared.value.Stop.{Stop}
+use Rattle.ref_meaning.specs.declared.value.Stop.TheVariants as T
+use Rattle.ref_meaning.specs.declared.store.Store.{Store}
+use Rattle.ref_meaning.specs.RefStore.Holding.{At, left, Comes, CallGives, IsUndefined}
+use Rattle.ref_meaning.proofs.Giving.{does-bind}
 use Rattle.ref_meaning.specs.declared.control.Control.{Control}
 use Rattle.ref_meaning.specs.declared.control.Frame as memory_frame
 use Rattle.ref_meaning.specs.declared.control.Node as memory_node

@@ -6,16 +6,16 @@ use Rattle.c_typed.specs.Table.{Interned}
 use Rattle.c_typed.specs.Views.{value_in, object_in}
 use Rattle.ref_semantics.specs.Values.{Scalar, Place, PointerValue}
 use Rattle.ref_semantics.specs.Store.{TypeEnvironment, State, Eval, Then, ◌>>=◌, give}
-use Rattle.ref_steps.specs.Parts as parts
-use Rattle.ref_store.specs.declared.store.Store.{Store}
-use Rattle.ref_store.specs.declared.value.Stop.{Stop}
-use Rattle.ref_store.specs.declared.value.Stop.TheVariants as T
-use Rattle.ref_store.specs.declared.value.Place as memory_place
-use Rattle.ref_store.specs.declared.value.Scalar as memory_scalar
-use Rattle.ref_store.specs.Views.{place_in, scalar_in, ScalarStands}
-use Rattle.ref_store.specs.Holding.{At, CallGives, Comes, left}
-use Rattle.ref_store.proofs.Giving.{comes-bind, comes-same, undefined-behind, undefined-first}
-use Rattle.ref_meaning.specs.declared.first.Next as memory_next
+use Rattle.ref_semantics.specs.Parts as parts
+use Rattle.ref_meaning.specs.declared.store.Store.{Store}
+use Rattle.ref_meaning.specs.declared.value.Stop.{Stop}
+use Rattle.ref_meaning.specs.declared.value.Stop.TheVariants as T
+use Rattle.ref_meaning.specs.declared.value.Place as memory_place
+use Rattle.ref_meaning.specs.declared.value.Scalar as memory_scalar
+use Rattle.ref_meaning.specs.RefStore.Views.{place_in, scalar_in, ScalarStands}
+use Rattle.ref_meaning.specs.RefStore.Holding.{At, CallGives, Comes, left}
+use Rattle.ref_meaning.proofs.Giving.{comes-bind, comes-same, undefined-behind, undefined-first}
+use Rattle.ref_meaning.specs.declared.first_operand.Next as memory_next
 use Rattle.ref_meaning.specs.Doing.{next_in, NextStands}
 use Rattle.ref_meaning.specs.Nexts.{scalar_next, place_next}
 

@@ -18,7 +18,7 @@ use Rattle.c_typed.specs.declared.statement.SwitchItem as memory_switch
 use Rattle.c_typed.specs.declared.statement.SwitchItem.TheVariants as W
 use Rattle.ref_meaning.proofs.TreeRows.{block-items, switch-items}
 use Rattle.c_typed.proofs.StatementsStay.{stmt_in-block, stmt_in-switch}
-use Rattle.ref_steps.specs.Parts.{StmtPart}
+use Rattle.ref_semantics.specs.Parts.{StmtPart}
 use Rattle.ref_meaning.specs.Views.{arguments_from, items_from, case_items_from, case_items_of}
 use Rattle.ref_meaning.specs.Items.{block_of, ThisItem, ThisCaseItem, ItemIs, CaseItemIs, StartLocalIs}
 

@@ -9,14 +9,14 @@ use Rattle.c_typed.specs.Table.{Interned, type_in}
 use Rattle.ref_semantics.specs.Values.{Scalar}
 use Rattle.ref_semantics.specs.Store.{Eval, State, give}
 use Rattle.ref_semantics.specs.Meaning.{Normal}
-use Rattle.ref_steps.specs.Parts.{BodyPart}
-use Rattle.ref_steps.specs.Steps as steps
-use Rattle.ref_steps.specs.Steps.{Config}
-use Rattle.ref_steps.specs.Units as units
-use Rattle.ref_store.specs.declared.value.Scalar as memory_scalar
-use Rattle.ref_store.specs.declared.store.Store.{Store}
-use Rattle.ref_store.specs.Views.{scalar_in, ScalarStands}
-use Rattle.ref_store.specs.Holding.{At, Comes, new_local_of}
+use Rattle.ref_semantics.specs.Parts.{BodyPart}
+use Rattle.ref_semantics.specs.Steps as steps
+use Rattle.ref_semantics.specs.Steps.{Config}
+use Rattle.ref_semantics.specs.Units as units
+use Rattle.ref_meaning.specs.declared.value.Scalar as memory_scalar
+use Rattle.ref_meaning.specs.declared.store.Store.{Store}
+use Rattle.ref_meaning.specs.RefStore.Views.{scalar_in, ScalarStands}
+use Rattle.ref_meaning.specs.RefStore.Holding.{At, Comes, new_local_of}
 use Rattle.ref_meaning.specs.declared.control.Control.{Control}
 use Rattle.ref_meaning.specs.declared.control.Node as memory_node
 use Rattle.ref_meaning.specs.declared.control.Node.TheVariants as N

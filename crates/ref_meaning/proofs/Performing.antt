@@ -6,10 +6,10 @@ use Rattle.c_typed.specs.Table.{Interned}
 use Rattle.c_typed.specs.StatementViews.{stmt_in}
 use Rattle.ref_meaning.specs.Trees.{StmtFits}
 use Rattle.ref_semantics.specs.Store.{State, give}
-use Rattle.ref_steps.specs.Parts.{StmtPart}
-use Rattle.ref_steps.specs.Steps as steps
-use Rattle.ref_steps.specs.Steps.{Config, Frame, WayGiven}
-use Rattle.ref_store.specs.Holding.{At, left}
+use Rattle.ref_semantics.specs.Parts.{StmtPart}
+use Rattle.ref_semantics.specs.Steps as steps
+use Rattle.ref_semantics.specs.Steps.{Config, Frame, WayGiven}
+use Rattle.ref_meaning.specs.RefStore.Holding.{At, left}
 use Rattle.ref_meaning.specs.declared.control.Control.{Control}
 use Rattle.ref_meaning.specs.declared.control.Node as memory_node
 use Rattle.ref_meaning.specs.declared.control.Node.TheVariants as N

@@ -12,10 +12,10 @@ use Rattle.ref_meaning.specs.Trees.{StmtFits}
 use Rattle.ref_semantics.specs.Store.{State, give}
 use Rattle.ref_semantics.specs.Values.{Scalar}
 use Rattle.ref_semantics.specs.Meaning.{is_true}
-use Rattle.ref_steps.specs.Parts.{StmtPart}
-use Rattle.ref_steps.specs.Steps as steps
-use Rattle.ref_steps.specs.Steps.{ScalarGiven}
-use Rattle.ref_store.specs.Holding.{At}
+use Rattle.ref_semantics.specs.Parts.{StmtPart}
+use Rattle.ref_semantics.specs.Steps as steps
+use Rattle.ref_semantics.specs.Steps.{ScalarGiven}
+use Rattle.ref_meaning.specs.RefStore.Holding.{At}
 use Rattle.ref_meaning.specs.declared.control.Control.{Control}
 use Rattle.ref_meaning.specs.declared.control.Node as memory_node
 use Rattle.ref_meaning.specs.declared.control.Node.TheVariants as N

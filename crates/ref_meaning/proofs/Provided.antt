@@ -3,7 +3,7 @@ use Rattle.std.proofs.Common.{◌≡◌, ℕ, zero, suc, ◌≤◌, ◌<◌, Lis
 use Rattle.std.proofs.lemmas.List.{length-reverse}
 use Rattle.std.proofs.lemmas.Option.{none-some, same_Some}
 use Rattle.std.specs.Result.{IsErrAnd}
-use Rattle.text_place.specs.declared.place.Pos.{Pos}
+use Rattle.run_theory.specs.declared.place.Pos.{Pos}
 use Rattle.run_theory.specs.Runs.{Output, output_of}
 use Rattle.run_theory.proofs.Traces.{output_of-append}
 use Rattle.pcc_outside.specs.Outside.{Adds}
@@ -13,13 +13,13 @@ use Rattle.c_typed.specs.Table.{Interned}
 use Rattle.ref_semantics.specs.Values.{Scalar, IntegerValue, NullValue}
 use Rattle.ref_semantics.specs.Store.{TypeEnvironment, State, Then, Eval, give}
 use Rattle.ref_semantics.specs.Library.{next_byte, written, library}
-use Rattle.ref_store.specs.declared.store.Store.{Store}
-use Rattle.ref_store.specs.declared.value.Scalar as memory_scalar
-use Rattle.ref_store.specs.declared.value.Scalar.TheVariants as M
-use Rattle.ref_store.specs.declared.value.Stop.{Stop}
-use Rattle.ref_store.specs.declared.value.Stop.TheVariants as T
-use Rattle.ref_store.specs.Views.{scalar_in}
-use Rattle.ref_store.specs.Holding.{At, CallGives, left}
+use Rattle.ref_meaning.specs.declared.store.Store.{Store}
+use Rattle.ref_meaning.specs.declared.value.Scalar as memory_scalar
+use Rattle.ref_meaning.specs.declared.value.Scalar.TheVariants as M
+use Rattle.ref_meaning.specs.declared.value.Stop.{Stop}
+use Rattle.ref_meaning.specs.declared.value.Stop.TheVariants as T
+use Rattle.ref_meaning.specs.RefStore.Views.{scalar_in}
+use Rattle.ref_meaning.specs.RefStore.Holding.{At, CallGives, left}
 use Rattle.ref_meaning.specs.declared.run.RefRun.{RefRun}
 use Rattle.ref_meaning.specs.declared.run.Halt.{Halt}
 use Rattle.ref_meaning.specs.Views.{table_of, around_run, newest}

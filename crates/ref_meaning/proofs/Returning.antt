@@ -1,7 +1,7 @@
 -- A function returns.
 use Rattle.std.proofs.Common.{◌≡◌, ℕ, zero, suc, ◌-◌, ◌≤◌, Bool, true, false, ◌&&◌, not, if◌then◌else◌, nat_lt, List, [], ◌∷◌, ◌++◌, length, take, drop, reverse, Option, Some, None, IfSome, option_map, Bor, bytes_eq, codes, pos, refl, sym, ap, subst, ◌∙◌, arith, take-take, le-ltb}
 use Rattle.std.proofs.lemmas.List.{take-append-drop, length-take-le, reverse-reverse, append-nil}
-use Rattle.text_place.specs.declared.place.Pos.{Pos}
+use Rattle.run_theory.specs.declared.place.Pos.{Pos}
 use Rattle.run_theory.specs.declared.ends.UbKind.TheVariants as Ub
 use Rattle.run_theory.specs.Runs as Runs
 use Rattle.c_typed.specs.declared.definition.FunctionDef as memory_function
@@ -11,14 +11,14 @@ use Rattle.c_typed.proofs.Grown.{void_stands}
 use Rattle.ref_semantics.specs.Values.{Scalar, NullValue, IntegerValue}
 use Rattle.ref_semantics.specs.Store.{TypeEnvironment, Eval, State, Then, ◌>>=◌, give, emit, undefined, unless, premise}
 use Rattle.ref_semantics.specs.Meaning.{greatest_depth, killed, kept, used_value, main_value, given_back}
-use Rattle.ref_steps.specs.Steps as steps
-use Rattle.ref_steps.specs.Steps.{Config}
-use Rattle.ref_store.specs.declared.value.Scalar as memory_scalar
-use Rattle.ref_store.specs.declared.value.Scalar.TheVariants as M
-use Rattle.ref_store.specs.declared.store.Store.{Store}
-use Rattle.ref_store.specs.Views.{scalar_in, ScalarStands}
-use Rattle.ref_store.specs.Holding.{At, left}
-use Rattle.ref_store.proofs.Updating.{unheard}
+use Rattle.ref_semantics.specs.Steps as steps
+use Rattle.ref_semantics.specs.Steps.{Config}
+use Rattle.ref_meaning.specs.declared.value.Scalar as memory_scalar
+use Rattle.ref_meaning.specs.declared.value.Scalar.TheVariants as M
+use Rattle.ref_meaning.specs.declared.store.Store.{Store}
+use Rattle.ref_meaning.specs.RefStore.Views.{scalar_in, ScalarStands}
+use Rattle.ref_meaning.specs.RefStore.Holding.{At, left}
+use Rattle.ref_meaning.proofs.Updating.{unheard}
 use Rattle.ref_meaning.specs.declared.control.Given.TheVariants as G
 use Rattle.ref_meaning.specs.declared.control.Node as memory_node
 use Rattle.ref_meaning.specs.declared.control.Node.TheVariants as N

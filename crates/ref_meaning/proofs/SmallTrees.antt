@@ -27,13 +27,13 @@ use Rattle.c_typed.specs.Table.{Interned, Stands, type_in, structs_in}
 use Rattle.c_typed.specs.Views.{value_in, object_in, designator_in, row_in, ValueStands, ObjectStands, DesignatorStands, RowStands}
 use Rattle.c_typed.specs.StatementViews.{optional_value_in, local_in, start_in, stmt_in, block_row, switch_row, block_in, OptionalStands, LocalStands, LocalsStand, StartStands, StmtStands, BlockRowStands, SwitchRowStands, BlockStands}
 use Rattle.c_typed.specs.DefinitionViews.{program_of, function_in, TypesStand, FunctionsStand, ProgramStands}
-use Rattle.c_well_typed.specs.Expressions.{is_scalar}
-use Rattle.c_well_typed.specs.Statements.{is_block}
-use Rattle.c_well_typed.specs.Programs.{IsWellTyped, are_scalars, are_functions, is_function_def, function_of, with_parameters}
-use Rattle.c_well_typed.specs.Sizes.{HasStorableTypes, is_small, fills, is_storable, makes, all_make, object_makes, designator_makes, any_makes, local_makes, locals_make, start_makes, stmt_makes, block_makes, items_make, functions_make, globals_make, literals_make}
-use Rattle.ref_typing.proofs.WellTyped.{well_structs, well_functions}
-use Rattle.ref_store.specs.Fitting.{IsObjectType}
-use Rattle.ref_store.proofs.SmallTypes.{small_object}
+use Rattle.c_typed.specs.Expressions.{is_scalar}
+use Rattle.c_typed.specs.Statements.{is_block}
+use Rattle.c_typed.specs.Programs.{IsWellTyped, are_scalars, are_functions, is_function_def, function_of, with_parameters}
+use Rattle.c_typed.specs.Sizes.{HasStorableTypes, is_small, fills, is_storable, makes, all_make, object_makes, designator_makes, any_makes, local_makes, locals_make, start_makes, stmt_makes, block_makes, items_make, functions_make, globals_make, literals_make}
+use Rattle.ref_semantics.proofs.WellTyped.{well_structs, well_functions}
+use Rattle.ref_meaning.specs.Fitting.{IsObjectType}
+use Rattle.ref_meaning.proofs.SmallTypes.{small_object}
 use Rattle.ref_meaning.specs.Trees.{ValueFits, ObjectFits, DesignatorFits, RowFits, OptionalFits, LocalFits, LocalsFit, StartFits, StmtFits, BlockRowFits, SwitchRowFits, BlockFits, TypesFit, FunctionsFit, ProgramFits}
 
 module _ (table : Interned) (structs : List StructDef) (small : (t : number.CType) → Stands table t → is_small structs (type_in table t) ≡ true → IsObjectType table t) where

@@ -1,6 +1,6 @@
 -- `++` and `--`, from what is read, what the operator gives and what is written.
 use Rattle.std.proofs.Common.{◌≡◌, ℕ, Result, Ok, Err, ℤ, pos, sym, ap, subst, ◌∙◌}
-use Rattle.text_place.specs.declared.place.Pos.{Pos}
+use Rattle.run_theory.specs.declared.place.Pos.{Pos}
 use Rattle.c_num.specs.declared.IntType.{IntType}
 use Rattle.c_num.specs.declared.IntType.TheVariants as I
 use Rattle.c_num.specs.declared.BinOp.{BinOp}
@@ -11,13 +11,13 @@ use Rattle.ref_semantics.specs.Values.{Scalar, Place, IntegerValue}
 use Rattle.ref_semantics.specs.Store.{TypeEnvironment, State, Eval, ◌>>=◌, give}
 use Rattle.ref_semantics.specs.Pointers.{read, write, added}
 use Rattle.ref_semantics.specs.Meaning.{arithmetic, converted, step_operator, step_amount, step_result}
-use Rattle.ref_steps.specs.Parts as parts
-use Rattle.ref_store.specs.declared.store.Store.{Store}
-use Rattle.ref_store.specs.declared.value.Stop.{Stop}
-use Rattle.ref_store.specs.declared.value.Place as memory_place
-use Rattle.ref_store.specs.declared.value.Scalar as memory_scalar
-use Rattle.ref_store.specs.Views.{place_in, scalar_in}
-use Rattle.ref_store.specs.Holding.{At, CallGives, Comes}
+use Rattle.ref_semantics.specs.Parts as parts
+use Rattle.ref_meaning.specs.declared.store.Store.{Store}
+use Rattle.ref_meaning.specs.declared.value.Stop.{Stop}
+use Rattle.ref_meaning.specs.declared.value.Place as memory_place
+use Rattle.ref_meaning.specs.declared.value.Scalar as memory_scalar
+use Rattle.ref_meaning.specs.RefStore.Views.{place_in, scalar_in}
+use Rattle.ref_meaning.specs.RefStore.Holding.{At, CallGives, Comes}
 use Rattle.ref_meaning.proofs.Nexts.{gives-behind, gives-first, comes-then}
 
 module _ (around : TypeEnvironment) (base : ℕ) (store new : Store) (stepping : Stepping) (here : Pos) (place : memory_place.Place) where

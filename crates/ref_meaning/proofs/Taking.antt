@@ -1,6 +1,6 @@
 -- Whether a unit is spent on what is next.
 use Rattle.std.proofs.Common.{◌≡◌, ap}
-use Rattle.ref_steps.specs.Units.{takes_unit}
+use Rattle.ref_semantics.specs.Units.{takes_unit}
 use Rattle.ref_meaning.specs.declared.control.Task as memory_task
 use Rattle.ref_meaning.specs.declared.run.RefRun.{RefRun}
 use Rattle.ref_meaning.specs.Views.{table_of, operands_of, part_in, task_in}

@@ -2,9 +2,9 @@
 use Rattle.std.proofs.Common.{◌≡◌, ℕ, ◌-◌, ◌≤◌, List, length, refl, sym, ap, subst, ◌∙◌}
 use Rattle.ref_semantics.specs.Store.{State, give}
 use Rattle.ref_semantics.specs.Meaning.{greatest_depth}
-use Rattle.ref_steps.specs.Steps.{Config}
-use Rattle.ref_store.specs.declared.value.Scalar as memory_scalar
-use Rattle.ref_store.specs.Holding.{At}
+use Rattle.ref_semantics.specs.Steps.{Config}
+use Rattle.ref_meaning.specs.declared.value.Scalar as memory_scalar
+use Rattle.ref_meaning.specs.RefStore.Holding.{At}
 use Rattle.ref_meaning.specs.declared.control.Control.{Control}
 use Rattle.ref_meaning.specs.declared.control.Frame as memory_frame
 use Rattle.ref_meaning.specs.declared.run.RefRun.{RefRun}

@@ -9,9 +9,9 @@ use Rattle.c_typed.specs.Views.{value_in}
 use Rattle.ref_semantics.specs.Values.{Scalar}
 use Rattle.ref_semantics.specs.Store.{State, Eval, Then, halt}
 use Rattle.run_theory.specs.Runs.{Final}
-use Rattle.ref_store.specs.declared.value.Scalar as memory_scalar
-use Rattle.ref_store.specs.Holding.{At, left}
-use Rattle.ref_store.specs.Views.{scalar_in}
+use Rattle.ref_meaning.specs.declared.value.Scalar as memory_scalar
+use Rattle.ref_meaning.specs.RefStore.Holding.{At, left}
+use Rattle.ref_meaning.specs.RefStore.Views.{scalar_in}
 use Rattle.ref_meaning.specs.declared.control.Node as memory_node
 use Rattle.ref_meaning.specs.declared.control.Node.TheVariants as N
 use Rattle.ref_meaning.specs.declared.control.Stage.TheVariants as S

@@ -7,12 +7,12 @@ use Rattle.c_typed.specs.Typed.{Stmt}
 use Rattle.c_typed.specs.Table.{Interned}
 use Rattle.ref_meaning.specs.Trees.{ValueFits}
 use Rattle.ref_semantics.specs.Store.{TypeEnvironment, Eval, give}
-use Rattle.ref_steps.specs.Parts as parts
-use Rattle.ref_steps.specs.Parts.{Part, ValuePart, Next, Comes, Enters, Role, entry_of}
-use Rattle.ref_steps.specs.Steps as steps
-use Rattle.ref_steps.specs.Steps.{Given, Frame, Config, Task, Loop}
-use Rattle.ref_steps.specs.Units as units
-use Rattle.ref_store.specs.Views.{scalar_in, ScalarStands}
+use Rattle.ref_semantics.specs.Parts as parts
+use Rattle.ref_semantics.specs.Parts.{Part, ValuePart, Next, Comes, Enters, Role, entry_of}
+use Rattle.ref_semantics.specs.Steps as steps
+use Rattle.ref_semantics.specs.Steps.{Given, Frame, Config, Task, Loop}
+use Rattle.ref_semantics.specs.Units as units
+use Rattle.ref_meaning.specs.RefStore.Views.{scalar_in, ScalarStands}
 use Rattle.ref_meaning.specs.declared.control.Node as memory_node
 use Rattle.ref_meaning.specs.declared.control.Node.TheVariants as N
 use Rattle.ref_meaning.specs.declared.control.Stage as memory_stage
@@ -22,10 +22,10 @@ use Rattle.ref_meaning.specs.declared.control.Task as memory_task
 use Rattle.ref_meaning.specs.declared.control.Task.TheVariants as K
 use Rattle.ref_meaning.specs.declared.entry.Entry as memory_entry
 use Rattle.ref_meaning.specs.declared.entry.Entry.TheVariants as E
-use Rattle.ref_meaning.specs.declared.first.Next as memory_next
-use Rattle.ref_meaning.specs.declared.first.Next.TheVariants as X
-use Rattle.ref_meaning.specs.declared.first.Role as memory_role
-use Rattle.ref_meaning.specs.declared.first.Role.TheVariants as O
+use Rattle.ref_meaning.specs.declared.first_operand.Next as memory_next
+use Rattle.ref_meaning.specs.declared.first_operand.Next.TheVariants as X
+use Rattle.ref_meaning.specs.declared.first_operand.Role as memory_role
+use Rattle.ref_meaning.specs.declared.first_operand.Role.TheVariants as O
 use Rattle.ref_meaning.specs.declared.run.RefRun.{RefRun}
 use Rattle.ref_meaning.specs.Views.{part_in, value_of, loop_of, frame_in, table_of, operands_of, stack_of, around_run, functions_of, config_in}
 use Rattle.ref_meaning.specs.Holding.{NodeStands, Waits, IsLibraryCall, IsObject, IsBehindFirst, IsBehindBoth, PointsToElement}

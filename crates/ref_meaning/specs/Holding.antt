@@ -11,10 +11,10 @@ use Rattle.c_typed.specs.Table.{Interned}
 use Rattle.ref_meaning.specs.Trees.{ValueFits, ObjectFits, DesignatorFits, StmtFits, FunctionFits, ProgramFits}
 use Rattle.ref_semantics.specs.Meaning.{function_from, greatest_depth}
 use Rattle.ref_semantics.specs.Store.{State}
-use Rattle.ref_store.specs.declared.value.Scalar as memory_scalar
-use Rattle.ref_store.specs.declared.value.Scalar.TheVariants as A
-use Rattle.ref_store.specs.Views.{ScalarStands, PlaceStands, IsElement}
-use Rattle.ref_store.specs.Holding.{At}
+use Rattle.ref_meaning.specs.declared.value.Scalar as memory_scalar
+use Rattle.ref_meaning.specs.declared.value.Scalar.TheVariants as A
+use Rattle.ref_meaning.specs.RefStore.Views.{ScalarStands, PlaceStands, IsElement}
+use Rattle.ref_meaning.specs.RefStore.Holding.{At}
 use Rattle.ref_meaning.specs.declared.control.Control.{Control}
 use Rattle.ref_meaning.specs.declared.control.Node as memory_node
 use Rattle.ref_meaning.specs.declared.control.Node.TheVariants as N

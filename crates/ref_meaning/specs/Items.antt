@@ -14,9 +14,9 @@ use Rattle.c_typed.specs.Table.{Interned}
 use Rattle.c_typed.specs.StatementViews.{stmt_in, local_in}
 use Rattle.ref_meaning.specs.Trees.{StmtFits, LocalFits}
 use Rattle.ref_semantics.specs.Store.{Eval, give}
-use Rattle.ref_steps.specs.Parts.{Part, StmtPart, BodyPart}
-use Rattle.ref_steps.specs.Steps as steps
-use Rattle.ref_steps.specs.Steps.{Frame, Config}
+use Rattle.ref_semantics.specs.Parts.{Part, StmtPart, BodyPart}
+use Rattle.ref_semantics.specs.Steps as steps
+use Rattle.ref_semantics.specs.Steps.{Frame, Config}
 use Rattle.ref_meaning.specs.declared.control.Node as memory_node
 use Rattle.ref_meaning.specs.declared.control.Node.TheVariants as N
 use Rattle.ref_meaning.specs.declared.run.RefRun.{RefRun}

@@ -2,10 +2,10 @@
 use Rattle.std.specs.Prelude.{◌≡◌, ℕ, ◌%◌, List, [], ◌∷◌, Result, Ok, Err, ◌++◌, Option, Some, ℤ, pos, neg_ℤ}
 use Rattle.run_theory.specs.Runs.{Final, output_of}
 use Rattle.ref_semantics.specs.Store.{State, Eval, Then, halt}
-use Rattle.ref_steps.specs.Steps.{Config}
-use Rattle.ref_store.specs.Holding.{At, left, EvaluatesTo}
-use Rattle.ref_store.specs.declared.value.Stop.{Stop}
-use Rattle.ref_store.specs.declared.value.Stop.TheVariants as T
+use Rattle.ref_semantics.specs.Steps.{Config}
+use Rattle.ref_meaning.specs.RefStore.Holding.{At, left, EvaluatesTo}
+use Rattle.ref_meaning.specs.declared.value.Stop.{Stop}
+use Rattle.ref_meaning.specs.declared.value.Stop.TheVariants as T
 use Rattle.ref_meaning.specs.declared.control.Control.{Control}
 use Rattle.ref_meaning.specs.declared.control.Final.TheVariants as F
 use Rattle.ref_meaning.specs.declared.control.Frame as memory_frame

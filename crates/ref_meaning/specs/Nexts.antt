@@ -1,11 +1,11 @@
 -- What an expression comes to, from what is found.
 use Rattle.std.specs.Prelude.{Result, Ok, Err}
-use Rattle.ref_store.specs.declared.value.Stop.{Stop}
-use Rattle.ref_store.specs.declared.value.Place as memory_place
-use Rattle.ref_store.specs.declared.value.Scalar as memory_scalar
-use Rattle.ref_store.specs.declared.value.Scalar.TheVariants as M
-use Rattle.ref_meaning.specs.declared.first.Next as memory_next
-use Rattle.ref_meaning.specs.declared.first.Next.TheVariants as X
+use Rattle.ref_meaning.specs.declared.value.Stop.{Stop}
+use Rattle.ref_meaning.specs.declared.value.Place as memory_place
+use Rattle.ref_meaning.specs.declared.value.Scalar as memory_scalar
+use Rattle.ref_meaning.specs.declared.value.Scalar.TheVariants as M
+use Rattle.ref_meaning.specs.declared.first_operand.Next as memory_next
+use Rattle.ref_meaning.specs.declared.first_operand.Next.TheVariants as X
 
 abbrev pub scalar_next : Result memory_scalar.Scalar Stop → Result memory_next.Next Stop
 scalar_next (Ok a) = Ok (X.Given a)

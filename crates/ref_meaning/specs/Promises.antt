@@ -3,17 +3,17 @@ use Rattle.std.specs.Prelude.{◌≡◌, ℕ, List, Result}
 use Rattle.c_typed.specs.declared.typed.LibraryFunction.{LibraryFunction}
 use Rattle.ref_semantics.specs.Values.{Scalar}
 use Rattle.ref_semantics.specs.Store.{TypeEnvironment, Eval}
-use Rattle.ref_store.specs.declared.store.Store.{Store}
-use Rattle.ref_store.specs.declared.value.Scalar as memory_scalar
-use Rattle.ref_store.specs.declared.value.Stop.{Stop}
-use Rattle.ref_store.specs.Views.{scalar_in}
-use Rattle.ref_store.specs.Holding.{CallGives}
-use Rattle.ref_steps.specs.Parts.{Part, Next}
-use Rattle.ref_steps.specs.Steps as steps
-use Rattle.ref_steps.specs.Steps.{Task}
+use Rattle.ref_meaning.specs.declared.store.Store.{Store}
+use Rattle.ref_meaning.specs.declared.value.Scalar as memory_scalar
+use Rattle.ref_meaning.specs.declared.value.Stop.{Stop}
+use Rattle.ref_meaning.specs.RefStore.Views.{scalar_in}
+use Rattle.ref_meaning.specs.RefStore.Holding.{CallGives}
+use Rattle.ref_semantics.specs.Parts.{Part, Next}
+use Rattle.ref_semantics.specs.Steps as steps
+use Rattle.ref_semantics.specs.Steps.{Task}
 use Rattle.ref_meaning.specs.declared.run.RefRun.{RefRun}
 use Rattle.ref_meaning.specs.declared.control.Node as memory_node
-use Rattle.ref_meaning.specs.declared.first.Next as memory_next
+use Rattle.ref_meaning.specs.declared.first_operand.Next as memory_next
 use Rattle.ref_meaning.specs.Views.{part_in, table_of, operands_of, newest, config_in}
 use Rattle.ref_meaning.specs.Doing.{next_in}
 

@@ -6,8 +6,8 @@ use Rattle.c_typed.specs.Typed.{Program}
 use Rattle.ref_semantics.specs.Values.{Scalar}
 use Rattle.ref_semantics.specs.Store.{State, Outcome, Then, Stopped}
 use Rattle.ref_semantics.specs.First.{status_of, run_main, first_state}
-use Rattle.ref_steps.specs.Steps.{goes_on}
-use Rattle.ref_store.specs.Holding.{At, left}
+use Rattle.ref_semantics.specs.Steps.{goes_on}
+use Rattle.ref_meaning.specs.RefStore.Holding.{At, left}
 use Rattle.ref_meaning.specs.declared.run.RefRun.{RefRun}
 use Rattle.ref_meaning.specs.declared.run.RefEnd.{RefEnd}
 use Rattle.ref_meaning.specs.declared.run.RefEnd.TheVariants as E

@@ -20,7 +20,7 @@ use Rattle.c_typed.specs.declared.statement.SwitchItem.TheVariants as W
 use Rattle.c_typed.specs.declared.definition.FunctionDef as memory_function
 use Rattle.c_typed.specs.declared.definition.Program as memory_program
 use Rattle.c_typed.specs.Table.{Interned, Stands, type_in}
-use Rattle.ref_store.specs.Fitting.{IsObjectType}
+use Rattle.ref_meaning.specs.Fitting.{IsObjectType}
 
 -- ---- expressions
 

@@ -13,11 +13,11 @@ use Rattle.ref_semantics.specs.Values.{Scalar, NullValue}
 use Rattle.ref_semantics.specs.Store.{TypeEnvironment}
 use Rattle.ref_semantics.specs.Meaning.{Completion, Normal, Break, Continue, Return, greatest_depth}
 use Rattle.ref_semantics.specs.First.{around_of}
-use Rattle.ref_steps.specs.Parts.{Part, ValuePart, ObjectPart, AddressPart, FunctionPart, StmtPart, BodyPart, Entry, Gives, FindsLocal, Finds, Becomes, Awaits, CallsLibrary}
-use Rattle.ref_steps.specs.Steps as steps
-use Rattle.ref_steps.specs.Steps.{Given, ScalarGiven, WayGiven, Loop, WhileLoop, DoLoop, ForLoop, Callee, Own, FromLibrary, Task, Frame, Config}
-use Rattle.ref_store.specs.Views.{name_of, scalar_in, place_in}
-use Rattle.ref_store.specs.declared.value.Scalar as memory_scalar
+use Rattle.ref_semantics.specs.Parts.{Part, ValuePart, ObjectPart, AddressPart, FunctionPart, StmtPart, BodyPart, Entry, Gives, FindsLocal, Finds, Becomes, Awaits, CallsLibrary}
+use Rattle.ref_semantics.specs.Steps as steps
+use Rattle.ref_semantics.specs.Steps.{Given, ScalarGiven, WayGiven, Loop, WhileLoop, DoLoop, ForLoop, Callee, Own, FromLibrary, Task, Frame, Config}
+use Rattle.ref_meaning.specs.RefStore.Views.{name_of, scalar_in, place_in}
+use Rattle.ref_meaning.specs.declared.value.Scalar as memory_scalar
 use Rattle.ref_meaning.specs.declared.control.Node as memory_node
 use Rattle.ref_meaning.specs.declared.control.Node.TheVariants as N
 use Rattle.ref_meaning.specs.declared.control.Completion as memory_completion

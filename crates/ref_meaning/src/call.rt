@@ -12,10 +12,10 @@ ghost use Rattle.ref_semantics.specs.First.{main_type};
 ghost use Rattle.ref_semantics.specs.Library as rules;
 ghost use Rattle.ref_semantics.specs.Library.{library};
 ghost use Rattle.ref_semantics.specs.Values as values;
-ghost use Rattle.ref_steps.specs.Steps as steps;
-ghost use Rattle.ref_steps.specs.Steps.{ScalarGiven, WayGiven};
-ghost use Rattle.ref_store.specs.Fitting.{IsObjectType};
-ghost use Rattle.ref_store.specs.Views.{scalar_in, ScalarStands};
+ghost use Rattle.ref_semantics.specs.Steps as steps;
+ghost use Rattle.ref_semantics.specs.Steps.{ScalarGiven, WayGiven};
+ghost use Rattle.ref_meaning.specs.Fitting.{IsObjectType};
+ghost use Rattle.ref_meaning.specs.RefStore.Views.{scalar_in, ScalarStands};
 ghost use Rattle.ref_meaning.specs.Promises.{part_seen, scalar_seen, newest_seen, CallsNext};
 ghost use Rattle.ref_meaning.specs.declared.control.Frame as memory_frame;
 ghost use Rattle.ref_meaning.specs.declared.control.Stage.TheVariants as S;
@@ -29,12 +29,11 @@ ghost use Rattle.ref_meaning.specs.Calling.{is_own_call, IsArgument, OptionalNod
 
 use crate::control::{Completion, Control, Final, Frame, Given, Node, Stage, Task};
 use crate::run::{GREATEST_DEPTH, Halt, RefRun};
+use crate::value::Scalar;
 use c_num::IntType;
 use c_typed::{CType, FunctionDef, LibraryFunction, Shape, Value};
 use pcc_outside::{Sink, Source, read_byte, write_byte};
-use ref_store::Scalar;
-use run_theory::UbKind;
-use text_place::Pos;
+use run_theory::{Pos, UbKind};
 
 /// Whether it is a call of a function of the program.
 pub(crate) fn is_call(value: &Value) -> bool

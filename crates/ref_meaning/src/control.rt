@@ -3,15 +3,14 @@
 ghost use Rattle.std.specs.Prelude.{◌≡◌, option_map, IfSome};
 ghost use Rattle.c_typed.specs.Table.{Interned};
 ghost use Rattle.ref_semantics.specs.Meaning as meaning;
-ghost use Rattle.ref_steps.specs.Steps as steps;
-ghost use Rattle.ref_store.specs.Views.{scalar_in, ScalarStands};
+ghost use Rattle.ref_semantics.specs.Steps as steps;
+ghost use Rattle.ref_meaning.specs.RefStore.Views.{scalar_in, ScalarStands};
 ghost use Rattle.ref_meaning.specs.Views.{completion_in, given_in};
 ghost use Rattle.ref_meaning.specs.Holding.{CompletionStands, GivenStands, GivenFinds, PointsToElement};
 
+use crate::value::{Place, Scalar};
 use c_typed::{Designator, FunctionDef, Object, Stmt, Value};
-use ref_store::{Place, Scalar};
-use run_theory::UbKind;
-use text_place::Pos;
+use run_theory::{Pos, UbKind};
 
 /// A part of the program that is entered: an expression for its value, for its object, for the address of that or for its
 /// function, a statement, or a function's body.

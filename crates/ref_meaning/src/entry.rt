@@ -4,7 +4,7 @@ ghost use Rattle.std.specs.Prelude.{◌≡◌, true, false};
 ghost use Rattle.c_typed.specs.Table.{Interned};
 ghost use Rattle.c_typed.specs.Views.{value_in, object_in, designator_in};
 ghost use Rattle.ref_meaning.specs.Trees.{ValueFits, ObjectFits, DesignatorFits};
-ghost use Rattle.ref_steps.specs.Parts as parts;
+ghost use Rattle.ref_semantics.specs.Parts as parts;
 ghost use Rattle.ref_meaning.specs.declared.control.Node as memory_node;
 ghost use Rattle.ref_meaning.specs.declared.control.Node.TheVariants as N;
 ghost use Rattle.ref_meaning.specs.declared.entry.Entry.TheVariants as E;
@@ -13,8 +13,8 @@ ghost use Rattle.ref_meaning.specs.Holding.{NodeStands, Waits, IsObject, IsPlace
 ghost use Rattle.ref_meaning.specs.Doing.{EntryStands, EntryFinds, EntersObject, IsAwaited};
 
 use crate::control::Node;
+use crate::value::{Name, Place, Row, Scalar};
 use c_typed::{Designator, Object, Value};
-use ref_store::{Name, Place, Row, Scalar};
 
 /// What evaluation of an expression begins with.
 #[derive(Clone, Copy)]

@@ -5,22 +5,22 @@ ghost use Rattle.c_typed.specs.Table.{Interned};
 ghost use Rattle.c_typed.specs.Views.{value_in, object_in};
 ghost use Rattle.ref_semantics.specs.Store.{TypeEnvironment};
 ghost use Rattle.ref_semantics.specs.Meaning as meaning;
-ghost use Rattle.ref_steps.specs.Parts as parts;
-ghost use Rattle.ref_store.specs.declared.store.Store.{Store};
-ghost use Rattle.ref_store.specs.Views.{scalar_in, ScalarStands};
-ghost use Rattle.ref_store.specs.Holding.{IsStore, CallGives};
-ghost use Rattle.ref_store.specs.Promises.{value_seen, GivesScalar};
+ghost use Rattle.ref_semantics.specs.Parts as parts;
+ghost use Rattle.ref_meaning.specs.declared.store.Store.{Store};
+ghost use Rattle.ref_meaning.specs.RefStore.Views.{scalar_in, ScalarStands};
+ghost use Rattle.ref_meaning.specs.RefStore.Holding.{IsStore, CallGives};
+ghost use Rattle.ref_meaning.specs.RefStore.Promises.{value_seen, GivesScalar};
 ghost use Rattle.ref_meaning.specs.Promises.{part_stored};
 ghost use Rattle.ref_meaning.specs.Holding.{NodeStands, IsBehindBoth, PointsToElement};
 ghost use Rattle.ref_meaning.specs.declared.control.Node.TheVariants as N;
 ghost use Rattle.ref_meaning.specs.Doing.{IsAssignment};
 
 use crate::control::Node;
+use crate::store::Store;
+use crate::value::{Place, Scalar, Stop};
 use c_num::{ArithUb, BinOp, IntType, binary, compare, convert};
 use c_typed::{Object, Stepping, Value};
-use ref_store::{Place, Scalar, Stop, Store};
-use run_theory::UbKind;
-use text_place::Pos;
+use run_theory::{Pos, UbKind};
 
 /// An integer, converted (C17 6.3.1.3).
 pub(crate) fn converted<'a>(int_type: IntType, value: Scalar<'a>) -> Scalar<'a>

@@ -6,11 +6,11 @@ ghost use Rattle.c_typed.specs.declared.typed.LibraryFunction.TheVariants as Fun
 ghost use Rattle.c_typed.specs.Table.{Interned};
 ghost use Rattle.c_typed.specs.Typed.{SwitchItems};
 ghost use Rattle.c_typed.specs.DefinitionViews.{program_of, ProgramStands};
-ghost use Rattle.c_well_typed.specs.Programs.{IsWellTyped};
-ghost use Rattle.c_well_typed.specs.Sizes.{HasStorableTypes};
-ghost use Rattle.ref_steps.specs.Steps.{ScalarGiven, Search, First};
-ghost use Rattle.ref_steps.specs.Units.{takes_unit};
-ghost use Rattle.ref_store.specs.Views.{ScalarStands};
+ghost use Rattle.c_typed.specs.Programs.{IsWellTyped};
+ghost use Rattle.c_typed.specs.Sizes.{HasStorableTypes};
+ghost use Rattle.ref_semantics.specs.Steps.{ScalarGiven, Search, First};
+ghost use Rattle.ref_semantics.specs.Units.{takes_unit};
+ghost use Rattle.ref_meaning.specs.RefStore.Views.{ScalarStands};
 ghost use Rattle.ref_meaning.specs.Promises.{part_seen, scalar_seen, CallsNext};
 ghost use Rattle.ref_meaning.specs.declared.control.Frame as memory_frame;
 ghost use Rattle.ref_meaning.specs.declared.control.Given.TheVariants as G;
@@ -27,16 +27,16 @@ ghost use Rattle.ref_meaning.specs.Running.{Behaviour, behaviour_of, StandsFor, 
 use crate::call::is_call;
 use crate::control::{Completion, Control, Final, Frame, Given, Node, Stage, Task};
 use crate::entry::{Entry, beginning, spends};
-use crate::first::{Next, Role, after_first};
+use crate::first_operand::{Next, Role, after_first};
 use crate::label::case_item;
 use crate::operand::after_second;
+use crate::store::Store;
+use crate::value::{Scalar, Stop};
 use c_typed::{FunctionDef, Program, SwitchItem};
 use indexmap::IndexMap;
 use pcc_outside::{Sink, Source};
-use ref_store::{Scalar, Stop, Store};
-use run_theory::UbKind;
+use run_theory::{Pos, UbKind};
 use std::alloc::{AllocError, Global};
-use text_place::Pos;
 
 /// How deep calls may nest (this project's rule).
 pub(crate) const GREATEST_DEPTH: u32 = 10000;

@@ -8,9 +8,9 @@ ghost use Rattle.c_typed.specs.StatementViews.{stmt_in, local_in};
 ghost use Rattle.ref_meaning.specs.Trees.{ValueFits, StmtFits, LocalFits};
 ghost use Rattle.ref_semantics.specs.Meaning as rules;
 ghost use Rattle.ref_semantics.specs.Meaning.{Normal};
-ghost use Rattle.ref_steps.specs.Parts.{StmtPart};
-ghost use Rattle.ref_steps.specs.Steps.{ScalarGiven, WayGiven};
-ghost use Rattle.ref_store.specs.Views.{ScalarStands};
+ghost use Rattle.ref_semantics.specs.Parts.{StmtPart};
+ghost use Rattle.ref_semantics.specs.Steps.{ScalarGiven, WayGiven};
+ghost use Rattle.ref_meaning.specs.RefStore.Views.{ScalarStands};
 ghost use Rattle.ref_meaning.specs.Promises.{part_seen, scalar_seen};
 ghost use Rattle.ref_meaning.specs.declared.control.Frame as memory_frame;
 ghost use Rattle.ref_meaning.specs.declared.control.Node.TheVariants as N;
@@ -26,9 +26,9 @@ ghost use Rattle.ref_meaning.specs.Moving.{Moves, IsKept, IsSame, Becomes};
 use crate::control::{Completion, Control, Frame, Given, Node, Stage, Task};
 use crate::label::case_item;
 use crate::run::{Halt, RefRun};
+use crate::value::{Place, Scalar};
 use c_typed::{BlockItem, ForStart, LocalDef, Stmt, SwitchItem, Value};
-use ref_store::{Place, Scalar};
-use text_place::Pos;
+use run_theory::Pos;
 
 /// An item of a block, by its number.
 fn block_item(block: Node<'_>, number: usize) -> Option<&BlockItem>

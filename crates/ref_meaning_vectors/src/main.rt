@@ -5,13 +5,12 @@
 
 ghost use Rattle.std.specs.Prelude.{◌≤◌, length};
 ghost use Rattle.c_typed.specs.DefinitionViews.{program_of, ProgramStands};
-ghost use Rattle.c_well_typed.specs.Programs.{IsWellTyped};
-ghost use Rattle.c_well_typed.specs.Sizes.{HasStorableTypes};
+ghost use Rattle.c_typed.specs.Programs.{IsWellTyped};
+ghost use Rattle.c_typed.specs.Sizes.{HasStorableTypes};
 
 use c_lexer::{LexErr, tokens};
 use c_reader::{SyntaxErr, read};
-use c_types::{TypeErr, check};
-use c_types_limits::check_limits;
+use c_types::{TypeErr, check, check_limits};
 use pcc_outside::{HostFiles, MemSink, MemSource, read_all};
 use ref_meaning::{RefEnd, RefRun};
 use std::alloc::{AllocError, Global};

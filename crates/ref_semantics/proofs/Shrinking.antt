@@ -1,7 +1,7 @@
 -- Evaluations never gain units: where one goes on, no more are left than before. Where each turn of a loop spends some, the loop
 -- has as many turns as it needs.
 use Rattle.std.proofs.Common.{◌≡◌, ℕ, zero, suc, ◌<◌, ◌≤◌, ◌++◌, Bool, true, false, if◌then◌else◌, List, [], ◌∷◌, Option, Some, None, refl, le_refl, le_trans, le_of_lt, lt_of_le_of_lt, lt_of_lt_of_le, lt-suc_self, le_of_suc-le-suc, not-suc-le-zero}
-use Rattle.text_place.specs.declared.place.Pos.{Pos}
+use Rattle.run_theory.specs.declared.place.Pos.{Pos}
 use Rattle.run_theory.specs.declared.ends.UbKind.{UbKind}
 use Rattle.run_theory.specs.Runs.{Event, Final}
 use Rattle.ref_semantics.specs.Values.{Name, Content}

@@ -1,7 +1,7 @@
 -- What a program does from its beginning (C17 5.1.2.2.1, 5.1.2.2.3, 6.7.9 paragraph 10).
 use Rattle.std.specs.Prelude.{ℕ, zero, suc, ◌-◌, true, ◌==◌, if◌then◌else◌, List, [], ◌∷◌, Option, Some, None, pos, bytes_eq, codes}
 use Rattle.run_theory.specs.Runs.{Answer, Over, Ended}
-use Rattle.text_place.specs.declared.place.Pos.{Pos}
+use Rattle.run_theory.specs.declared.place.Pos.{Pos}
 use Rattle.c_num.specs.declared.IntType.TheVariants as I
 use Rattle.c_num.specs.Conversion.{convert_to}
 use Rattle.c_typed.specs.Types.{CType, Void, Integer, Function, NoTypes, literal_type}

@@ -1,6 +1,12 @@
-pub mod Values
-pub mod Store
-pub mod Pointers
+pub mod First
+pub mod Keeping
 pub mod Library
 pub mod Meaning
-pub mod First
+pub mod Parts
+pub mod Pointers
+pub mod Rows
+pub mod Sound
+pub mod Steps
+pub mod Store
+pub mod Units
+pub mod Values

@@ -1,6 +1,6 @@
 -- The library (C17 7.21.7, 7.22.3, 7.22.4.4).
 use Rattle.std.specs.Prelude.{ℕ, zero, suc, ◌%◌, Bool, true, false, not, ◌||◌, ◌==◌, List, [], ◌∷◌, ℤ, pos, negsuc, neg_ℤ}
-use Rattle.text_place.specs.declared.place.Pos.{Pos}
+use Rattle.run_theory.specs.declared.place.Pos.{Pos}
 use Rattle.run_theory.specs.declared.ends.UbKind.TheVariants as Ub
 use Rattle.run_theory.specs.Runs.{Output, Allocated, Freed, Ended}
 use Rattle.c_num.specs.Conversion.{modulo}

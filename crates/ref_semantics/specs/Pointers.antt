@@ -1,6 +1,6 @@
 -- What operators do with pointers (C17 6.3.2.3, 6.5.2, 6.5.3, 6.5.6, 6.5.8, 6.5.9), and reading and writing.
 use Rattle.std.specs.Prelude.{ℕ, ◌/◌, ◌%◌, Bool, true, false, not, ◌&&◌, ◌||◌, ◌==◌, nat_lt, if◌then◌else◌, List, [], ◌∷◌, Option, Some, None, ℤ, pos, negsuc, ◌+ℤ◌, ◌-ℤ◌, bytes_eq}
-use Rattle.text_place.specs.declared.place.Pos.{Pos}
+use Rattle.run_theory.specs.declared.place.Pos.{Pos}
 use Rattle.run_theory.specs.declared.ends.UbKind.TheVariants as Ub
 use Rattle.run_theory.specs.Runs.{Event, Loaded, Stored}
 use Rattle.c_num.specs.declared.Relation.{Relation}

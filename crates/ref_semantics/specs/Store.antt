@@ -1,6 +1,6 @@
 -- The store of the reference, and evaluations on it.
 use Rattle.std.specs.Prelude.{ℕ, zero, suc, ◌+◌, ◌*◌, Bool, true, false, ◌==◌, if◌then◌else◌, List, [], ◌∷◌, ◌++◌, slice_get, Option, Some, None, pos}
-use Rattle.text_place.specs.declared.place.Pos.{Pos}
+use Rattle.run_theory.specs.declared.place.Pos.{Pos}
 use Rattle.run_theory.specs.declared.ends.UbKind.{UbKind}
 use Rattle.run_theory.specs.Runs.{Event, Trace, Answer, Going, Over, Final, Undefined}
 use Rattle.c_typed.specs.Types.{CType, Void, Integer, Array, Struct}

@@ -1,7 +1,7 @@
 -- Values, places and objects while a program runs (C17 6.2.4, 6.2.6). There are no addresses: a pointer names an object, and an
 -- element of a row within it.
 use Rattle.std.specs.Prelude.{ℕ, Bool, false, ◌&&◌, ◌==◌, nat_lt, not, List, Option, ℤ, pos, bytes_eq}
-use Rattle.text_place.specs.declared.place.Pos.{Pos}
+use Rattle.run_theory.specs.declared.place.Pos.{Pos}
 use Rattle.c_typed.specs.Types.{CType, Void, same_type}
 use Rattle.c_typed.specs.Places.{is_same_place}
 

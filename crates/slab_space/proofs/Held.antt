@@ -4,7 +4,7 @@ use Rattle.std.proofs.Common.{◌≡◌, ℕ, zero, suc, ◌+◌, ◌-◌, ◌<�
 use Rattle.std.specs.Prelude.{⊤, ◌&&◌, ◌==◌, if◌then◌else◌, nat_lt, nat_le, is_some, slice_set, slice_index_or, option_map}
 use Rattle.std.proofs.lemmas.Bool.{cases_lt, leb-true, and_parts}
 use Rattle.std.proofs.lemmas.List.{get_or_past}
-use Rattle.raw_slab.specs.Words.{zeros, with_word}
+use Rattle.run_theory.specs.Words.{zeros, with_word}
 use Rattle.raw_slab.proofs.WordsWritten.{length-with_word}
 use Rattle.slab_space.specs.declared.kind.PoolKind.{PoolKind}
 use Rattle.slab_space.specs.declared.kind.PoolKind.TheVariants.{Homogeneous, Mixed}

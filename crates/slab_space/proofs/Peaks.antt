@@ -8,7 +8,7 @@ use Rattle.std.proofs.lemmas.List.{map-set, map-append, length-map, length-set}
 use Rattle.std.proofs.lemmas.List.Sums.{sum_by-cons}
 use Rattle.std.proofs.lemmas.Nat.{div-mul-add}
 use Rattle.std.proofs.Math.Nat.{le-max_left}
-use Rattle.raw_slab.specs.Words.{zeros}
+use Rattle.run_theory.specs.Words.{zeros}
 use Rattle.slab_space.specs.declared.kind.PoolKind.{PoolKind}
 use Rattle.slab_space.specs.declared.kind.PoolKind.TheVariants.{Homogeneous}
 use Rattle.slab_space.specs.Runs.{need, lowest_run}

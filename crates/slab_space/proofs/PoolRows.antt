@@ -1,6 +1,6 @@
 -- Worked rows of pools, by evaluation.
 use Rattle.std.proofs.Common.{◌≡◌, ℕ, ◌+◌, ◌^◌, Option, Some, None, true, refl}
-use Rattle.raw_slab.specs.Words.{zeros}
+use Rattle.run_theory.specs.Words.{zeros}
 use Rattle.slab_space.specs.declared.kind.PoolKind.TheVariants.{Homogeneous, Mixed}
 use Rattle.slab_space.specs.PoolSteps.{Allocation, placed, index_exhausted, heap_exhausted}
 use Rattle.slab_space.specs.Pools.{Pools, new_pools, init_step, destroy_step, alloc_step, free_step, load_step, store_step, index_of, peak_of, live_of, slabs_of, free_slabs_of}

@@ -6,7 +6,7 @@ use Rattle.std.proofs.lemmas.Bool.{cases_lt}
 use Rattle.std.proofs.Math.Seq.{map-set_same}
 use Rattle.std.proofs.lemmas.List.{length-set, length-replicate, map-append, get_or_append_left, get_or-append_right, get_or-replicate, get_or_past, get_or_read, replicate-append-replicate}
 use Rattle.std.proofs.lemmas.List.Concat.{flat_map-append}
-use Rattle.raw_slab.specs.Words.{zeros, word_at, with_word}
+use Rattle.run_theory.specs.Words.{zeros, word_at, with_word}
 use Rattle.slab_space.specs.declared.slots.HeldSlab.{HeldSlab}
 use Rattle.slab_space.specs.Runs.{owner_at, with_run, IsFreeRun, IsHeldRun}
 use Rattle.slab_space.specs.Space.{IsZero}

@@ -2,7 +2,7 @@
 use Rattle.std.proofs.Common.{◌≡◌, ℕ, zero, suc, ◌+◌, ◌*◌, ◌<◌, ◌≤◌, List, [], ◌∷◌, ◌++◌, Option, Some, None, length, take, drop, replicate, get_or, set, refl, sym, ap, ◌∙◌, subst, arith, length-append}
 use Rattle.std.proofs.lemmas.List.{map-set, length-map, length-replicate, length-set, set-get_or, get_or-map, replicate_more, append_assoc}
 use Rattle.std.specs.List.{flat_map}
-use Rattle.raw_slab.specs.Words.{zeros}
+use Rattle.run_theory.specs.Words.{zeros}
 use Rattle.slab_space.specs.declared.slots.HeldSlab.{HeldSlab}
 use Rattle.slab_space.specs.Runs.{owner_at, with_run, IsFreeRun}
 use Rattle.slab_space.specs.Slots.{slot_owner, slot_bytes, owners_in, bytes_in, Reaches}

@@ -3,7 +3,7 @@ use Rattle.std.proofs.Common.{◌≡◌, ℕ, ◌+◌, ◌≤◌, List, ◌++◌
 use Rattle.std.proofs.Math.Seq.{take-append-add}
 use Rattle.std.proofs.lemmas.List.{take-append-le, drop-append-le, drop_at}
 use Rattle.byteorder.specs.Endian.{little_bytes, little_number}
-use Rattle.raw_slab.specs.Words.{word_at, with_word}
+use Rattle.run_theory.specs.Words.{word_at, with_word}
 
 module _ (A P G : List ℕ) (at off width : ℕ) (before : length A ≡ at) (inside : off + width ≤ length P) where
   -- what lies behind a place inside the part

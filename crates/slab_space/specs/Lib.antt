@@ -1,8 +1,9 @@
-pub mod Runs
-pub mod Slots
-pub mod Space
-pub mod Table
+pub mod Needs
 pub mod Pool
 pub mod PoolSteps
 pub mod Pools
 pub mod Reached
+pub mod Runs
+pub mod Slots
+pub mod Space
+pub mod Table

@@ -1,6 +1,6 @@
 -- What placing, freeing and writing make of one pool and of the owners of the slabs.
 use Rattle.std.specs.Prelude.{ℕ, suc, ◌+◌, ◌-◌, Bool, false, ◌&&◌, nat_le, nat_lt, if◌then◌else◌, List, [], ◌∷◌, ◌++◌, length, map, slice_get, slice_index_or, slice_set, option_map, Option, Some, None, is_none}
-use Rattle.raw_slab.specs.Words.{zeros, with_word}
+use Rattle.run_theory.specs.Words.{zeros, with_word}
 use Rattle.slab_space.specs.declared.kind.PoolKind.{PoolKind}
 use Rattle.slab_space.specs.declared.kind.PoolKind.TheVariants.{Homogeneous, Mixed}
 use Rattle.slab_space.specs.Runs.{need, with_run, lowest_run}

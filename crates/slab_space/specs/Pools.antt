@@ -2,7 +2,7 @@
 -- again. Slab i lies at 2 ^ 44 + 4096 i.
 use Rattle.std.specs.Prelude.{◌<◌, ℕ, ◌-◌, ◌==◌, Bool, if◌then◌else◌, List, [], ◌∷◌, ◌++◌, map, find, slice_index_or, slice_set, option_map, unwrap_or, replicate, Option, Some, None, is_some}
 use Rattle.std.specs.List.{flat_map}
-use Rattle.raw_slab.specs.Words.{word_at}
+use Rattle.run_theory.specs.Words.{word_at}
 use Rattle.slab_space.specs.declared.kind.PoolKind.{PoolKind}
 use Rattle.slab_space.specs.Runs.{free_count}
 use Rattle.slab_space.specs.Pool.{Cells, Pool, Object, numbered, address_in, number_in, new_pool, objects_in, live_in, slabs_in, given_pool}

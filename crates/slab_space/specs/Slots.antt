@@ -1,7 +1,7 @@
 -- What the table of the slabs reached so far says of them.
 use Rattle.std.specs.Prelude.{◌≡◌, ℕ, ◌-◌, ◌*◌, ◌≤◌, List, ◌++◌, map, length, replicate, max, Option, Some, None}
 use Rattle.std.specs.List.{flat_map}
-use Rattle.raw_slab.specs.Words.{zeros}
+use Rattle.run_theory.specs.Words.{zeros}
 use Rattle.slab_space.specs.declared.slots.HeldSlab.{HeldSlab}
 
 abbrev pub slot_owner : Option HeldSlab → Option ℕ

@@ -3,6 +3,10 @@
 //! `Pool` and `Pools` in its definitions say what pools of cells are and what each call on them does.
 //!
 //! Contracts see a space as the owner of each slab below the limit and as the bytes of all slabs in order.
+//!
+//! What it means that the heap is exhausted: the objects placed so far and the refused one need more slabs than there are.
+//!
+//! `specs/Needs.antt` says it, `proofs/Exhausted.antt` shows it.
 #![tactic(auto)]
 
 mod kind;

@@ -1,5 +1,5 @@
 ghost use Rattle.std.specs.Prelude.{◌≡◌, ◌+◌, ◌*◌, ◌≤◌, ◌<◌, ◌^◌, ◌↔◌, ℕ, length, replicate, IfOk, OnErr, MatchOption, IsSome, Some, None};
-ghost use Rattle.raw_slab.specs.Words.{zeros, word_at, with_word};
+ghost use Rattle.run_theory.specs.Words.{zeros, word_at, with_word};
 ghost use Rattle.slab_space.specs.Runs.{owner_at, free_count, Full, IsLowestRun, IsHeldRun};
 ghost use Rattle.slab_space.specs.Space.{Space, IsZero, with_taken, with_given};
 

@@ -7,7 +7,7 @@ use Rattle.pool_isa.specs.declared.instr.Instr.{Instr}
 use Rattle.pool_isa.specs.declared.instr.Instr.TheVariants as instrs
 use Rattle.pool_ir.specs.Code.{Action, Make, Destroy, Function}
 use Rattle.pool_ir.specs.States.{actions_from}
-use Rattle.pool_stack.specs.Emitting.{action_code, actions_code, edge_code, way_at_zero}
+use Rattle.stack_code.specs.Emitting.{action_code, actions_code, edge_code, way_at_zero}
 
 some_action : (function : Function) (action : Action) → 0 < length (action_code function action)
 some_action function (Make descriptor kind) = omega arith

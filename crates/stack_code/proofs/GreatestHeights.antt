@@ -4,7 +4,7 @@ use Rattle.std.specs.Prelude.{max}
 use Rattle.std.proofs.Math.ListN.{get_or}
 use Rattle.std.proofs.lemmas.List.{drop_all}
 use Rattle.pool_ir.specs.Code.{Step}
-use Rattle.pool_stack.specs.Emitting.{steps_height}
+use Rattle.stack_code.specs.Emitting.{steps_height}
 use Rattle.stack_code.proofs.AppendedParts.{rest_at}
 
 pub some_height : (steps : List Step) → 1 ≤ steps_height steps

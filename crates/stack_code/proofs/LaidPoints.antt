@@ -8,7 +8,7 @@ use Rattle.pool_isa.specs.declared.instr.Instr.{Instr}
 use Rattle.pool_ir.specs.Code.{Op, Function}
 use Rattle.pool_ir.specs.Views.{op_of}
 use Rattle.pool_ir.specs.declared.op.Op as memory_op
-use Rattle.pool_stack.specs.Emitting.{opening, block, blocks, place_of, function_code}
+use Rattle.stack_code.specs.Emitting.{opening, block, blocks, place_of, function_code}
 use Rattle.stack_code.specs.Fits.{NamesFit, PointFits, UnitFits, ArePlaces}
 use Rattle.stack_code.proofs.PointBlocks.{blocks_more, blocks_alike}
 use Rattle.stack_code.proofs.PlaceTables.{nowhere}

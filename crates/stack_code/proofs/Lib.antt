@@ -1,8 +1,41 @@
+-- What is proved of the machine's instructions of code with pools.
+-- What is proved of the ranges of instructions.
 -- What the functions of this crate do, list by list.
-pub mod AppendedParts
-pub mod PointBlocks
-pub mod PlaceTables
-pub mod UnitPremises
 pub mod ActionJumps
+pub mod Actions
+pub mod AllPoints
+pub mod AppendedParts
+pub mod BlockPlaces
+pub mod BranchPoints
+pub mod CallPoints
+pub mod Costs
+pub mod EmittedRanges
+pub mod EnteredFrames
+pub mod FrameRanges
+pub mod FrameWords
+pub mod FrameWrites
 pub mod GreatestHeights
+pub mod HighObjects
+pub mod InstructionRanges
+pub mod KeptTraces
 pub mod LaidPoints
+pub mod LastInstructions
+pub mod Locking
+pub mod Memory
+pub mod MemoryPoints
+pub mod PlaceTables
+pub mod PlacesWithin
+pub mod PointBlocks
+pub mod PointRanges
+pub mod PoolPoints
+pub mod PoolStack
+pub mod Prepared
+pub mod ReturnPoints
+pub mod Rows
+pub mod Simulated
+pub mod Steps
+pub mod Told
+pub mod Turns
+pub mod UnitPremises
+pub mod WordsApart
+pub mod WrittenBytes

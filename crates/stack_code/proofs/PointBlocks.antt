@@ -6,7 +6,7 @@ use Rattle.pool_isa.specs.declared.instr.Instr.{Instr}
 use Rattle.pool_isa.specs.declared.instr.Instr.TheVariants as instrs
 use Rattle.pool_ir.specs.Code.{Op, Function}
 use Rattle.pool_ir.specs.Code as O
-use Rattle.pool_stack.specs.Emitting.{edge_code, way_at_zero, preparing, finishing, block, blocks}
+use Rattle.stack_code.specs.Emitting.{edge_code, way_at_zero, preparing, finishing, block, blocks}
 use Rattle.stack_code.specs.Fits.{NamesFit}
 
 -- the blocks through a point

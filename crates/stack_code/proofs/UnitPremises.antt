@@ -4,7 +4,7 @@ use Rattle.tac_ir.specs.States.{Owner}
 use Rattle.pool_ir.specs.Code.{Callee, Known, Through, Op, Function, PoolCode}
 use Rattle.pool_ir.specs.Code as O
 use Rattle.pool_ir.specs.States.{function_of}
-use Rattle.stack_ranges.specs.FitsImage.{CalleeInRange, OpInRange, FunctionFitsImage, FitsImage}
+use Rattle.stack_code.specs.FitsImage.{CalleeInRange, OpInRange, FunctionFitsImage, FitsImage}
 use Rattle.stack_code.specs.Fits.{NamesFit, UnitFits}
 
 callee_fits : (functions : ℕ) → functions ≤ 4096 → (callee : Callee) → CalleeInRange functions callee → CalleeInRange 4096 callee

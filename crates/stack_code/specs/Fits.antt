@@ -4,10 +4,10 @@ use Rattle.std.specs.List.{AllByRecursion}
 use Rattle.pool_ir.specs.Code.{Op, Function}
 use Rattle.pool_ir.specs.Frames.{objects_start}
 use Rattle.pool_ir.specs.States.{actions_from}
-use Rattle.pool_stack.specs.Standing.{greatest_frame}
-use Rattle.pool_stack.specs.Fitting.{OpFits, ActionFits}
-use Rattle.pool_stack.specs.Emitting.{place_of, words_taken, height_of}
-use Rattle.stack_ranges.specs.FitsImage.{OpInRange}
+use Rattle.stack_code.specs.Standing.{greatest_frame}
+use Rattle.stack_code.specs.Fitting.{OpFits, ActionFits}
+use Rattle.stack_code.specs.Emitting.{place_of, words_taken, height_of}
+use Rattle.stack_code.specs.FitsImage.{OpInRange}
 
 -- the frame has words for what is named on the ways through a function
 pub record FrameServes (function : Function) : Type 0 where

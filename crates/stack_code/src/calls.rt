@@ -3,11 +3,11 @@
 ghost use Rattle.std.specs.Prelude.{◌≡◌, ◌++◌, OnOk};
 ghost use Rattle.std.specs.List.{AllByRecursion};
 ghost use Rattle.pool_ir.specs.Views.{callee_of, descriptors_of, frame_of, function_of};
-ghost use Rattle.pool_stack.specs.Emitting.{callee_code, calling, descriptors_code, passing, registers_code};
-ghost use Rattle.pool_stack.specs.Fitting.{CalleeFits};
-ghost use Rattle.pool_stack.specs.Standing.{HasDescriptor, HasRegister};
+ghost use Rattle.stack_code.specs.Emitting.{callee_code, calling, descriptors_code, passing, registers_code};
+ghost use Rattle.stack_code.specs.Fitting.{CalleeFits};
+ghost use Rattle.stack_code.specs.Standing.{HasDescriptor, HasRegister};
 ghost use Rattle.stack_code.specs.Fits.{FrameServes};
-ghost use Rattle.stack_ranges.specs.FitsImage.{CalleeInRange};
+ghost use Rattle.stack_code.specs.FitsImage.{CalleeInRange};
 
 use crate::words::{push_descriptor, push_register, register_address};
 use pool_ir::{Callee, Descriptor, Function};

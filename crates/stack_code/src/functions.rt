@@ -2,7 +2,7 @@
 
 ghost use Rattle.std.specs.Prelude.{◌≡◌, IfOk};
 ghost use Rattle.pool_ir.specs.Views.{function_of};
-ghost use Rattle.pool_stack.specs.Emitting.{emitted_function, function_code};
+ghost use Rattle.stack_code.specs.Emitting.{emitted_function, function_code};
 ghost use Rattle.stack_code.specs.Fits.{ArePlaces, UnitFits};
 ghost use Rattle.stack_code.specs.Units.{unit_function};
 

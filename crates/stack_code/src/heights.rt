@@ -2,7 +2,7 @@
 
 ghost use Rattle.std.specs.Prelude.{◌≡◌, ◌≤◌, map};
 ghost use Rattle.pool_ir.specs.Views.{base_of, function_of, op_of, path_of, step_of};
-ghost use Rattle.pool_stack.specs.Emitting as emitting;
+ghost use Rattle.stack_code.specs.Emitting as emitting;
 ghost use Rattle.tac_ir.specs.Views.{operand_of, tree_of};
 
 use pool_ir::{Base, Function, Op, Path, Step};

@@ -1,3 +1,7 @@
+//! The machine's instructions of code with pools, and that they do what it does. A crate of definitions and proofs alone.
+//!
+//! Code with pools that fits an image: definitions, and that its instructions then keep the ranges of an image.
+//!
 //! From code with pools to the instructions of the machine.
 //!
 //! Descriptors and registers are words of the frame, and no operand is left between points. The points of a function are laid out in their

@@ -3,10 +3,10 @@
 ghost use Rattle.std.specs.Prelude.{◌≡◌, ◌++◌, map, OnOk};
 ghost use Rattle.std.specs.List.{AllByRecursion};
 ghost use Rattle.pool_ir.specs.Views.{base_of, frame_of, function_of, path_of, slot_of, step_of};
-ghost use Rattle.pool_stack.specs.Emitting.{base_code, loading, path_code, scaled, step_code, steps_code, storing, width_of};
-ghost use Rattle.pool_stack.specs.Fitting.{BaseFits, PathFits, SlotFits, StepFits, TreeFits};
+ghost use Rattle.stack_code.specs.Emitting.{base_code, loading, path_code, scaled, step_code, steps_code, storing, width_of};
+ghost use Rattle.stack_code.specs.Fitting.{BaseFits, PathFits, SlotFits, StepFits, TreeFits};
 ghost use Rattle.stack_code.specs.Fits.{FrameServes};
-ghost use Rattle.stack_ranges.specs.FitsImage.{BaseInRange, PathInRange};
+ghost use Rattle.stack_code.specs.FitsImage.{BaseInRange, PathInRange};
 ghost use Rattle.tac_ir.specs.Views.{tree_of};
 
 use crate::trees::push_tree;

@@ -2,8 +2,8 @@
 
 ghost use Rattle.std.specs.Prelude.{◌≡◌, ◌<◌, ◌≤◌, ◌++◌, length, OnOk, slice_index, vec_len};
 ghost use Rattle.pool_ir.specs.Views.{frame_of, function_of, op_of};
-ghost use Rattle.pool_stack.specs.Emitting.{block, finishing, preparing};
-ghost use Rattle.pool_stack.specs.Fitting.{OpFits};
+ghost use Rattle.stack_code.specs.Emitting.{block, finishing, preparing};
+ghost use Rattle.stack_code.specs.Fitting.{OpFits};
 ghost use Rattle.stack_code.specs.Fits.{AreLow, FrameServes, NamesFit, NumbersFit};
 
 use crate::calls::{call, push_passing};

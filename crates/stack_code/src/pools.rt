@@ -4,8 +4,8 @@ ghost use Rattle.std.specs.Prelude.{◌≡◌, ◌++◌, map, OnOk};
 ghost use Rattle.std.specs.List.{AllByRecursion};
 ghost use Rattle.pool_ir.specs.States.{actions_from};
 ghost use Rattle.pool_ir.specs.Views.{action_of, edge_of, frame_of, function_of};
-ghost use Rattle.pool_stack.specs.Emitting.{action_code, actions_code, edge_code};
-ghost use Rattle.pool_stack.specs.Fitting.{ActionFits};
+ghost use Rattle.stack_code.specs.Emitting.{action_code, actions_code, edge_code};
+ghost use Rattle.stack_code.specs.Fitting.{ActionFits};
 ghost use Rattle.stack_code.specs.Fits.{FrameServes};
 
 use crate::words::{STORE, descriptor_address, push_descriptor};

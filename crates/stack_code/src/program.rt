@@ -2,9 +2,9 @@
 
 ghost use Rattle.std.specs.Prelude.{◌≡◌, IfOk};
 ghost use Rattle.pool_ir.specs.Views.{code_of};
-ghost use Rattle.pool_stack.specs.Emitting.{emitted};
+ghost use Rattle.stack_code.specs.Emitting.{emitted};
 ghost use Rattle.stack_code.specs.Units.{units_code};
-ghost use Rattle.stack_ranges.specs.FitsImage.{FitsImage};
+ghost use Rattle.stack_code.specs.FitsImage.{FitsImage};
 
 use crate::functions::unit;
 use crate::units::Units;

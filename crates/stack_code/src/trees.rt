@@ -2,8 +2,8 @@
 
 ghost use Rattle.std.specs.Prelude.{◌≡◌, ◌++◌, OnOk};
 ghost use Rattle.pool_ir.specs.Views.{frame_of, function_of};
-ghost use Rattle.pool_stack.specs.Emitting.{operand_code, tree_code};
-ghost use Rattle.pool_stack.specs.Fitting.{OperandFits, TreeFits};
+ghost use Rattle.stack_code.specs.Emitting.{operand_code, tree_code};
+ghost use Rattle.stack_code.specs.Fitting.{OperandFits, TreeFits};
 ghost use Rattle.stack_code.specs.Fits.{FrameServes};
 ghost use Rattle.tac_ir.specs.Views.{operand_of, tree_of};
 

@@ -2,7 +2,7 @@
 
 ghost use Rattle.std.specs.Prelude.{◌≡◌, ◌<◌, ◌≤◌, ◌++◌, length, OnOk, slice_index, vec_len};
 ghost use Rattle.pool_ir.specs.Views.{function_of};
-ghost use Rattle.pool_stack.specs.Emitting.{edge_code, keeping, way, way_at_zero, way_or_on};
+ghost use Rattle.stack_code.specs.Emitting.{edge_code, keeping, way, way_at_zero, way_or_on};
 ghost use Rattle.stack_code.specs.Fits.{AreLow, FrameServes};
 
 use crate::pools::{actions_between, push_actions, push_edge};

@@ -3,8 +3,8 @@
 ghost use Rattle.std.specs.Prelude.{◌≡◌, ◌*◌, ◌<◌, ◌++◌, OnOk};
 ghost use Rattle.pool_ir.specs.Frames.{word_of_descriptor, word_of_register};
 ghost use Rattle.pool_ir.specs.Views.{frame_of, function_of};
-ghost use Rattle.pool_stack.specs.Emitting.{descriptor_code, register_code};
-ghost use Rattle.pool_stack.specs.Standing.{HasDescriptor, HasRegister};
+ghost use Rattle.stack_code.specs.Emitting.{descriptor_code, register_code};
+ghost use Rattle.stack_code.specs.Standing.{HasDescriptor, HasRegister};
 ghost use Rattle.stack_code.specs.Fits.{FrameServes};
 
 use c_num::IntType;

@@ -17,8 +17,8 @@ use Rattle.c_typed.specs.Layouts.{StructDef}
 use Rattle.c_typed.specs.Table.{Interned, meaning_of, type_in, structs_in}
 use Rattle.c_typed.specs.Views.{value_in, object_in, ValueStands, ObjectStands}
 use Rattle.c_typed.proofs.Same.{same_type-true}
-use Rattle.c_well_typed.specs.Expressions.{is_scalar, is_right, is_pointer_to_complete, moved, type_of, type_of_object}
-use Rattle.c_well_typed.proofs.Splitting.{first_parts, two_parts, same_parts, held_parts}
+use Rattle.c_typed.specs.Expressions.{is_scalar, is_right, is_pointer_to_complete, moved, type_of, type_of_object}
+use Rattle.c_typed.proofs.Splitting.{first_parts, two_parts, same_parts, held_parts}
 use Rattle.tac_ir.specs.declared.register.Register.{Register}
 use Rattle.tac_ir.specs.Code.{Tree, Constant, Op, Path}
 use Rattle.tac_ir.specs.Code as C

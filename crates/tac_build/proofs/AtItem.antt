@@ -4,7 +4,7 @@ use Rattle.std.proofs.lemmas.List.{drop_all}
 use Rattle.c_typed.specs.declared.statement.BlockItem as memory_item
 use Rattle.c_typed.specs.declared.statement.SwitchItem as memory_switch
 use Rattle.c_typed.specs.StatementViews.{block_in, switch_in}
-use Rattle.c_sizes.specs.TypedNodes.{block_nodes, switch_nodes}
+use Rattle.c_typed.specs.TypedNodes.{block_nodes, switch_nodes}
 use Rattle.tac_ir.specs.declared.register.PointId.{PointId}
 use Rattle.tac_build.specs.declared.builder.Builder.{Builder}
 use Rattle.tac_build.specs.declared.names.Source.{Source}

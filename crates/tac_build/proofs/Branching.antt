@@ -8,8 +8,8 @@ use Rattle.c_typed.specs.Types.{CType, int, same_type, is_integer}
 use Rattle.c_typed.specs.Table.{Interned}
 use Rattle.c_typed.specs.Views.{value_in}
 use Rattle.c_typed.proofs.Same.{same_type-true}
-use Rattle.c_well_typed.specs.Expressions.{given_two, where_holds, type_of}
-use Rattle.c_well_typed.proofs.Splitting.{given_parts, first_parts, both_parts}
+use Rattle.c_typed.specs.Expressions.{given_two, where_holds, type_of}
+use Rattle.c_typed.proofs.Splitting.{given_parts, first_parts, both_parts}
 use Rattle.tac_ir.specs.declared.register.Register.{Register}
 use Rattle.tac_ir.specs.declared.register.Register.TheVariants as R
 use Rattle.tac_ir.specs.declared.op.Op.TheVariants as M

@@ -2,7 +2,7 @@
 use Rattle.std.proofs.Common.{◌≡◌, ℕ, suc, ◌+◌, Bool, true, if◌then◌else◌, List, Box, Vec, Global, Some, Result, Ok, Err, IfOk, sym, ap, ◌∙◌, subst}
 use Rattle.std.proofs.lemmas.Option.{same_Some}
 use Rattle.std.specs.declared.alloc.AllocError.{AllocError}
-use Rattle.text_place.specs.declared.place.Pos.{Pos}
+use Rattle.run_theory.specs.declared.place.Pos.{Pos}
 use Rattle.c_typed.specs.declared.c_type.CType as number
 use Rattle.c_typed.specs.declared.typed.LibraryFunction.{LibraryFunction}
 use Rattle.c_typed.specs.declared.typed.Value as memory_value
@@ -14,9 +14,9 @@ use Rattle.c_typed.specs.Typed as T
 use Rattle.c_typed.specs.Typed.{Value}
 use Rattle.c_typed.specs.Views.{value_in, designator_in, values_in}
 use Rattle.c_typed.proofs.TypedStays.{ValuesStand-vec, value_in-call, value_in-library_call}
-use Rattle.c_sizes.specs.TypedNodes.{value_nodes, designator_nodes, values_nodes}
-use Rattle.c_well_typed.specs.Expressions.{given, where_holds, all_scalar, result_of, type_of, types_of, type_of_designator}
-use Rattle.c_well_typed.proofs.Splitting.{two_parts, called_parts}
+use Rattle.c_typed.specs.TypedNodes.{value_nodes, designator_nodes, values_nodes}
+use Rattle.c_typed.specs.Expressions.{given, where_holds, all_scalar, result_of, type_of, types_of, type_of_designator}
+use Rattle.c_typed.proofs.Splitting.{two_parts, called_parts}
 use Rattle.tac_ir.specs.declared.register.Register.{Register}
 use Rattle.tac_ir.specs.Code as C
 use Rattle.tac_ir.specs.Views.{callee_in}

@@ -13,11 +13,11 @@ use Rattle.c_typed.specs.Table.{Interned, Stands, type_in}
 use Rattle.c_typed.specs.Typed as T
 use Rattle.c_typed.specs.Typed.{FunctionDef}
 use Rattle.c_typed.specs.Views.{value_in, designator_in, values_in}
-use Rattle.c_sizes.specs.TypedNodes.{value_nodes, values_nodes, designator_nodes}
-use Rattle.c_well_typed.specs.Context.{function_type}
-use Rattle.c_well_typed.specs.Expressions.{given, given_two, is_scalar, is_conversion, pointed_function, all_scalar, library_result, type_of, types_of}
+use Rattle.c_typed.specs.TypedNodes.{value_nodes, values_nodes, designator_nodes}
+use Rattle.c_typed.specs.Context.{function_type}
+use Rattle.c_typed.specs.Expressions.{given, given_two, is_scalar, is_conversion, pointed_function, all_scalar, library_result, type_of, types_of}
 use Rattle.c_typed.proofs.Same.{same_type-true}
-use Rattle.c_well_typed.proofs.Splitting.{held_parts, given_parts, unless_parts, two_parts, pointed_function_is}
+use Rattle.c_typed.proofs.Splitting.{held_parts, given_parts, unless_parts, two_parts, pointed_function_is}
 use Rattle.tac_ir.specs.declared.register.Register.{Register}
 use Rattle.tac_ir.specs.declared.register.Register.TheVariants as R
 use Rattle.tac_ir.specs.Code.{Op, Known, Through, Held}

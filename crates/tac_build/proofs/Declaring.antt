@@ -13,10 +13,10 @@ use Rattle.c_typed.specs.Typed.{Value, LocalDef}
 use Rattle.c_typed.specs.Views.{value_in}
 use Rattle.c_typed.specs.StatementViews.{local_in, OptionalStands}
 use Rattle.c_typed.proofs.Same.{same_type-true}
-use Rattle.c_sizes.specs.TypedNodes.{value_nodes, optional_nodes, local_nodes}
-use Rattle.c_well_typed.specs.Context.{with_local}
-use Rattle.c_well_typed.specs.Expressions.{is_scalar, type_of}
-use Rattle.c_well_typed.specs.Statements.{holds_for, is_of_type, if_any}
+use Rattle.c_typed.specs.TypedNodes.{value_nodes, optional_nodes, local_nodes}
+use Rattle.c_typed.specs.Context.{with_local}
+use Rattle.c_typed.specs.Expressions.{is_scalar, type_of}
+use Rattle.c_typed.specs.Statements.{holds_for, is_of_type, if_any}
 use Rattle.tac_ir.specs.Code.{Op}
 use Rattle.tac_build.specs.declared.builder.Builder.{Builder}
 use Rattle.tac_build.specs.declared.names.Source.{Source}

@@ -14,9 +14,9 @@ use Rattle.c_typed.specs.Layouts.{StructDef}
 use Rattle.c_typed.specs.Typed as T
 use Rattle.c_typed.specs.Typed.{Program, Value, Values, Object, Designator, GlobalDef, FunctionDef}
 use Rattle.c_typed.proofs.Same.{same_type-true}
-use Rattle.c_well_typed.specs.Context.{Context, local_type, global_type, function_type, literal_bytes}
-use Rattle.c_well_typed.specs.Expressions.{given, given_two, where_holds, is_scalar, is_conversion, is_pointer_to_complete, is_right, are_comparable, repoints, first_element, pointed, pointed_function, element, member_of, moved, all_scalar, result_of, library_result, type_of, types_of, type_of_object, type_of_designator}
-use Rattle.c_well_typed.proofs.Splitting.{held_parts, given_parts, unless_parts, two_parts, same_parts, other_parts, first_parts, both_parts, pointed_parts, element_parts, pointed_function_is}
+use Rattle.c_typed.specs.Context.{Context, local_type, global_type, function_type, literal_bytes}
+use Rattle.c_typed.specs.Expressions.{given, given_two, where_holds, is_scalar, is_conversion, is_pointer_to_complete, is_right, are_comparable, repoints, first_element, pointed, pointed_function, element, member_of, moved, all_scalar, result_of, library_result, type_of, types_of, type_of_object, type_of_designator}
+use Rattle.c_typed.proofs.Splitting.{held_parts, given_parts, unless_parts, two_parts, same_parts, other_parts, first_parts, both_parts, pointed_parts, element_parts, pointed_function_is}
 use Rattle.tac_ir.specs.declared.register.Local.{Local}
 use Rattle.tac_ir.specs.declared.register.Register.{Register}
 use Rattle.tac_ir.specs.Code.{Tree, Path, Callee, Known, Through, Op}

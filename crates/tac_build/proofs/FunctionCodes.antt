@@ -9,10 +9,10 @@ use Rattle.c_typed.specs.Table.{Interned, type_in}
 use Rattle.c_typed.specs.Typed.{FunctionDef}
 use Rattle.c_typed.specs.StatementViews.{block_in}
 use Rattle.c_typed.specs.DefinitionViews.{TypesStand, function_in}
-use Rattle.c_sizes.specs.TypedNodes.{block_nodes}
-use Rattle.c_well_typed.specs.Expressions.{is_scalar}
-use Rattle.c_well_typed.specs.Statements.{Within, is_block}
-use Rattle.c_well_typed.specs.Programs.{function_of, are_scalars, with_parameters}
+use Rattle.c_typed.specs.TypedNodes.{block_nodes}
+use Rattle.c_typed.specs.Expressions.{is_scalar}
+use Rattle.c_typed.specs.Statements.{Within, is_block}
+use Rattle.c_typed.specs.Programs.{function_of, are_scalars, with_parameters}
 use Rattle.tac_ir.specs.declared.program.Counts.{Counts}
 use Rattle.tac_ir.specs.declared.program.Function as memory_function
 use Rattle.tac_ir.specs.Views.{op_in, object_in}

@@ -19,9 +19,9 @@ use Rattle.c_typed.specs.Table.{Interned}
 use Rattle.c_typed.specs.Typed as T
 use Rattle.c_typed.specs.Typed.{Stmt, LocalDef, ForStart}
 use Rattle.c_typed.specs.StatementViews.{local_in, start_in, stmt_in, block_in, switch_in}
-use Rattle.c_sizes.specs.TypedNodes.{local_nodes, stmt_nodes, block_nodes, switch_nodes}
-use Rattle.c_well_typed.specs.Context.{with_local}
-use Rattle.c_well_typed.specs.Statements.{Within, is_stmt, is_block, are_items, is_local, is_label, with_locals, with_start}
+use Rattle.c_typed.specs.TypedNodes.{local_nodes, stmt_nodes, block_nodes, switch_nodes}
+use Rattle.c_typed.specs.Context.{with_local}
+use Rattle.c_typed.specs.Statements.{Within, is_stmt, is_block, are_items, is_local, is_label, with_locals, with_start}
 use Rattle.tac_ir.specs.declared.register.Register.{Register}
 use Rattle.tac_ir.specs.declared.register.PointId.{PointId}
 use Rattle.tac_ir.specs.Code.{Op}

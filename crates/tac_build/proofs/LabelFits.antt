@@ -7,7 +7,7 @@ use Rattle.c_num.specs.declared.IntType.{IntType}
 use Rattle.c_num.specs.declared.IntType.TheVariants as I
 use Rattle.c_num.specs.Types.{IsValue}
 use Rattle.c_num.proofs.Outcomes.{is_value-Decides}
-use Rattle.c_well_typed.specs.Statements.{is_label}
+use Rattle.c_typed.specs.Statements.{is_label}
 
 between : (n : IntType) (z : ℤ) → IsValue n z → (neg_ℤ (pos 9223372036854775808) ≤ℤ z) × (z ≤ℤ pos 18446744073709551615)
 between I.Char z h = (omega (arith, ints, h.least), omega (arith, ints, h.greatest))

@@ -10,9 +10,9 @@ use Rattle.c_typed.specs.Types.{CType, is_array, is_struct}
 use Rattle.c_typed.specs.Table.{Interned, type_in}
 use Rattle.c_typed.specs.Typed.{LocalDef}
 use Rattle.c_typed.specs.StatementViews.{local_in}
-use Rattle.c_sizes.specs.TypedNodes.{local_nodes, locals_nodes}
-use Rattle.c_well_typed.specs.Context.{with_local}
-use Rattle.c_well_typed.specs.Statements.{is_local, are_locals}
+use Rattle.c_typed.specs.TypedNodes.{local_nodes, locals_nodes}
+use Rattle.c_typed.specs.Context.{with_local}
+use Rattle.c_typed.specs.Statements.{is_local, are_locals}
 use Rattle.tac_ir.specs.Code.{Op}
 use Rattle.tac_build.specs.declared.builder.Builder.{Builder}
 use Rattle.tac_build.specs.declared.names.Source.{Source}

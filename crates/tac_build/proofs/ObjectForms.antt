@@ -3,7 +3,7 @@
 use Rattle.std.proofs.Common.{◌≡◌, ℕ, zero, suc, Bool, true, false, ◌&&◌, ◌||◌, ◌==◌, if◌then◌else◌, List, [], ◌∷◌, length, Option, Some, None, is_some, refl, sym, ap, ◌∙◌, subst, bytes_eq, ◌⊎◌, inl, inr}
 use Rattle.std.proofs.lemmas.Bool.{false≢true, true≢false}
 use Rattle.std.proofs.lemmas.Option.{none-some, same_Some}
-use Rattle.text_place.specs.declared.place.Pos.{Pos}
+use Rattle.run_theory.specs.declared.place.Pos.{Pos}
 use Rattle.c_num.specs.declared.IntType.{IntType}
 use Rattle.c_typed.specs.Types.{CType, Void, Integer, Pointer, Array, Struct, Function, is_integer, is_void, is_array, is_struct}
 use Rattle.c_typed.specs.Places.{is_same_place}
@@ -11,9 +11,9 @@ use Rattle.c_typed.specs.Layouts.{StructDef, is_complete}
 use Rattle.c_typed.specs.Table.{Interned, Meaning, AType, AList, Nothing, meaning_of, IsAType, the_type, Stands}
 use Rattle.c_typed.specs.Typed as T
 use Rattle.c_typed.specs.Typed.{Program, Value, Object, GlobalDef, LiteralDef}
-use Rattle.c_well_typed.specs.Context.{local_type, global_type, literal_bytes}
-use Rattle.c_well_typed.specs.Expressions.{given, element, pointed, member_of, type_of_object}
-use Rattle.c_well_typed.proofs.Splitting.{given_parts}
+use Rattle.c_typed.specs.Context.{local_type, global_type, literal_bytes}
+use Rattle.c_typed.specs.Expressions.{given, element, pointed, member_of, type_of_object}
+use Rattle.c_typed.proofs.Splitting.{given_parts}
 use Rattle.tac_ir.specs.First.{named_global, placed_literal}
 use Rattle.tac_build.specs.declared.lowered.Lowered as memory_lowered
 use Rattle.tac_build.specs.declared.lowered.Lowered.TheVariants as L

@@ -13,8 +13,8 @@ use Rattle.c_typed.specs.Table.{Interned, Stands, type_in, structs_in}
 use Rattle.c_typed.specs.Typed as T
 use Rattle.c_typed.specs.Typed.{Value, Object, GlobalDef, LiteralDef}
 use Rattle.c_typed.specs.Views.{value_in, object_in, ValueStands}
-use Rattle.c_well_typed.specs.Expressions.{given, element, pointed, member_of, type_of, type_of_object}
-use Rattle.c_well_typed.proofs.Splitting.{Two, given_parts, two_parts, element_parts}
+use Rattle.c_typed.specs.Expressions.{given, element, pointed, member_of, type_of, type_of_object}
+use Rattle.c_typed.proofs.Splitting.{Two, given_parts, two_parts, element_parts}
 use Rattle.tac_ir.specs.Code.{Tree, Op, AtLocal, AtGlobal, AtLiteral, Pointed, Member}
 use Rattle.tac_ir.specs.First.{named_global, placed_literal}
 use Rattle.tac_ir.specs.Views.{tree_of, path_in}

@@ -18,11 +18,11 @@ use Rattle.c_typed.specs.Types.{CType, Integer, Pointer, int, same_type, is_inte
 use Rattle.c_typed.specs.Table.{Interned}
 use Rattle.c_typed.specs.Typed as T
 use Rattle.c_typed.specs.Typed.{Value}
-use Rattle.text_place.specs.declared.place.Pos.{Pos}
+use Rattle.run_theory.specs.declared.place.Pos.{Pos}
 use Rattle.c_typed.specs.Views.{value_in, ValueStands}
 use Rattle.c_typed.proofs.Same.{same_type-true}
-use Rattle.c_well_typed.specs.Expressions.{is_right, is_conversion, type_of}
-use Rattle.c_well_typed.proofs.Splitting.{held_parts, other_parts, same_parts, first_parts, both_parts}
+use Rattle.c_typed.specs.Expressions.{is_right, is_conversion, type_of}
+use Rattle.c_typed.proofs.Splitting.{held_parts, other_parts, same_parts, first_parts, both_parts}
 use Rattle.tac_ir.specs.Code as C
 use Rattle.tac_ir.specs.Code.{Op, Tree}
 use Rattle.tac_ir.specs.Views.{tree_of}

@@ -10,8 +10,8 @@ use Rattle.c_typed.specs.Types.{CType, is_array, is_struct}
 use Rattle.c_typed.specs.Table.{Interned, Stands, type_in}
 use Rattle.c_typed.specs.Typed.{Block}
 use Rattle.c_typed.specs.DefinitionViews.{TypesStand}
-use Rattle.c_well_typed.specs.Expressions.{is_scalar}
-use Rattle.c_well_typed.specs.Programs.{are_scalars, with_parameters}
+use Rattle.c_typed.specs.Expressions.{is_scalar}
+use Rattle.c_typed.specs.Programs.{are_scalars, with_parameters}
 use Rattle.tac_ir.specs.declared.register.Local.TheVariants as L
 use Rattle.tac_ir.specs.Code.{Op}
 use Rattle.tac_build.specs.declared.builder.Builder.{Builder}

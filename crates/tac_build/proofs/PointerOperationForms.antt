@@ -10,14 +10,14 @@ use Rattle.c_typed.specs.declared.c_type.CType as number
 use Rattle.c_typed.specs.declared.c_type.Derived.{Derived}
 use Rattle.c_typed.specs.declared.typed.Value as memory_value
 use Rattle.c_typed.specs.Typed as T
-use Rattle.text_place.specs.declared.place.Pos.{Pos}
+use Rattle.run_theory.specs.declared.place.Pos.{Pos}
 use Rattle.c_typed.specs.Types.{CType, Void, Integer, Pointer, Array, Struct, Function, int, same_type, is_integer, is_pointer, is_function, is_object_pointer, is_function_pointer, is_void_pointer}
 use Rattle.c_typed.specs.Layouts.{StructDef}
 use Rattle.c_typed.specs.Table.{Interned, Stands, type_in, AType, derived_meaning, meaning_in, the_type, IsAType}
 use Rattle.c_typed.specs.Views.{value_in, ValueStands}
 use Rattle.c_typed.proofs.Same.{same_type-true}
-use Rattle.c_well_typed.specs.Expressions.{given_two, is_conversion, is_pointer_to_complete, are_comparable, repoints, moved, type_of}
-use Rattle.c_well_typed.proofs.Splitting.{held_parts, two_parts, other_parts, both_parts}
+use Rattle.c_typed.specs.Expressions.{given_two, is_conversion, is_pointer_to_complete, are_comparable, repoints, moved, type_of}
+use Rattle.c_typed.proofs.Splitting.{held_parts, two_parts, other_parts, both_parts}
 use Rattle.tac_ir.specs.declared.register.Register.{Register}
 use Rattle.tac_ir.specs.Code as C
 use Rattle.tac_ir.specs.Code.{Op, Tree}

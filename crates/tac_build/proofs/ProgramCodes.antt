@@ -8,9 +8,9 @@ use Rattle.c_typed.specs.Types.{CType, Function, NoTypes, int, same_type}
 use Rattle.c_typed.specs.Table.{Interned}
 use Rattle.c_typed.specs.Typed.{FunctionDef, Program}
 use Rattle.c_typed.specs.DefinitionViews.{FunctionsStand, function_in}
-use Rattle.c_sizes.specs.TypedNodes.{block_nodes, functions_nodes, program_nodes, greatest_nodes}
-use Rattle.c_well_typed.specs.Context.{function_type}
-use Rattle.c_well_typed.specs.Programs.{IsWellTyped, are_structs, all_complete, all_listed, are_globals, are_functions, is_function_def, has_main}
+use Rattle.c_typed.specs.TypedNodes.{block_nodes, functions_nodes, program_nodes, greatest_nodes}
+use Rattle.c_typed.specs.Context.{function_type}
+use Rattle.c_typed.specs.Programs.{IsWellTyped, are_structs, all_complete, all_listed, are_globals, are_functions, is_function_def, has_main}
 use Rattle.tac_ir.specs.declared.program.Function as memory_function
 use Rattle.tac_ir.specs.Code as C
 use Rattle.tac_ir.specs.Views as tac

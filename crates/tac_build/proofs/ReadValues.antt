@@ -3,7 +3,7 @@ use Rattle.std.proofs.Common.{◌≡◌, ℕ, Bool, true, false, not, ◌&&◌, 
 use Rattle.std.proofs.lemmas.Bool.{false≢true, or_left, or_right}
 use Rattle.std.proofs.lemmas.Option.{none-some, same_Some}
 use Rattle.std.specs.declared.alloc.AllocError.{AllocError}
-use Rattle.text_place.specs.declared.place.Pos.{Pos}
+use Rattle.run_theory.specs.declared.place.Pos.{Pos}
 use Rattle.c_typed.specs.declared.c_type.CType as number
 use Rattle.c_typed.specs.declared.typed.Value as memory_value
 use Rattle.c_typed.specs.declared.typed.Value.TheVariants as V
@@ -14,8 +14,8 @@ use Rattle.c_typed.specs.Table.{Interned, Meaning, AType, AList, Nothing, meanin
 use Rattle.c_typed.specs.Typed as T
 use Rattle.c_typed.specs.Typed.{Object, Designator}
 use Rattle.c_typed.specs.Views.{value_in, object_in, designator_in}
-use Rattle.c_well_typed.specs.Expressions.{given, is_scalar, first_element, pointed_function, is_conversion, type_of, type_of_object, type_of_designator}
-use Rattle.c_well_typed.proofs.Splitting.{given_parts, same_parts, unless_parts}
+use Rattle.c_typed.specs.Expressions.{given, is_scalar, first_element, pointed_function, is_conversion, type_of, type_of_object, type_of_designator}
+use Rattle.c_typed.proofs.Splitting.{given_parts, same_parts, unless_parts}
 use Rattle.tac_ir.specs.declared.register.Register.{Register}
 use Rattle.tac_ir.specs.declared.op.Callee as memory_callee
 use Rattle.tac_ir.specs.declared.op.Callee.TheVariants as Callees

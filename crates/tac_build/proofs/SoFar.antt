@@ -5,8 +5,8 @@ use Rattle.c_typed.specs.declared.statement.BlockItem as memory_item
 use Rattle.c_typed.specs.declared.statement.SwitchItem as memory_switch
 use Rattle.c_typed.specs.StatementViews.{block_in, switch_in}
 use Rattle.c_typed.specs.Table.{Interned}
-use Rattle.c_sizes.specs.TypedNodes.{block_nodes, switch_nodes}
-use Rattle.c_well_typed.specs.Statements.{Within}
+use Rattle.c_typed.specs.TypedNodes.{block_nodes, switch_nodes}
+use Rattle.c_typed.specs.Statements.{Within}
 use Rattle.tac_ir.specs.declared.register.Register.{Register}
 use Rattle.tac_ir.specs.declared.register.PointId.{PointId}
 use Rattle.tac_ir.specs.Code.{Op}

@@ -15,7 +15,7 @@ use Rattle.c_typed.specs.Typed as T
 use Rattle.c_typed.specs.Typed.{Value, Object}
 use Rattle.c_typed.specs.Views.{value_in, object_in, ValueStands, ObjectStands}
 use Rattle.c_typed.proofs.Same.{same_type-true}
-use Rattle.c_well_typed.specs.Expressions.{is_scalar, is_pointer_to_complete, are_alike, are_comparable, repoints, is_right, type_of, type_of_object}
+use Rattle.c_typed.specs.Expressions.{is_scalar, is_pointer_to_complete, are_alike, are_comparable, repoints, is_right, type_of, type_of_object}
 use Rattle.tac_build.specs.declared.builder.Builder.{Builder}
 use Rattle.tac_build.specs.declared.names.Source.{Source}
 use Rattle.tac_build.specs.declared.homes.Home as memory_home

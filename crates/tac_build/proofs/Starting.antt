@@ -11,9 +11,9 @@ use Rattle.c_typed.specs.Typed as T
 use Rattle.c_typed.specs.Typed.{LocalDef, ForStart}
 use Rattle.c_typed.specs.Views.{value_in, ValueStands}
 use Rattle.c_typed.specs.StatementViews.{local_in, LocalsStand, start_in}
-use Rattle.c_sizes.specs.TypedNodes.{value_nodes, locals_nodes, start_nodes}
-use Rattle.c_well_typed.specs.Expressions.{type_of}
-use Rattle.c_well_typed.specs.Statements.{is_start}
+use Rattle.c_typed.specs.TypedNodes.{value_nodes, locals_nodes, start_nodes}
+use Rattle.c_typed.specs.Expressions.{type_of}
+use Rattle.c_typed.specs.Statements.{is_start}
 use Rattle.tac_build.specs.declared.builder.Builder.{Builder}
 use Rattle.tac_build.specs.declared.names.Source.{Source}
 use Rattle.tac_build.specs.declared.addressed.Addressed.{Addressed}

@@ -3,7 +3,7 @@ use Rattle.std.proofs.Common.{◌≡◌, ℕ, ◌≤◌, Bool, List, [], length,
 use Rattle.c_typed.specs.declared.statement.Stmt as memory_stmt
 use Rattle.c_typed.specs.StatementViews.{stmt_in}
 use Rattle.c_typed.specs.Typed.{Stmt}
-use Rattle.c_sizes.specs.TypedNodes.{stmt_nodes}
+use Rattle.c_typed.specs.TypedNodes.{stmt_nodes}
 use Rattle.tac_build.specs.declared.builder.Builder.{Builder}
 use Rattle.tac_build.specs.declared.names.Source.{Source}
 use Rattle.tac_build.specs.declared.statements.Ways as memory_ways

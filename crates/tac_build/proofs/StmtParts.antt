@@ -16,10 +16,10 @@ use Rattle.c_typed.specs.Views.{value_in, ValueStands}
 use Rattle.c_typed.specs.StatementViews.{optional_value_in, OptionalStands, start_in, StartStands, stmt_in, StmtStands, block_in, BlockStands, switch_in, SwitchStands}
 use Rattle.c_typed.proofs.StatementsStay.{stmt_in-block, stmt_in-switch}
 use Rattle.c_typed.proofs.StatementItems.{block-items, switch-items}
-use Rattle.c_sizes.specs.TypedNodes.{stmt_nodes}
-use Rattle.c_well_typed.specs.Context.{Context}
-use Rattle.c_well_typed.specs.Expressions.{given, type_of}
-use Rattle.c_well_typed.specs.Statements.{Within, in_loop, in_switch, is_stmt, is_start, with_start, is_condition, is_expression, if_any}
+use Rattle.c_typed.specs.TypedNodes.{stmt_nodes}
+use Rattle.c_typed.specs.Context.{Context}
+use Rattle.c_typed.specs.Expressions.{given, type_of}
+use Rattle.c_typed.specs.Statements.{Within, in_loop, in_switch, is_stmt, is_start, with_start, is_condition, is_expression, if_any}
 use Rattle.tac_build.specs.declared.builder.Builder.{Builder}
 use Rattle.tac_build.specs.declared.names.Source.{Source}
 use Rattle.tac_build.specs.declared.addressed.Addressed.{Addressed}

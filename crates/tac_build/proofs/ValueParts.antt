@@ -9,8 +9,8 @@ use Rattle.c_typed.specs.Typed as T
 use Rattle.c_typed.specs.Views.{value_in}
 use Rattle.c_typed.specs.StatementViews.{optional_value_in}
 use Rattle.c_typed.proofs.Same.{same_type-true}
-use Rattle.c_well_typed.specs.Expressions.{is_scalar, type_of}
-use Rattle.c_well_typed.specs.Statements.{holds_for, is_of_type}
+use Rattle.c_typed.specs.Expressions.{is_scalar, type_of}
+use Rattle.c_typed.specs.Statements.{holds_for, is_of_type}
 use Rattle.tac_ir.specs.declared.op.Operand as memory_operand
 use Rattle.tac_ir.specs.declared.register.Register.{Register}
 use Rattle.tac_ir.specs.declared.register.Register.TheVariants as R

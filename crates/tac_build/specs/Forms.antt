@@ -3,7 +3,7 @@ use Rattle.std.specs.Prelude.{◌≡◌, ℕ, suc, ◌<◌, ◌≤◌, Bool, tru
 use Rattle.c_num.specs.declared.IntType.{IntType}
 use Rattle.c_typed.specs.Types.{CType, Void, Integer, Pointer, Array, is_pointer}
 use Rattle.c_typed.specs.Typed.{Program, Values, NoValues, MoreValues}
-use Rattle.c_well_typed.specs.Context.{Context}
+use Rattle.c_typed.specs.Context.{Context}
 use Rattle.tac_ir.specs.declared.program.Counts.{Counts}
 use Rattle.tac_ir.specs.declared.register.Register.{Register}
 use Rattle.tac_ir.specs.declared.register.Register.TheVariants as R

@@ -1,7 +1,7 @@
 -- What lowering of expressions asks of a tree in its surroundings, and what it promises.
 use Rattle.std.specs.Prelude.{◌≡◌, ℕ, ◌+◌, ◌*◌, ◌<◌, Bool, true, false, not, ◌||◌, List, [], ◌∷◌, Some, None, option_map, bytes_eq}
 use Rattle.indexmap.specs.IndexMap.{get_by}
-use Rattle.text_place.specs.declared.place.Pos.{Pos}
+use Rattle.run_theory.specs.declared.place.Pos.{Pos}
 use Rattle.c_typed.specs.declared.typed.Value as memory_value
 use Rattle.c_typed.specs.declared.typed.Value.TheVariants as V
 use Rattle.c_typed.specs.declared.typed.Object as memory_object
@@ -14,9 +14,9 @@ use Rattle.c_typed.specs.Typed as T
 use Rattle.c_typed.specs.Typed.{Value, Object, Designator, Program}
 use Rattle.c_typed.specs.Views.{value_in, object_in, designator_in, values_in, ValueStands, ObjectStands, DesignatorStands, ValuesStand}
 use Rattle.c_typed.specs.DefinitionViews.{program_of, ProgramStands}
-use Rattle.c_well_typed.specs.Context.{Context}
-use Rattle.c_well_typed.specs.Expressions.{type_of, types_of, type_of_object, type_of_designator, library_result, given}
-use Rattle.c_well_typed.specs.Programs.{IsWellTyped}
+use Rattle.c_typed.specs.Context.{Context}
+use Rattle.c_typed.specs.Expressions.{type_of, types_of, type_of_object, type_of_designator, library_result, given}
+use Rattle.c_typed.specs.Programs.{IsWellTyped}
 use Rattle.tac_ir.specs.declared.register.Register.{Register}
 use Rattle.tac_ir.specs.First.{named_global, placed_literal}
 use Rattle.tac_ir.specs.Code.{Through}

@@ -6,8 +6,8 @@ use Rattle.c_typed.specs.declared.definition.FunctionDef as memory_definition
 use Rattle.c_typed.specs.Typed.{Block}
 use Rattle.c_typed.specs.Table.{Interned, type_in}
 use Rattle.c_typed.specs.DefinitionViews.{FunctionStands, function_in}
-use Rattle.c_sizes.specs.TypedNodes.{block_nodes, greatest_nodes}
-use Rattle.c_well_typed.specs.Programs.{is_function_def}
+use Rattle.c_typed.specs.TypedNodes.{block_nodes, greatest_nodes}
+use Rattle.c_typed.specs.Programs.{is_function_def}
 use Rattle.tac_ir.specs.declared.register.Local.TheVariants as L
 use Rattle.tac_ir.specs.declared.program.Function as memory_function
 use Rattle.tac_ir.specs.Views as tac

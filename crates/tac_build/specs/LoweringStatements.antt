@@ -15,7 +15,7 @@ use Rattle.c_typed.specs.Typed.{Value, Stmt, LocalDef, ForStart}
 use Rattle.c_typed.specs.Types.{CType}
 use Rattle.c_typed.specs.Views.{value_in, ValueStands}
 use Rattle.c_typed.specs.StatementViews.{optional_value_in, OptionalStands, local_in, LocalStands, LocalsStand, start_in, StartStands, stmt_in, StmtStands, block_in, BlockStands, switch_in, SwitchStands}
-use Rattle.c_well_typed.specs.Statements.{Within, is_stmt, is_block, are_items, is_local, are_locals, is_start, is_condition, is_expression, is_return, if_any}
+use Rattle.c_typed.specs.Statements.{Within, is_stmt, is_block, are_items, is_local, are_locals, is_start, is_condition, is_expression, is_return, if_any}
 use Rattle.tac_ir.specs.declared.register.Register.{Register}
 use Rattle.tac_ir.specs.declared.register.PointId.{PointId}
 use Rattle.tac_ir.specs.Code.{Tree, Op}

@@ -1,7 +1,7 @@
 -- The numbers of functions, variables and literals in a map, from a number on: those of the first of a name or place.
 use Rattle.std.specs.Prelude.{◌≡◌, ℕ, List, Vec, map, option_map, bytes_eq}
 use Rattle.indexmap.specs.IndexMap.{IndexMap, get_by}
-use Rattle.text_place.specs.declared.place.Pos.{Pos}
+use Rattle.run_theory.specs.declared.place.Pos.{Pos}
 use Rattle.c_typed.specs.declared.definition.FunctionDef.{FunctionDef}
 use Rattle.c_typed.specs.declared.definition.GlobalDef.{GlobalDef}
 use Rattle.c_typed.specs.declared.definition.LiteralDef.{LiteralDef}

@@ -3,8 +3,8 @@ use Rattle.std.specs.Prelude.{◌≡◌, true, ◌+◌, ◌≤◌, List, ◌++�
 use Rattle.c_typed.specs.declared.typed.Value as memory_value
 use Rattle.c_typed.specs.Types.{CTypes}
 use Rattle.c_typed.specs.Views.{values_in}
-use Rattle.c_sizes.specs.TypedNodes.{values_nodes}
-use Rattle.c_well_typed.specs.Expressions.{types_of, all_scalar}
+use Rattle.c_typed.specs.TypedNodes.{values_nodes}
+use Rattle.c_typed.specs.Expressions.{types_of, all_scalar}
 use Rattle.tac_ir.specs.declared.register.Register.{Register}
 use Rattle.tac_ir.specs.Code.{Op}
 use Rattle.tac_build.specs.declared.builder.Builder.{Builder}

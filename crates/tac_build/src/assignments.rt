@@ -11,7 +11,7 @@ ghost use Rattle.tac_build.specs.Code.{compound_tree, gives_old, HasOp, Emits, W
 ghost use Rattle.tac_build.specs.Building.{lowered_in, pointer_in, at_moment, home_in, IsScalar, Grows, Leads, Lowers, LowersIn, TargetStands, AssignsTarget, IsPointerType, TargetPoints, ShiftsLocal, ShiftsObject, ShiftsTarget, UpdatesTarget, StepsTarget, HasRoom, Adds, mode_of};
 ghost use Rattle.tac_build.specs.Lowering.{names_for, AddsFewer, types_of_source, IsSource, scope_of, IsScope, ValueTyped, ValueLives, LoweredHolds, ValueLowers, IsAssignment};
 ghost use Rattle.c_typed.specs.Views.{value_in};
-ghost use Rattle.c_sizes.specs.TypedNodes.{value_nodes};
+ghost use Rattle.c_typed.specs.TypedNodes.{value_nodes};
 
 use crate::builder::Builder;
 use crate::homes::{Home, is_pure};

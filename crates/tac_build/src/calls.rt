@@ -14,8 +14,8 @@ ghost use Rattle.tac_build.specs.Lowering.{names_for, AddsFewer, types_of_source
 ghost use Rattle.tac_build.specs.Homes.{takes_called, takes_any};
 ghost use Rattle.c_typed.specs.Views.{designator_in, values_in};
 ghost use Rattle.c_typed.specs.Types.{CTypes};
-ghost use Rattle.c_sizes.specs.TypedNodes.{designator_nodes, values_nodes};
-ghost use Rattle.c_well_typed.specs.Expressions.{all_scalar, types_of};
+ghost use Rattle.c_typed.specs.TypedNodes.{designator_nodes, values_nodes};
+ghost use Rattle.c_typed.specs.Expressions.{all_scalar, types_of};
 
 use crate::builder::Builder;
 use crate::homes::Home;

@@ -11,7 +11,7 @@ ghost use Rattle.tac_build.specs.Building.{lowered_in, home_in, spot_of, IsScala
 ghost use Rattle.tac_build.specs.Homes.{takes_optional, takes_first, takes_start};
 ghost use Rattle.c_typed.specs.Table.{Interned, Stands, type_in};
 ghost use Rattle.c_typed.specs.StatementViews.{local_in, start_in};
-ghost use Rattle.c_sizes.specs.TypedNodes.{local_nodes, locals_nodes, start_nodes};
+ghost use Rattle.c_typed.specs.TypedNodes.{local_nodes, locals_nodes, start_nodes};
 ghost use Rattle.tac_build.specs.declared.homes.Home as memory_home;
 
 use crate::addressed::Addressed;

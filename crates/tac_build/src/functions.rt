@@ -4,7 +4,7 @@ ghost use Rattle.std.specs.Prelude.{◌≡◌, ℕ, true, [], length, map, bytes
 ghost use Rattle.c_typed.specs.Typed.{Block};
 ghost use Rattle.c_typed.specs.Table.{Interned, Stands, type_in};
 ghost use Rattle.c_typed.specs.DefinitionViews.{TypesStand};
-ghost use Rattle.c_well_typed.specs.Programs.{are_scalars};
+ghost use Rattle.c_typed.specs.Programs.{are_scalars};
 ghost use Rattle.tac_ir.specs.declared.register.Local.TheVariants as L;
 ghost use Rattle.tac_ir.specs.declared.register.Register.TheVariants as R;
 ghost use Rattle.tac_ir.specs.Views.{scalar_in, operand_of};

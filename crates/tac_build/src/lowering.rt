@@ -2,8 +2,8 @@
 
 ghost use Rattle.std.specs.Prelude.{◌≡◌, ◌≤◌, [], IfOk};
 ghost use Rattle.c_typed.specs.DefinitionViews.{ProgramStands, LiteralsStand, program_of};
-ghost use Rattle.c_sizes.specs.TypedNodes.{program_nodes, greatest_nodes};
-ghost use Rattle.c_well_typed.specs.Programs.{IsWellTyped};
+ghost use Rattle.c_typed.specs.TypedNodes.{program_nodes, greatest_nodes};
+ghost use Rattle.c_typed.specs.Programs.{IsWellTyped};
 ghost use Rattle.c_typed.specs.Table.{Interned};
 ghost use Rattle.tac_ir.specs.Views as tac;
 ghost use Rattle.tac_build.specs.ProgramCode.{Code, start_points, start_counts};

@@ -6,15 +6,15 @@ ghost use Rattle.c_typed.specs.DefinitionViews.{ProgramStands, program_of};
 ghost use Rattle.c_typed.specs.Table.{Stands, type_in};
 ghost use Rattle.tac_build.specs.Numbers.{NumbersFunctions, NumbersGlobals, NumbersLiterals};
 ghost use Rattle.c_typed.specs.Typed as T;
-ghost use Rattle.c_well_typed.specs.Programs.{IsWellTyped};
+ghost use Rattle.c_typed.specs.Programs.{IsWellTyped};
 ghost use Rattle.tac_ir.specs.First.{named_global, placed_literal};
 ghost use Rattle.tac_build.specs.Code.{function_number, type_of_function};
 
 use c_typed::{CType, FunctionDef, GlobalDef, LiteralDef, Program, TypeTable};
 use indexmap::IndexMap;
+use run_theory::Pos;
 use std::alloc::{AllocError, Global};
 use tac_ir::{FunctionId, GlobalId, LiteralId};
-use text_place::Pos;
 
 /// The numbers of functions and of variables outside functions by their names, and of literals by their places. Where several have
 /// one name, it is the number of the first.

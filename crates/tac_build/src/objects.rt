@@ -13,7 +13,7 @@ ghost use Rattle.tac_build.specs.Building.{lowered_in, pointer_in, mode_of, home
 ghost use Rattle.tac_build.specs.Lowering.{names_for, AddsFewer, types_of_source, IsSource, scope_of, IsScope, ObjectTyped, LieInMemory, ObjectLives, LoweredHolds, ObjectLowers, TargetLowers};
 ghost use Rattle.tac_build.specs.Homes.{takes_in};
 ghost use Rattle.c_typed.specs.Views.{object_in};
-ghost use Rattle.c_sizes.specs.TypedNodes.{object_nodes};
+ghost use Rattle.c_typed.specs.TypedNodes.{object_nodes};
 
 use crate::builder::Builder;
 use crate::homes::{Home, home_of, is_pure, register_home};

@@ -14,8 +14,8 @@ ghost use Rattle.c_typed.specs.Table.{Interned};
 ghost use Rattle.c_typed.specs.Typed as T;
 ghost use Rattle.c_typed.specs.Views.{value_in};
 ghost use Rattle.c_typed.specs.StatementViews.{optional_value_in, stmt_in, block_in};
-ghost use Rattle.c_sizes.specs.TypedNodes.{value_nodes, optional_nodes, stmt_nodes, block_nodes};
-ghost use Rattle.c_well_typed.specs.Statements.{Within};
+ghost use Rattle.c_typed.specs.TypedNodes.{value_nodes, optional_nodes, stmt_nodes, block_nodes};
+ghost use Rattle.c_typed.specs.Statements.{Within};
 
 use crate::addressed::Addressed;
 use crate::builder::Builder;

@@ -9,8 +9,8 @@ ghost use Rattle.tac_build.specs.Homes.{takes, takes_items};
 ghost use Rattle.tac_build.specs.Code.{Emits};
 ghost use Rattle.c_typed.specs.Views.{value_in};
 ghost use Rattle.c_typed.specs.StatementViews.{switch_in};
-ghost use Rattle.c_sizes.specs.TypedNodes.{value_nodes, switch_nodes};
-ghost use Rattle.c_well_typed.specs.Statements.{Within};
+ghost use Rattle.c_typed.specs.TypedNodes.{value_nodes, switch_nodes};
+ghost use Rattle.c_typed.specs.Statements.{Within};
 
 use crate::addressed::Addressed;
 use crate::builder::Builder;

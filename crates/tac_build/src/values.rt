@@ -10,7 +10,7 @@ ghost use Rattle.tac_build.specs.Spots.{AsInteger};
 ghost use Rattle.tac_build.specs.Code.{KeepsTree};
 ghost use Rattle.tac_build.specs.Building.{lowered_in, scope_in, HomesStand, IsInteger, Grows, LeadsIn, HasRoom, Adds, mode_of};
 ghost use Rattle.tac_build.specs.Lowering.{names_for, AddsFewer, types_of_source, IsSource, scope_of, IsScope, ValueTyped, ValueLives, ValueLowers, IsOperation, IsPointerOperation};
-ghost use Rattle.c_sizes.specs.TypedNodes.{value_nodes};
+ghost use Rattle.c_typed.specs.TypedNodes.{value_nodes};
 
 use crate::builder::Builder;
 use crate::homes::{Home, is_pure};

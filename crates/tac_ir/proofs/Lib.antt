@@ -1,7 +1,15 @@
 -- What is proved of runs of three-address code.
-pub mod Steps
-pub mod Limits
-pub mod Traces
-pub mod Seen
-pub mod Paying
+-- What is proved of calls.
 pub mod Activations
+pub mod Ascending
+pub mod FirstTaken
+pub mod Groups
+pub mod Limits
+pub mod Members
+pub mod Paying
+pub mod Reaching
+pub mod Seen
+pub mod Standing
+pub mod Steps
+pub mod Taken
+pub mod Traces

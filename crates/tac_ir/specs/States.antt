@@ -1,7 +1,7 @@
 -- States of a run of three-address code, and ways to go on. Where a point isn't there or isn't filled in, an access is no scalar of its type,
 -- or an operator has no result, the run is lost: what is compiled from it owes nothing then.
 use Rattle.std.specs.Prelude.{ℕ, suc, Bool, true, false, List, [], ◌∷◌, ◌++◌, slice_get, Option, Some, None}
-use Rattle.text_place.specs.Places.{first_place}
+use Rattle.run_theory.specs.Places.{first_place}
 use Rattle.run_theory.specs.declared.ends.UbKind.TheVariants as Ub
 use Rattle.run_theory.specs.Runs.{Undefined, Move, To, Halt}
 use Rattle.tac_ir.specs.declared.register.Register.{Register}

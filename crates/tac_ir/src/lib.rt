@@ -3,6 +3,12 @@
 //! The form is that of a register transfer language (as RTL of CompCert; Leroy, CACM 2009). A point goes on at the one behind it, but
 //! for jumps and branches. Pointers are handled by points of their own, each with registers that stand for a variable or an expression
 //! of the program; integers are computed by trees. `specs/Meaning.antt` says what the code does.
+//!
+//! Which functions call which.
+//!
+//! `specs/Targets.antt` says which functions a call may reach.
+//!
+//! A program has one list of groups of functions. A crate of proofs alone.
 #![tactic(auto)]
 
 mod copies;

@@ -2,8 +2,8 @@
 
 use crate::op::Op;
 use crate::register::Local;
-use byte_string::ByteString;
 use c_typed::{CType, GlobalDef, LiteralDef, TypeTable};
+use run_theory::ByteString;
 
 /// How many registers of each kind a function has, beside its parameters.
 #[derive(Clone, Copy, Debug, PartialEq, Eq)]

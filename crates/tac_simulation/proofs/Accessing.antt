@@ -3,13 +3,13 @@ use Rattle.std.proofs.Common.{◌≡◌, ℕ, ◌==◌, Bool, true, false, if◌
 use Rattle.c_typed.specs.Types.{CType}
 use Rattle.c_typed.specs.Typed.{Program}
 use Rattle.c_typed.proofs.Same.{same_type-refl}
-use Rattle.c_well_typed.specs.Programs.{IsWellTyped}
+use Rattle.c_typed.specs.Programs.{IsWellTyped}
 use Rattle.ref_semantics.specs.Values.{Place, Scalar}
 use Rattle.ref_semantics.specs.Store as S
 use Rattle.ref_semantics.specs.Store.{offset_of, scalar_or, scalar_at}
 use Rattle.ref_semantics.specs.First.{around_of}
-use Rattle.ref_typing.specs.Rows.{LeafAt}
-use Rattle.ref_typing.proofs.WellTyped.{well_structs}
+use Rattle.ref_semantics.specs.Rows.{LeafAt}
+use Rattle.ref_semantics.proofs.WellTyped.{well_structs}
 use Rattle.tac_ir.specs.Values.{Object, Value, Objects, with_content, with_held}
 use Rattle.tac_ir.specs.Layouts.{leaf_at}
 use Rattle.tac_ir.specs.Objects.{stands_at, held_at, holding}

@@ -1,18 +1,18 @@
 -- Pointers that are moved by a number on both sides.
 use Rattle.std.proofs.Common.{◌≡◌, ℕ, ◌≤◌, ◌||◌, true, false, List, [], ◌∷◌, Option, Some, None, ℤ, refl, sym, ap, ◌∙◌, subst}
 use Rattle.std.proofs.lemmas.Bool.{true≢false, ltb-false}
-use Rattle.text_place.specs.declared.place.Pos.{Pos}
+use Rattle.run_theory.specs.declared.place.Pos.{Pos}
 use Rattle.run_theory.specs.declared.ends.UbKind.TheVariants as Ub
 use Rattle.c_typed.specs.Types.{CType}
 use Rattle.c_typed.specs.Layouts.{is_complete}
 use Rattle.c_typed.specs.Typed.{Program}
-use Rattle.c_well_typed.specs.Programs.{IsWellTyped}
+use Rattle.c_typed.specs.Programs.{IsWellTyped}
 use Rattle.ref_semantics.specs.Values.{Scalar, IntegerValue, NullValue, FunctionValue, PointerValue, RawPointer, at_index, place_of}
 use Rattle.ref_semantics.specs.Store as S
 use Rattle.ref_semantics.specs.Store.{Then, give, premise, is_dead_pointer}
 use Rattle.ref_semantics.specs.Pointers.{added, index_moved, is_negative, is_above, or_zero}
-use Rattle.ref_typing.specs.Sound.{PointsTo, Sound}
-use Rattle.ref_typing.proofs.WellTyped.{complete_known, complete_object}
+use Rattle.ref_semantics.specs.Sound.{PointsTo, Sound}
+use Rattle.ref_semantics.proofs.WellTyped.{complete_known, complete_object}
 use Rattle.tac_ir.specs.Values.{Value, Objects}
 use Rattle.tac_ir.specs.Objects.{Surroundings}
 use Rattle.tac_ir.specs.Pointers.{is_alive, moved_pointer}

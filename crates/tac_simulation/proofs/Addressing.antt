@@ -1,13 +1,13 @@
 -- Addresses of objects are taken on both sides.
 use Rattle.std.proofs.Common.{◌≡◌, ℕ, zero, suc, ◌+◌, Bool, true, false, not, List, Option, Some, pos, refl, sym, ap, ◌∙◌, subst, zero-le, arith}
 use Rattle.std.proofs.lemmas.Option.{same_Some}
-use Rattle.text_place.specs.declared.place.Pos.{Pos}
+use Rattle.run_theory.specs.declared.place.Pos.{Pos}
 use Rattle.c_typed.specs.Types.{CType, Pointer, Array, is_function, literal_type}
 use Rattle.c_typed.specs.Typed as T
 use Rattle.c_typed.specs.Typed.{Value, Object, Program}
-use Rattle.c_well_typed.specs.Expressions.{type_of, type_of_object, pointed, first_element}
-use Rattle.c_well_typed.specs.Programs.{IsWellTyped}
-use Rattle.c_well_typed.specs.Sizes.{object_makes, is_storable}
+use Rattle.c_typed.specs.Expressions.{type_of, type_of_object, pointed, first_element}
+use Rattle.c_typed.specs.Programs.{IsWellTyped}
+use Rattle.c_typed.specs.Sizes.{object_makes, is_storable}
 use Rattle.ref_semantics.specs.Values as V
 use Rattle.ref_semantics.specs.Values.{GlobalObject, LiteralObject, Place, Scalar, IntegerValue, NullValue, FunctionValue, PointerValue, RawPointer, object_place}
 use Rattle.ref_semantics.specs.Store as S
@@ -15,11 +15,11 @@ use Rattle.ref_semantics.specs.Store.{Outcome, Then, Eval, give, continue_with, 
 use Rattle.ref_semantics.specs.Meaning.{Calls, named, value, find, address}
 use Rattle.ref_semantics.specs.Pointers.{accessed}
 use Rattle.ref_semantics.specs.First.{around_of}
-use Rattle.ref_typing.specs.Sound.{HasType, IsPlace, Sound}
-use Rattle.ref_typing.specs.Keeping.{CallsKeep}
-use Rattle.ref_typing.proofs.Operating.{decay_type}
-use Rattle.c_well_typed.proofs.Splitting.{held_parts, given_parts}
-use Rattle.ref_typing.proofs.ValuesKeep.{address_keeps}
+use Rattle.ref_semantics.specs.Sound.{HasType, IsPlace, Sound}
+use Rattle.ref_semantics.specs.Keeping.{CallsKeep}
+use Rattle.ref_semantics.proofs.Operating.{decay_type}
+use Rattle.c_typed.proofs.Splitting.{held_parts, given_parts}
+use Rattle.ref_semantics.proofs.ValuesKeep.{address_keeps}
 use Rattle.tac_ir.specs.Code.{Op, Tac, Path, AtLocal, AtGlobal, AtLiteral, Constant, Member, Element}
 use Rattle.tac_ir.specs.Code as O
 use Rattle.tac_ir.specs.Values.{Address}

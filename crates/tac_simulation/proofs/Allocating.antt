@@ -9,8 +9,8 @@ use Rattle.ref_semantics.specs.Values.{Name, Heap, GlobalObject, LiteralObject, 
 use Rattle.ref_semantics.specs.Store as S
 use Rattle.ref_semantics.specs.Store.{Then}
 use Rattle.ref_semantics.specs.Library.{allocated}
-use Rattle.ref_typing.specs.Sound.{WasGiven, Sound}
-use Rattle.ref_typing.proofs.Objects.{same_name-true}
+use Rattle.ref_semantics.specs.Sound.{WasGiven, Sound}
+use Rattle.ref_semantics.proofs.Objects.{same_name-true}
 use Rattle.tac_ir.specs.declared.register.Local.{Local}
 use Rattle.tac_ir.specs.declared.register.Register.TheVariants as Registers
 use Rattle.tac_ir.specs.Values.{Object, OfHeap, OfActivation, Value, NoAddress, Address, Content, Untyped, Objects, with_content, same_object}

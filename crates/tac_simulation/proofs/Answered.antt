@@ -1,13 +1,13 @@
 -- What an answer of the reference says of the premises before it.
 use Rattle.std.proofs.Common.{◌≡◌, Bool, true, false, List, ◌∷◌, refl}
-use Rattle.text_place.specs.declared.place.Pos.{Pos}
+use Rattle.run_theory.specs.declared.place.Pos.{Pos}
 use Rattle.run_theory.specs.declared.ends.UbKind.{UbKind}
 use Rattle.c_typed.specs.Types.{CType}
 use Rattle.c_typed.specs.Typed.{Program}
 use Rattle.ref_semantics.specs.Values.{Scalar, IntegerValue, NullValue, FunctionValue, PointerValue, RawPointer}
 use Rattle.ref_semantics.specs.Store as S
 use Rattle.ref_semantics.specs.Store.{Then, Eval, Premise, premise, unless}
-use Rattle.ref_typing.specs.Sound.{PointsTo}
+use Rattle.ref_semantics.specs.Sound.{PointsTo}
 use Rattle.tac_simulation.proofs.Looking.{IsPointer}
 
 -- the first premise didn't fail

@@ -5,19 +5,19 @@ use Rattle.std.proofs.lemmas.Option.{same_Some}
 use Rattle.c_typed.specs.Types.{CType, CTypes, NoTypes, MoreTypes, Pointer}
 use Rattle.c_typed.specs.Typed as T
 use Rattle.c_typed.specs.Typed.{Value, Values, Designator, Program}
-use Rattle.c_well_typed.specs.Expressions.{is_scalar, type_of, types_of, type_of_designator}
-use Rattle.c_well_typed.specs.Programs.{IsWellTyped}
-use Rattle.c_well_typed.specs.Sizes.{makes, all_make, designator_makes, is_storable}
+use Rattle.c_typed.specs.Expressions.{is_scalar, type_of, types_of, type_of_designator}
+use Rattle.c_typed.specs.Programs.{IsWellTyped}
+use Rattle.c_typed.specs.Sizes.{makes, all_make, designator_makes, is_storable}
 use Rattle.ref_semantics.specs.Values as V
 use Rattle.ref_semantics.specs.Values.{Scalar}
 use Rattle.ref_semantics.specs.Store as S
 use Rattle.ref_semantics.specs.Store.{Outcome, Eval, ◌>>=◌, give, continue_with}
 use Rattle.ref_semantics.specs.Meaning.{Calls, values, designated}
 use Rattle.ref_semantics.specs.First.{around_of}
-use Rattle.ref_typing.specs.Sound.{HasType, HaveTypes}
-use Rattle.ref_typing.specs.Keeping.{Keeps, CallsKeep}
-use Rattle.ref_typing.proofs.ValuesKeep.{values_keep, designated_keeps}
-use Rattle.c_well_typed.proofs.Splitting.{two_parts}
+use Rattle.ref_semantics.specs.Sound.{HasType, HaveTypes}
+use Rattle.ref_semantics.specs.Keeping.{Keeps, CallsKeep}
+use Rattle.ref_semantics.proofs.ValuesKeep.{values_keep, designated_keeps}
+use Rattle.c_typed.proofs.Splitting.{two_parts}
 use Rattle.tac_ir.specs.declared.register.Register.{Register}
 use Rattle.tac_ir.specs.Code.{Op, Callee, Tac}
 use Rattle.tac_ir.specs.Code as O

@@ -1,14 +1,14 @@
 -- The code of assignments to locals in registers.
 use Rattle.std.proofs.Common.{◌≡◌, ℕ, suc, ◌+◌, ◌≤◌, ◌<◌, true, false, not, ◌&&◌, List, Option, Some, refl, sym, ap, ◌∙◌, subst, arith}
 use Rattle.std.proofs.lemmas.Bool.{and_parts}
-use Rattle.text_place.specs.declared.place.Pos.{Pos}
+use Rattle.run_theory.specs.declared.place.Pos.{Pos}
 use Rattle.c_typed.specs.Types.{CType, same_type}
 use Rattle.c_typed.specs.Typed as T
 use Rattle.c_typed.specs.Typed.{Value, Object, Program}
-use Rattle.c_well_typed.specs.Context.{Context}
-use Rattle.c_well_typed.specs.Expressions.{is_scalar, type_of, type_of_object}
-use Rattle.c_well_typed.specs.Programs.{IsWellTyped}
-use Rattle.c_well_typed.specs.Sizes.{makes, object_makes, is_storable}
+use Rattle.c_typed.specs.Context.{Context}
+use Rattle.c_typed.specs.Expressions.{is_scalar, type_of, type_of_object}
+use Rattle.c_typed.specs.Programs.{IsWellTyped}
+use Rattle.c_typed.specs.Sizes.{makes, object_makes, is_storable}
 use Rattle.ref_semantics.specs.Values as V
 use Rattle.ref_semantics.specs.Values.{Place, Scalar, LocalObject, object_place}
 use Rattle.ref_semantics.specs.Store as S
@@ -16,9 +16,9 @@ use Rattle.ref_semantics.specs.Store.{Outcome, Then, Eval, ◌>>=◌, continue_w
 use Rattle.ref_semantics.specs.Pointers.{write}
 use Rattle.ref_semantics.specs.Meaning.{Calls, value, find}
 use Rattle.ref_semantics.specs.First.{around_of}
-use Rattle.ref_typing.specs.Keeping.{CallsKeep, IsElement}
-use Rattle.ref_typing.proofs.ValuesKeep.{find_keeps}
-use Rattle.c_well_typed.proofs.Splitting.{first_parts}
+use Rattle.ref_semantics.specs.Keeping.{CallsKeep, IsElement}
+use Rattle.ref_semantics.proofs.ValuesKeep.{find_keeps}
+use Rattle.c_typed.proofs.Splitting.{first_parts}
 use Rattle.tac_ir.specs.declared.register.Register.{Register}
 use Rattle.tac_ir.specs.declared.register.Register.TheVariants as R
 use Rattle.tac_ir.specs.Code.{Op, Tac}

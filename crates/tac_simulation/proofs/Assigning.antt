@@ -6,7 +6,7 @@ use Rattle.c_typed.specs.Typed.{Program}
 use Rattle.ref_semantics.specs.Values as V
 use Rattle.ref_semantics.specs.Values.{Name, LocalObject, Scalar, same_name}
 use Rattle.ref_semantics.specs.Store as S
-use Rattle.ref_typing.proofs.Objects.{same_name-true}
+use Rattle.ref_semantics.proofs.Objects.{same_name-true}
 use Rattle.tac_ir.specs.declared.register.Local.{Local}
 use Rattle.tac_ir.specs.declared.register.Register.TheVariants as R
 use Rattle.tac_ir.specs.Code.{Op, Tac}

@@ -10,7 +10,7 @@ use Rattle.ref_semantics.specs.Values as V
 use Rattle.ref_semantics.specs.Values.{Name, Heap, GlobalObject, LiteralObject, LocalObject, Scalar}
 use Rattle.ref_semantics.specs.Store as S
 use Rattle.ref_semantics.specs.Meaning.{Calls, killed}
-use Rattle.ref_typing.specs.Sound.{WasGiven, MayBecome, IsSoundContent, Sound}
+use Rattle.ref_semantics.specs.Sound.{WasGiven, MayBecome, IsSoundContent, Sound}
 use Rattle.tac_ir.specs.declared.register.Local.{Local}
 use Rattle.tac_ir.specs.declared.register.Register.{Register}
 use Rattle.tac_ir.specs.declared.register.Register.TheVariants as R

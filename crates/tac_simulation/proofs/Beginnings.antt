@@ -3,17 +3,17 @@ use Rattle.std.proofs.Common.{◌≡◌, ℕ, ◌≤◌, ◌++◌, ◌⊎◌, in
 use Rattle.std.proofs.lemmas.Bool.{and_parts}
 use Rattle.c_typed.specs.Typed as T
 use Rattle.c_typed.specs.Typed.{Value, LocalDef, Program}
-use Rattle.c_well_typed.specs.Expressions.{type_of}
-use Rattle.c_well_typed.specs.Programs.{IsWellTyped}
-use Rattle.c_well_typed.specs.Sizes.{local_makes, is_storable}
-use Rattle.c_well_typed.specs.Statements.{is_local, are_locals}
+use Rattle.c_typed.specs.Expressions.{type_of}
+use Rattle.c_typed.specs.Programs.{IsWellTyped}
+use Rattle.c_typed.specs.Sizes.{local_makes, is_storable}
+use Rattle.c_typed.specs.Statements.{is_local, are_locals}
 use Rattle.ref_semantics.specs.Values as V
 use Rattle.ref_semantics.specs.Store as S
 use Rattle.ref_semantics.specs.Meaning as Meaning
 use Rattle.ref_semantics.specs.Meaning.{Calls, Normal}
 use Rattle.ref_semantics.specs.First.{around_of}
-use Rattle.ref_typing.specs.Keeping.{CallsKeep}
-use Rattle.ref_typing.proofs.StatementsKeep.{some_type}
+use Rattle.ref_semantics.specs.Keeping.{CallsKeep}
+use Rattle.ref_semantics.proofs.StatementsKeep.{some_type}
 use Rattle.tac_ir.specs.declared.register.Local.{Local}
 use Rattle.tac_ir.specs.Code.{Op, Tac}
 use Rattle.tac_ir.specs.Values.{OfActivation}

@@ -3,7 +3,7 @@ use Rattle.std.proofs.Common.{◌≡◌, ℕ, ◌≤◌, ◌<◌, inl, inr, List
 use Rattle.c_typed.specs.Types.{CType}
 use Rattle.c_typed.specs.Typed as T
 use Rattle.c_typed.specs.Typed.{Value, Block, Program}
-use Rattle.c_well_typed.specs.Programs.{IsWellTyped}
+use Rattle.c_typed.specs.Programs.{IsWellTyped}
 use Rattle.ref_semantics.specs.Values as V
 use Rattle.ref_semantics.specs.Values.{Scalar}
 use Rattle.ref_semantics.specs.Store as S
@@ -11,10 +11,10 @@ use Rattle.ref_semantics.specs.Store.{Outcome, Then, continue_with}
 use Rattle.ref_semantics.specs.Meaning as Meaning
 use Rattle.ref_semantics.specs.Meaning.{Calls, Completion, Normal, Break, Continue, Return, killed, kept, leave, scoped}
 use Rattle.ref_semantics.specs.First.{around_of}
-use Rattle.ref_typing.specs.Sound.{AreLocals}
-use Rattle.ref_typing.specs.Keeping.{CallsKeep}
-use Rattle.ref_typing.proofs.Storing.{AreNewer, Opens, left_keeps}
-use Rattle.ref_typing.proofs.StatementsKeep.{block_leads}
+use Rattle.ref_semantics.specs.Sound.{AreLocals}
+use Rattle.ref_semantics.specs.Keeping.{CallsKeep}
+use Rattle.ref_semantics.proofs.Storing.{AreNewer, Opens, left_keeps}
+use Rattle.ref_semantics.proofs.StatementsKeep.{block_leads}
 use Rattle.tac_ir.specs.Code.{Op, Tac}
 use Rattle.tac_ir.specs.Values as M
 use Rattle.tac_ir.specs.States.{State}

@@ -1,7 +1,7 @@
 -- What a call of a function is in the reference, by what its body comes to.
 use Rattle.std.proofs.Common.{◌≡◌, ℕ, suc, Bool, true, false, not, ◌&&◌, List, [], ◌∷◌, ◌++◌, Option, Some, None, sym, ap, ◌∙◌}
 use Rattle.std.proofs.lemmas.Bool.{true≢false}
-use Rattle.text_place.specs.declared.place.Pos.{Pos}
+use Rattle.run_theory.specs.declared.place.Pos.{Pos}
 use Rattle.run_theory.specs.declared.ends.UbKind.TheVariants as Ub
 use Rattle.run_theory.specs.Runs
 use Rattle.run_theory.specs.Runs.{Answer, Called}

@@ -24,7 +24,7 @@ use Rattle.tac_ir.specs.Meaning.{execute}
 use Rattle.tac_build.specs.Homes.{Scope}
 use Rattle.tac_build.specs.Code.{HasOp, function_number}
 use Rattle.tac_build.specs.ProgramCode.{FunctionCode, FunctionsCode, Code}
-use Rattle.ref_typing.specs.Sound.{Sound}
+use Rattle.ref_semantics.specs.Sound.{Sound}
 use Rattle.tac_build.specs.Forms.{context_of}
 use Rattle.tac_simulation.specs.Standing.{Placement, Frame, HoldsFor, At, surroundings}
 use Rattle.tac_simulation.specs.Entered.{entered, hidden_within}

@@ -1,7 +1,7 @@
 -- What a call of the program's functions does, which the code of a call form asks: from the point of the call to the point behind it, with
 -- what stands for the value in the register of the call.
 use Rattle.std.proofs.Common.{◌≡◌, ℕ, suc, ◌+◌, Bool, ◌&&◌, true, List, Option}
-use Rattle.text_place.specs.declared.place.Pos.{Pos}
+use Rattle.run_theory.specs.declared.place.Pos.{Pos}
 use Rattle.std.specs.Prelude.{not}
 use Rattle.c_typed.specs.Types.{CType, CTypes, Pointer, Function, is_void}
 use Rattle.c_typed.specs.Typed.{Program}
@@ -9,7 +9,7 @@ use Rattle.ref_semantics.specs.Values as V
 use Rattle.ref_semantics.specs.Values.{Scalar}
 use Rattle.ref_semantics.specs.Store as S
 use Rattle.ref_semantics.specs.Meaning.{Calls}
-use Rattle.ref_typing.specs.Sound.{HasType, HaveTypes}
+use Rattle.ref_semantics.specs.Sound.{HasType, HaveTypes}
 use Rattle.tac_ir.specs.declared.register.Register.{Register}
 use Rattle.tac_ir.specs.declared.register.Register.TheVariants as R
 use Rattle.tac_ir.specs.Code.{Op, Callee, Tac}

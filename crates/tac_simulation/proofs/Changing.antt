@@ -7,7 +7,7 @@ use Rattle.c_typed.specs.Typed.{Program}
 use Rattle.ref_semantics.specs.Values as V
 use Rattle.ref_semantics.specs.Values.{Name, LocalObject, Scalar}
 use Rattle.ref_semantics.specs.Store as S
-use Rattle.ref_typing.specs.Sound.{WasGiven, AreLocals, HoldsTyped, IsSoundContent, Sound}
+use Rattle.ref_semantics.specs.Sound.{WasGiven, AreLocals, HoldsTyped, IsSoundContent, Sound}
 use Rattle.tac_ir.specs.declared.register.Local.{Local}
 use Rattle.tac_ir.specs.declared.register.Register.TheVariants as R
 use Rattle.tac_ir.specs.Values.{OfActivation, Objects}

@@ -6,19 +6,19 @@ use Rattle.c_typed.specs.Values.{not_zero}
 use Rattle.c_typed.specs.Types.{CType, same_type, is_integer}
 use Rattle.c_typed.specs.Typed as T
 use Rattle.c_typed.specs.Typed.{Value, Program}
-use Rattle.c_well_typed.specs.Context.{Context}
-use Rattle.c_well_typed.specs.Expressions.{where_holds, given_two, type_of}
-use Rattle.c_well_typed.specs.Programs.{IsWellTyped}
-use Rattle.c_well_typed.specs.Sizes.{makes, is_storable}
+use Rattle.c_typed.specs.Context.{Context}
+use Rattle.c_typed.specs.Expressions.{where_holds, given_two, type_of}
+use Rattle.c_typed.specs.Programs.{IsWellTyped}
+use Rattle.c_typed.specs.Sizes.{makes, is_storable}
 use Rattle.ref_semantics.specs.Values as V
 use Rattle.ref_semantics.specs.Values.{Scalar}
 use Rattle.ref_semantics.specs.Store as S
 use Rattle.ref_semantics.specs.Store.{Outcome, Then, ◌>>=◌}
 use Rattle.ref_semantics.specs.Meaning.{Calls, value, is_true}
 use Rattle.ref_semantics.specs.First.{around_of}
-use Rattle.ref_typing.specs.Sound.{Sound}
-use Rattle.ref_typing.specs.Keeping.{CallsKeep}
-use Rattle.c_well_typed.proofs.Splitting.{First, given_parts, first_parts}
+use Rattle.ref_semantics.specs.Sound.{Sound}
+use Rattle.ref_semantics.specs.Keeping.{CallsKeep}
+use Rattle.c_typed.proofs.Splitting.{First, given_parts, first_parts}
 use Rattle.tac_ir.specs.Code.{Op, Tac}
 use Rattle.tac_ir.specs.Code as O
 use Rattle.tac_ir.specs.Values as M

@@ -8,8 +8,8 @@ use Rattle.ref_semantics.specs.Values as V
 use Rattle.ref_semantics.specs.Values.{Name, Heap, GlobalObject, LiteralObject, LocalObject, Scalar, same_name}
 use Rattle.ref_semantics.specs.Store as S
 use Rattle.ref_semantics.specs.Meaning.{killed, kept}
-use Rattle.ref_typing.specs.Sound.{AreLocals, Sound}
-use Rattle.ref_typing.proofs.Storing.{left}
+use Rattle.ref_semantics.specs.Sound.{AreLocals, Sound}
+use Rattle.ref_semantics.proofs.Storing.{left}
 use Rattle.tac_ir.specs.declared.register.Local.{Local}
 use Rattle.tac_ir.specs.declared.register.Register.TheVariants as R
 use Rattle.tac_ir.specs.Values.{OfActivation, Value}

@@ -5,14 +5,14 @@ use Rattle.std.proofs.lemmas.Bool.{and_parts}
 use Rattle.c_typed.specs.Types.{CType, is_void, integer_type}
 use Rattle.c_typed.specs.Typed as T
 use Rattle.c_typed.specs.Typed.{Stmt, Block, SwitchItems}
-use Rattle.c_well_typed.specs.Context.{Context, with_local}
-use Rattle.c_well_typed.specs.Expressions.{given, type_of}
-use Rattle.c_well_typed.specs.Statements.{Within, in_loop, in_switch, is_expression, is_condition, if_any, is_local, is_start, with_start, is_label, is_stmt, is_block, are_items}
+use Rattle.c_typed.specs.Context.{Context, with_local}
+use Rattle.c_typed.specs.Expressions.{given, type_of}
+use Rattle.c_typed.specs.Statements.{Within, in_loop, in_switch, is_expression, is_condition, if_any, is_local, is_start, with_start, is_label, is_stmt, is_block, are_items}
 use Rattle.ref_semantics.specs.Values.{Scalar, integer_of}
 use Rattle.ref_semantics.specs.Store.{State, TypeEnvironment, Eval, ◌>>=◌, give, spend, tick}
 use Rattle.ref_semantics.specs.Meaning.{Calls, is_true, Completion, Normal, Break, Continue, Return, way_or, turns, loop, after_body, optional_value, holds, scoped, Entry, NoEntry, At, default_at, case_at, entry_or, broken_out, block_rest, do_condition, for_step, value, declare, start, bind, stmt, block, switch_from}
-use Rattle.ref_typing.proofs.Lasting.{Leads, stopped, leads_then}
-use Rattle.ref_typing.proofs.StatementsKeep.{then_leads}
+use Rattle.ref_semantics.proofs.Lasting.{Leads, stopped, leads_then}
+use Rattle.ref_semantics.proofs.StatementsKeep.{then_leads}
 
 -- ---- what an evaluation may give
 

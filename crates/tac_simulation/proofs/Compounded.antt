@@ -2,7 +2,7 @@
 use Rattle.std.proofs.Common.{◌≡◌, ℕ, ◌+◌, ◌*◌, ◌≤◌, Bool, true, false, not, ◌&&◌, if◌then◌else◌, List, [], ◌++◌, Option, Some, None, ℤ, Result, Ok, Err, refl, sym, ap, ◌∙◌, subst, arith}
 use Rattle.std.proofs.lemmas.Bool.{and_parts, true≢false}
 use Rattle.std.proofs.lemmas.List.{append-nil}
-use Rattle.text_place.specs.declared.place.Pos.{Pos}
+use Rattle.run_theory.specs.declared.place.Pos.{Pos}
 use Rattle.run_theory.specs.declared.ends.UbKind.TheVariants as Ub
 use Rattle.c_num.specs.declared.IntType.{IntType}
 use Rattle.c_num.specs.declared.ArithUb.{ArithUb}
@@ -14,10 +14,10 @@ use Rattle.c_typed.specs.Types.{CType, Integer, same_type, is_integer}
 use Rattle.c_typed.specs.Typed as T
 use Rattle.c_typed.specs.Typed.{Value, Object, Program}
 use Rattle.c_typed.proofs.Same.{same_type-true}
-use Rattle.c_well_typed.specs.Context.{Context}
-use Rattle.c_well_typed.specs.Expressions.{is_scalar, is_right, type_of, type_of_object}
-use Rattle.c_well_typed.specs.Programs.{IsWellTyped}
-use Rattle.c_well_typed.specs.Sizes.{makes, object_makes, is_storable}
+use Rattle.c_typed.specs.Context.{Context}
+use Rattle.c_typed.specs.Expressions.{is_scalar, is_right, type_of, type_of_object}
+use Rattle.c_typed.specs.Programs.{IsWellTyped}
+use Rattle.c_typed.specs.Sizes.{makes, object_makes, is_storable}
 use Rattle.ref_semantics.specs.Values as V
 use Rattle.ref_semantics.specs.Values.{Scalar, IntegerValue, NullValue, FunctionValue, PointerValue, RawPointer, LocalObject, object_place}
 use Rattle.ref_semantics.specs.Store as S
@@ -25,12 +25,12 @@ use Rattle.ref_semantics.specs.Store.{Then, Eval, ◌>>=◌, continue_with, offs
 use Rattle.ref_semantics.specs.Pointers.{read, write, loaded}
 use Rattle.ref_semantics.specs.Meaning.{Calls, value, find, arithmetic, converted, outcome_at, kind_of}
 use Rattle.ref_semantics.specs.First.{around_of}
-use Rattle.ref_typing.specs.Sound.{HasType, Sound}
-use Rattle.ref_typing.specs.Keeping.{Keeps, CallsKeep, IsElement}
-use Rattle.c_well_typed.proofs.Splitting.{first_parts}
-use Rattle.ref_typing.proofs.Storing.{read_keeps}
-use Rattle.ref_typing.proofs.Lasting.{element_lasts}
-use Rattle.ref_typing.proofs.Operating.{integer_scalar}
+use Rattle.ref_semantics.specs.Sound.{HasType, Sound}
+use Rattle.ref_semantics.specs.Keeping.{Keeps, CallsKeep, IsElement}
+use Rattle.c_typed.proofs.Splitting.{first_parts}
+use Rattle.ref_semantics.proofs.Storing.{read_keeps}
+use Rattle.ref_semantics.proofs.Lasting.{element_lasts}
+use Rattle.ref_semantics.proofs.Operating.{integer_scalar}
 use Rattle.tac_ir.specs.declared.register.Register.TheVariants as R
 use Rattle.tac_ir.specs.Code.{Op, Tac, Tree}
 use Rattle.tac_ir.specs.Code as O

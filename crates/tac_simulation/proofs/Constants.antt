@@ -4,14 +4,14 @@ use Rattle.c_num.specs.declared.IntType.{IntType}
 use Rattle.c_typed.specs.Types.{Void}
 use Rattle.c_typed.specs.Typed as T
 use Rattle.c_typed.specs.Typed.{Value, Program}
-use Rattle.c_well_typed.specs.Expressions.{is_conversion}
-use Rattle.c_well_typed.specs.Programs.{IsWellTyped}
+use Rattle.c_typed.specs.Expressions.{is_conversion}
+use Rattle.c_typed.specs.Programs.{IsWellTyped}
 use Rattle.ref_semantics.specs.Values as V
 use Rattle.ref_semantics.specs.Values.{IntegerValue, NullValue}
 use Rattle.ref_semantics.specs.Store.{give}
 use Rattle.ref_semantics.specs.Meaning.{Calls, value}
 use Rattle.ref_semantics.specs.First.{around_of}
-use Rattle.ref_typing.specs.Keeping.{CallsKeep}
+use Rattle.ref_semantics.specs.Keeping.{CallsKeep}
 use Rattle.tac_ir.specs.Code.{Op, Tac}
 use Rattle.tac_ir.specs.Code as O
 use Rattle.tac_ir.specs.Values as M

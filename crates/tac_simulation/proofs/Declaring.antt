@@ -1,26 +1,26 @@
 -- A local begins to live and gets its first value: a register is written, or an object in memory.
 use Rattle.std.proofs.Common.{◌≡◌, ℕ, ◌+◌, ◌≤◌, ◌<◌, ◌&&◌, Bool, true, false, List, [], ◌∷◌, ◌++◌, Option, Some, None, inl, refl, sym, ap, ◌∙◌, subst, arith}
 use Rattle.std.proofs.lemmas.Bool.{and_parts, true≢false}
-use Rattle.text_place.specs.declared.place.Pos.{Pos}
+use Rattle.run_theory.specs.declared.place.Pos.{Pos}
 use Rattle.c_typed.specs.Types.{CType, same_type}
 use Rattle.c_typed.specs.Layouts.{is_complete}
 use Rattle.c_typed.specs.Typed.{Value, LocalDef, Program}
 use Rattle.c_typed.proofs.Same.{same_type-true}
-use Rattle.c_well_typed.specs.Expressions.{is_scalar, type_of}
-use Rattle.c_well_typed.specs.Programs.{IsWellTyped}
-use Rattle.c_well_typed.specs.Sizes.{any_makes, is_storable}
-use Rattle.c_well_typed.specs.Statements.{is_of_type, if_any}
+use Rattle.c_typed.specs.Expressions.{is_scalar, type_of}
+use Rattle.c_typed.specs.Programs.{IsWellTyped}
+use Rattle.c_typed.specs.Sizes.{any_makes, is_storable}
+use Rattle.c_typed.specs.Statements.{is_of_type, if_any}
 use Rattle.ref_semantics.specs.Values as V
 use Rattle.ref_semantics.specs.Values.{Place, Scalar, LocalObject, object_place}
 use Rattle.ref_semantics.specs.Store as S
 use Rattle.ref_semantics.specs.Store.{Outcome, Then, Stopped, Eval, continue_with, give, offset_of}
 use Rattle.ref_semantics.specs.Meaning.{Calls, Completion, Normal, value, optional_value, stored_first}
 use Rattle.ref_semantics.specs.First.{around_of}
-use Rattle.ref_typing.specs.Sound.{HasType}
-use Rattle.ref_typing.specs.Keeping.{CallsKeep, IsElement}
-use Rattle.ref_typing.proofs.Lasting.{element_lasts}
-use Rattle.ref_typing.proofs.Storing.{new_local_keeps, write_keeps}
-use Rattle.ref_typing.proofs.StatementsKeep.{holds_for-some}
+use Rattle.ref_semantics.specs.Sound.{HasType}
+use Rattle.ref_semantics.specs.Keeping.{CallsKeep, IsElement}
+use Rattle.ref_semantics.proofs.Lasting.{element_lasts}
+use Rattle.ref_semantics.proofs.Storing.{new_local_keeps, write_keeps}
+use Rattle.ref_semantics.proofs.StatementsKeep.{holds_for-some}
 use Rattle.tac_ir.specs.declared.register.Register.TheVariants as R
 use Rattle.tac_ir.specs.Code.{Op, Tac, Operand, AtLocal, IntegerOperand, PointerOperand, LocalObject as OwnObject}
 use Rattle.tac_ir.specs.Code as O

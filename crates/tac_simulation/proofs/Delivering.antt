@@ -1,23 +1,23 @@
 -- A function that has been entered runs and hands its value back: the call gives it, or it is undefined on the reference's side.
 use Rattle.std.proofs.Common.{◌≡◌, ℕ, suc, ◌+◌, ◌≤◌, Bool, true, ◌&&◌, not, List, ◌∷◌, Option, Some, None, refl, sym, ap, ◌∙◌, subst, arith}
 use Rattle.std.proofs.lemmas.Bool.{false≢true}
-use Rattle.text_place.specs.declared.place.Pos.{Pos}
+use Rattle.run_theory.specs.declared.place.Pos.{Pos}
 use Rattle.run_theory.specs.declared.ends.UbKind.TheVariants as Ub
 use Rattle.run_theory.specs.Runs.{Leads}
 use Rattle.run_theory.proofs.Machines.{leads_compose}
 use Rattle.c_typed.specs.Types.{CType, is_void}
 use Rattle.c_typed.specs.Typed.{FunctionDef, Program}
-use Rattle.c_well_typed.specs.Programs.{IsWellTyped, function_of}
-use Rattle.c_well_typed.specs.Sizes.{HasStorableTypes}
+use Rattle.c_typed.specs.Programs.{IsWellTyped, function_of}
+use Rattle.c_typed.specs.Sizes.{HasStorableTypes}
 use Rattle.ref_semantics.specs.Values as V
 use Rattle.ref_semantics.specs.Values.{Scalar, NullValue}
 use Rattle.ref_semantics.specs.Store as S
 use Rattle.ref_semantics.specs.Store.{Outcome, Then, continue_with, give, undefined}
 use Rattle.ref_semantics.specs.Meaning.{Calls, Completion, given_back, main_value, used_value, call_named, bodies_within}
 use Rattle.ref_semantics.specs.First.{around_of}
-use Rattle.ref_typing.specs.Sound.{HaveTypes, Later}
-use Rattle.ref_typing.proofs.Lasting.{later_trans, types_last}
-use Rattle.ref_typing.proofs.ProgramsKeep.{IsFound, parameters_of, calls_keep, body_within, body_leads, function_parts, main_result}
+use Rattle.ref_semantics.specs.Sound.{HaveTypes, Later}
+use Rattle.ref_semantics.proofs.Lasting.{later_trans, types_last}
+use Rattle.ref_semantics.proofs.ProgramsKeep.{IsFound, parameters_of, calls_keep, body_within, body_leads, function_parts, main_result}
 use Rattle.tac_ir.specs.declared.register.Local.{Local}
 use Rattle.tac_ir.specs.Code.{Op, Function, Tac}
 use Rattle.tac_ir.specs.Values.{OfActivation, Value, Typed, Objects}

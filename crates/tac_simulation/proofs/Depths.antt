@@ -1,13 +1,13 @@
 -- Each call does as the reference says, however deep calls may nest: by induction on how many more may.
 use Rattle.std.proofs.Common.{◌≡◌, ℕ, zero, suc, ◌+◌, Bool, ◌&&◌, not, List, [], length, Option, Some, None, is_some, refl, sym, ap, ◌∙◌, arith}
 use Rattle.std.proofs.lemmas.Bool.{false≢true, not-false}
-use Rattle.text_place.specs.declared.place.Pos.{Pos}
+use Rattle.run_theory.specs.declared.place.Pos.{Pos}
 use Rattle.run_theory.specs.declared.ends.UbKind.TheVariants as Ub
 use Rattle.c_typed.specs.Types.{CType, CTypes, Function, same_type, is_void}
 use Rattle.c_typed.specs.Typed.{FunctionDef, Program}
 use Rattle.c_typed.proofs.Same.{same_type-true}
-use Rattle.c_well_typed.specs.Programs.{IsWellTyped}
-use Rattle.c_well_typed.specs.Sizes.{HasStorableTypes}
+use Rattle.c_typed.specs.Programs.{IsWellTyped}
+use Rattle.c_typed.specs.Sizes.{HasStorableTypes}
 use Rattle.ref_semantics.specs.Values as V
 use Rattle.ref_semantics.specs.Values.{Scalar, IntegerValue, NullValue, FunctionValue, PointerValue, RawPointer}
 use Rattle.ref_semantics.specs.Store as S
@@ -15,8 +15,8 @@ use Rattle.ref_semantics.specs.Store.{◌>>=◌, undefined}
 use Rattle.ref_semantics.specs.Meaning as Meaning
 use Rattle.ref_semantics.specs.Meaning.{used_value, function_from, Bodies, call_known, call_named, bodies_within}
 use Rattle.ref_semantics.specs.First.{around_of}
-use Rattle.ref_typing.specs.Sound.{HaveTypes}
-use Rattle.ref_typing.proofs.ProgramsKeep.{none_found}
+use Rattle.ref_semantics.specs.Sound.{HaveTypes}
+use Rattle.ref_semantics.proofs.ProgramsKeep.{none_found}
 use Rattle.tac_ir.specs.declared.register.Register.{Register}
 use Rattle.tac_ir.specs.Code.{Op, Callee, Tac}
 use Rattle.tac_ir.specs.Code as O

@@ -10,9 +10,9 @@ use Rattle.ref_semantics.specs.Values as V
 use Rattle.ref_semantics.specs.Values.{Name, LocalObject}
 use Rattle.ref_semantics.specs.Store as S
 use Rattle.ref_semantics.specs.Meaning.{Calls}
-use Rattle.ref_typing.specs.Sound.{AreLocals, Sound, Later}
-use Rattle.ref_typing.proofs.Storing.{own_later}
-use Rattle.ref_typing.proofs.Lasting.{sound_later_with, content_lasts, given_lasts}
+use Rattle.ref_semantics.specs.Sound.{AreLocals, Sound, Later}
+use Rattle.ref_semantics.proofs.Storing.{own_later}
+use Rattle.ref_semantics.proofs.Lasting.{sound_later_with, content_lasts, given_lasts}
 use Rattle.tac_ir.specs.declared.register.Local.{Local}
 use Rattle.tac_ir.specs.Code.{Op, LocalObject as OwnObject, Function, Tac}
 use Rattle.tac_ir.specs.Values.{Object, OfActivation, Value, Typed, Objects, with_content, same_local}

@@ -1,20 +1,20 @@
 -- Pointers that are compared for equality on both sides.
 use Rattle.std.proofs.Common.{◌≡◌, ◌==◌, ◌&&◌, ◌||◌, not, if◌then◌else◌, Bool, true, false, [], ◌∷◌, Some, None, List, refl, sym, ap, ◌∙◌, subst, eqb-true}
 use Rattle.std.proofs.lemmas.Bool.{false≢true, true≢false}
-use Rattle.text_place.specs.declared.place.Pos.{Pos}
+use Rattle.run_theory.specs.declared.place.Pos.{Pos}
 use Rattle.run_theory.specs.declared.ends.UbKind.TheVariants as Ub
 use Rattle.c_num.specs.declared.Relation.{Relation}
 use Rattle.c_num.specs.declared.Relation.TheVariants as R
 use Rattle.c_typed.specs.Types.{CType}
 use Rattle.c_typed.specs.Typed.{Program}
-use Rattle.c_well_typed.specs.Programs.{IsWellTyped}
+use Rattle.c_typed.specs.Programs.{IsWellTyped}
 use Rattle.ref_semantics.specs.Values.{Scalar, IntegerValue, NullValue, FunctionValue, PointerValue, RawPointer, place_of}
 use Rattle.ref_semantics.specs.Store as S
 use Rattle.ref_semantics.specs.Store.{Then, give, premise, unless, offset_of, is_dead_pointer}
 use Rattle.ref_semantics.specs.Pointers as P
 use Rattle.ref_semantics.specs.Pointers.{is_into_object, is_past, is_end_beside, is_equality, compared_pointers}
 use Rattle.ref_semantics.specs.First.{around_of}
-use Rattle.ref_typing.specs.Sound.{PointsTo, Sound}
+use Rattle.ref_semantics.specs.Sound.{PointsTo, Sound}
 use Rattle.tac_ir.specs.Trees.{truth}
 use Rattle.tac_ir.specs.Values.{Value, Objects, same_object}
 use Rattle.tac_ir.specs.Objects.{Surroundings, extent_of}
@@ -23,7 +23,7 @@ use Rattle.tac_ir.specs.Pointers.{is_alive, compared}
 use Rattle.tac_simulation.specs.Standing.{Placement, ScalarStands, MemoryStands}
 use Rattle.tac_simulation.proofs.Looking.{looked_at_alive}
 use Rattle.tac_simulation.proofs.Numbers.{same_numbers}
-use Rattle.c_well_typed.specs.Sizes.{are_filled}
+use Rattle.c_typed.specs.Sizes.{are_filled}
 use Rattle.tac_simulation.proofs.Answered.{past, gave, typed_pointer}
 use Rattle.tac_simulation.proofs.Tested.{truth_integer}
 use Rattle.tac_simulation.proofs.Into.{Into, into, alike}

@@ -7,14 +7,14 @@ use Rattle.std.specs.Prelude.{◌≡◌, ℕ, ◌+◌, ◌*◌, Bool, true, fals
 use Rattle.c_typed.specs.Types.{CType, CTypes, Void, Integer, Pointer, Array, Struct, Function, NoTypes, MoreTypes}
 use Rattle.c_typed.specs.Typed as T
 use Rattle.c_typed.specs.Typed.{Value, Object, Designator, Values, Program}
-use Rattle.c_well_typed.specs.Expressions.{is_conversion, type_of, types_of, type_of_object, type_of_designator}
-use Rattle.c_well_typed.specs.Sizes.{makes, all_make, object_makes, designator_makes, is_storable}
+use Rattle.c_typed.specs.Expressions.{is_conversion, type_of, types_of, type_of_object, type_of_designator}
+use Rattle.c_typed.specs.Sizes.{makes, all_make, object_makes, designator_makes, is_storable}
 use Rattle.ref_semantics.specs.Values as V
 use Rattle.ref_semantics.specs.Values.{Place, Scalar}
 use Rattle.ref_semantics.specs.Store as S
 use Rattle.ref_semantics.specs.Meaning.{Calls, value, values, find, address, designated}
 use Rattle.ref_semantics.specs.First.{around_of}
-use Rattle.ref_typing.specs.Sound.{Sound}
+use Rattle.ref_semantics.specs.Sound.{Sound}
 use Rattle.tac_ir.specs.declared.register.Register.{Register}
 use Rattle.tac_ir.specs.Code.{Op, Callee, Known, Through, Tac, Path}
 use Rattle.tac_ir.specs.Trees.{Registers, tree_nodes}

@@ -11,8 +11,8 @@ use Rattle.c_num.specs.declared.IntType.{IntType}
 use Rattle.c_num.specs.Types.{is_value}
 use Rattle.c_typed.specs.Typed as T
 use Rattle.c_typed.specs.Typed.{Value, Stmt, Block, SwitchItems, LocalDef, ForStart, Program}
-use Rattle.c_well_typed.specs.Statements.{Within, is_local, are_locals, is_start, is_stmt, is_block, are_items}
-use Rattle.c_well_typed.specs.Sizes.{local_makes, locals_make, start_makes, stmt_makes, block_makes, items_make, is_storable}
+use Rattle.c_typed.specs.Statements.{Within, is_local, are_locals, is_start, is_stmt, is_block, are_items}
+use Rattle.c_typed.specs.Sizes.{local_makes, locals_make, start_makes, stmt_makes, block_makes, items_make, is_storable}
 use Rattle.ref_semantics.specs.Values as V
 use Rattle.ref_semantics.specs.Values.{Scalar}
 use Rattle.ref_semantics.specs.Store as S

@@ -3,10 +3,10 @@ use Rattle.std.proofs.Common.{◌≡◌, ℕ, suc, ◌+◌, ◌*◌, ◌<◌, �
 use Rattle.std.proofs.lemmas.Bool.{cases_lt}
 use Rattle.c_typed.specs.Types.{CType}
 use Rattle.c_typed.specs.Layouts.{StructDef, layouts, offset_before}
-use Rattle.c_well_typed.specs.Programs.{are_structs}
+use Rattle.c_typed.specs.Programs.{are_structs}
 use Rattle.ref_semantics.specs.Values.{Row}
-use Rattle.ref_typing.specs.Rows.{RowOf, Whole, InArray, InStruct, IsSmall, size_in, element_offset, are_sized_structs}
-use Rattle.ref_typing.proofs.Sized.{sized_structs}
+use Rattle.ref_semantics.specs.Rows.{RowOf, Whole, InArray, InStruct, IsSmall, size_in, element_offset, are_sized_structs}
+use Rattle.ref_semantics.proofs.Sized.{sized_structs}
 use Rattle.tac_simulation.proofs.Sizes.{array_size, small_element, small_member, member_ends}
 
 module _ (structs : List StructDef) (well : are_structs structs ≡ true) (c_type : CType) (small : IsSmall structs c_type) (count : ℕ) where

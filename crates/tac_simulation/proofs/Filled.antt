@@ -6,12 +6,12 @@ use Rattle.std.proofs.lemmas.Option.{none-some, same_Some}
 use Rattle.c_typed.specs.Types.{CType, Void, Integer, Pointer, Array, Struct, Function}
 use Rattle.c_typed.specs.Layouts.{StructDef, MemberDef, Layout, greatest, layouts, members_by_tag, has_members, offset_before}
 use Rattle.c_typed.specs.Inside.{is_sized}
-use Rattle.c_well_typed.specs.Programs.{are_structs}
-use Rattle.c_well_typed.specs.Sizes.{is_filled, is_known_filled, all_filled, has_some, are_filled}
+use Rattle.c_typed.specs.Programs.{are_structs}
+use Rattle.c_typed.specs.Sizes.{is_filled, is_known_filled, all_filled, has_some, are_filled}
 use Rattle.ref_semantics.specs.Values.{Row}
-use Rattle.ref_typing.specs.Rows.{RowOf, Whole, InArray, InStruct, IsSmall, size_in, element_offset, are_sized_structs}
-use Rattle.ref_typing.proofs.Sized.{sized_structs}
-use Rattle.ref_typing.proofs.Inward.{scalar_size}
+use Rattle.ref_semantics.specs.Rows.{RowOf, Whole, InArray, InStruct, IsSmall, size_in, element_offset, are_sized_structs}
+use Rattle.ref_semantics.proofs.Sized.{sized_structs}
+use Rattle.ref_semantics.proofs.Inward.{scalar_size}
 use Rattle.tac_simulation.proofs.Growing.{IsNewest, is_newest, tag_differs, sized_layout}
 use Rattle.tac_simulation.proofs.Sizes.{array_size, small_element, small_member, member_ends}
 use Rattle.tac_simulation.proofs.Extents.{row_small, whole_end}

@@ -4,16 +4,16 @@ use Rattle.std.proofs.lemmas.Bool.{false≢true}
 use Rattle.std.proofs.lemmas.Option.{none-some, same_Some}
 use Rattle.std.proofs.lemmas.Slice.Eq.{bytes_eq-Decides}
 use Rattle.std.specs.Prelude.{bytes_eq}
-use Rattle.text_place.specs.declared.place.Pos.{Pos}
+use Rattle.run_theory.specs.declared.place.Pos.{Pos}
 use Rattle.run_theory.specs.declared.ends.UbKind.TheVariants as Ub
 use Rattle.c_typed.specs.Types.{CType, literal_type}
 use Rattle.c_typed.specs.Typed as T
 use Rattle.c_typed.specs.Typed.{Value, Object, Program}
-use Rattle.c_well_typed.specs.Context.{literal_bytes}
-use Rattle.c_well_typed.specs.Expressions.{type_of_object}
-use Rattle.c_well_typed.specs.Expressions as W
-use Rattle.c_well_typed.specs.Programs.{IsWellTyped}
-use Rattle.c_well_typed.specs.Sizes.{object_makes, is_storable}
+use Rattle.c_typed.specs.Context.{literal_bytes}
+use Rattle.c_typed.specs.Expressions.{type_of_object}
+use Rattle.c_typed.specs.Expressions as W
+use Rattle.c_typed.specs.Programs.{IsWellTyped}
+use Rattle.c_typed.specs.Sizes.{object_makes, is_storable}
 use Rattle.ref_semantics.specs.Values as V
 use Rattle.ref_semantics.specs.Values.{LocalObject, GlobalObject, LiteralObject, Place, Scalar, PointerValue, object_place, place_of, is_end}
 use Rattle.ref_semantics.specs.Store as S
@@ -21,10 +21,10 @@ use Rattle.ref_semantics.specs.Store.{Outcome, Then, Eval, Premise, premise, unl
 use Rattle.ref_semantics.specs.Meaning.{Calls, value, find, address, local_name, local_place, named}
 use Rattle.ref_semantics.specs.Pointers.{accessed}
 use Rattle.ref_semantics.specs.First.{around_of}
-use Rattle.ref_typing.specs.Keeping.{Keeps, CallsKeep, IsElement}
-use Rattle.ref_typing.proofs.Lasting.{NoneFails}
-use Rattle.c_well_typed.proofs.Splitting.{given_parts, other_parts}
-use Rattle.ref_typing.proofs.ValuesKeep.{find_keeps}
+use Rattle.ref_semantics.specs.Keeping.{Keeps, CallsKeep, IsElement}
+use Rattle.ref_semantics.proofs.Lasting.{NoneFails}
+use Rattle.c_typed.proofs.Splitting.{given_parts, other_parts}
+use Rattle.ref_semantics.proofs.ValuesKeep.{find_keeps}
 use Rattle.tac_ir.specs.Code.{Op, Tac, Path, AtLocal, AtGlobal, AtLiteral, Member}
 use Rattle.tac_ir.specs.Code as O
 use Rattle.tac_ir.specs.declared.register.Local.{Local}

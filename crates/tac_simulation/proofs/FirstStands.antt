@@ -4,7 +4,7 @@ use Rattle.std.proofs.lemmas.Bool.{false≢true, and_parts, ltb-true}
 use Rattle.std.proofs.lemmas.Option.{none-some, same_Some}
 use Rattle.std.proofs.lemmas.Nat.{mod-mul-add}
 use Rattle.std.proofs.lemmas.Slice.Eq.{bytes_eq-Decides}
-use Rattle.text_place.specs.declared.place.Pos.{Pos}
+use Rattle.run_theory.specs.declared.place.Pos.{Pos}
 use Rattle.c_num.specs.declared.IntType.TheVariants as I
 use Rattle.c_num.specs.Conversion.{convert_to}
 use Rattle.c_typed.specs.declared.part.Part.{Part}
@@ -13,19 +13,19 @@ use Rattle.c_typed.specs.Layouts.{StructDef, is_complete}
 use Rattle.c_typed.specs.Places.{is_same_place}
 use Rattle.c_typed.specs.Values as first
 use Rattle.c_typed.specs.Typed.{GlobalDef, LiteralDef, FunctionDef, Program}
-use Rattle.c_well_typed.specs.Context.{global_type, function_type, literal_bytes}
-use Rattle.c_well_typed.specs.Expressions.{given, is_scalar}
-use Rattle.c_well_typed.specs.Programs.{IsWellTyped, RowType, one_of, row_at, is_place, is_first, is_held, all_held, is_global, are_globals}
-use Rattle.c_well_typed.specs.Programs as rules
+use Rattle.c_typed.specs.Context.{global_type, function_type, literal_bytes}
+use Rattle.c_typed.specs.Expressions.{given, is_scalar}
+use Rattle.c_typed.specs.Programs.{IsWellTyped, RowType, one_of, row_at, is_place, is_first, is_held, all_held, is_global, are_globals}
+use Rattle.c_typed.specs.Programs as rules
 use Rattle.ref_semantics.specs.Values as V
 use Rattle.ref_semantics.specs.Values.{Name, Heap, GlobalObject, LiteralObject, LocalObject, Scalar, IntegerValue, NullValue, FunctionValue, PointerValue, object_place}
 use Rattle.ref_semantics.specs.Store as S
 use Rattle.ref_semantics.specs.Store.{scalar_or, offset_of}
 use Rattle.ref_semantics.specs.First as R
 use Rattle.ref_semantics.specs.First.{around_of, type_of_global, literal_at, name_of, walked, first_place, first_scalar, first_state}
-use Rattle.ref_typing.proofs.Beginning.{if_some}
-use Rattle.ref_typing.proofs.Objects.{same_place-true}
-use Rattle.ref_typing.proofs.WellTyped.{well_globals}
+use Rattle.ref_semantics.proofs.Beginning.{if_some}
+use Rattle.ref_semantics.proofs.Objects.{same_place-true}
+use Rattle.ref_semantics.proofs.WellTyped.{well_globals}
 use Rattle.tac_ir.specs.Values.{Object, OfHeap, OfGlobal, OfLiteral, OfActivation, Number, NoAddress, Address, Content, Typed, Objects}
 use Rattle.tac_ir.specs.Values as T
 use Rattle.tac_ir.specs.Layouts.{leaf_at, size_of}

@@ -3,10 +3,10 @@ use Rattle.std.proofs.Common.{◌≡◌, true, sym, ap, subst, refl}
 use Rattle.std.proofs.lemmas.Bool.{false≢true}
 use Rattle.c_typed.specs.Types.{CType, Void, Integer, Pointer, Array, Struct, Function}
 use Rattle.c_typed.specs.Typed.{Program}
-use Rattle.c_well_typed.specs.Expressions.{is_scalar}
+use Rattle.c_typed.specs.Expressions.{is_scalar}
 use Rattle.ref_semantics.specs.Values.{Scalar, IntegerValue, NullValue, FunctionValue, PointerValue, RawPointer}
 use Rattle.ref_semantics.specs.Store as S
-use Rattle.ref_typing.specs.Sound.{HasType}
+use Rattle.ref_semantics.specs.Sound.{HasType}
 use Rattle.tac_ir.specs.Values.{Value, Number, NoAddress, Code, Address}
 use Rattle.tac_ir.specs.Objects.{fits}
 use Rattle.tac_simulation.specs.Standing.{Placement, IsAddress, ScalarStands}

@@ -2,14 +2,14 @@
 use Rattle.std.proofs.Common.{◌≡◌, ℕ, true, List, Option}
 use Rattle.c_typed.specs.Typed as T
 use Rattle.c_typed.specs.Typed.{Value, Object, Designator, Values, Program}
-use Rattle.c_well_typed.specs.Programs.{IsWellTyped}
+use Rattle.c_typed.specs.Programs.{IsWellTyped}
 use Rattle.ref_semantics.specs.Values as V
 use Rattle.ref_semantics.specs.Meaning.{Calls}
-use Rattle.ref_typing.specs.Keeping.{CallsKeep}
+use Rattle.ref_semantics.specs.Keeping.{CallsKeep}
 use Rattle.tac_ir.specs.Code.{Op, Tac}
 use Rattle.tac_build.specs.Homes.{Scope}
 use Rattle.tac_simulation.specs.Standing.{Placement, Frame}
-use Rattle.c_well_typed.specs.Sizes.{are_filled}
+use Rattle.c_typed.specs.Sizes.{are_filled}
 use Rattle.tac_simulation.proofs.Spotting.{Runs}
 use Rattle.tac_simulation.proofs.Evaluating.{ValueDoes, FindDoes, AddressDoes, ArgumentsDo}
 use Rattle.tac_simulation.proofs.Calling

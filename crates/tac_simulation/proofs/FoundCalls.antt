@@ -1,11 +1,11 @@
 -- A call of a function that a name finds: at the greatest depth both end, and else the function is entered, runs and hands its value back.
 use Rattle.std.proofs.Common.{◌≡◌, ℕ, suc, ◌+◌, ◌*◌, ◌≤◌, ◌<◌, Bool, true, ◌&&◌, not, List, [], ◌∷◌, length, Option, Some, refl, sym, ap, ◌∙◌, subst, arith}
 use Rattle.std.specs.Prelude.{slice_get}
-use Rattle.text_place.specs.declared.place.Pos.{Pos}
+use Rattle.run_theory.specs.declared.place.Pos.{Pos}
 use Rattle.c_typed.specs.Types.{CType, CTypes, Void, Integer, Pointer, Array, Struct, Function, is_void}
 use Rattle.c_typed.specs.Typed.{FunctionDef, Program}
-use Rattle.c_well_typed.specs.Programs.{IsWellTyped, function_of}
-use Rattle.c_well_typed.specs.Sizes.{HasStorableTypes}
+use Rattle.c_typed.specs.Programs.{IsWellTyped, function_of}
+use Rattle.c_typed.specs.Sizes.{HasStorableTypes}
 use Rattle.ref_semantics.specs.Values as V
 use Rattle.ref_semantics.specs.Values.{Scalar}
 use Rattle.ref_semantics.specs.Store as S
@@ -13,9 +13,9 @@ use Rattle.ref_semantics.specs.Store.{continue_with, tick}
 use Rattle.ref_semantics.specs.Meaning as Meaning
 use Rattle.ref_semantics.specs.Meaning.{Calls, bind, used_value, function_from, call_named, bodies_within}
 use Rattle.ref_semantics.specs.First.{around_of}
-use Rattle.ref_typing.specs.Sound.{HaveTypes}
-use Rattle.ref_typing.proofs.WellTyped.{well_functions}
-use Rattle.ref_typing.proofs.ProgramsKeep.{IsFound, found_is, functions_small, parameters_of, calls_keep, body_within, function_parts}
+use Rattle.ref_semantics.specs.Sound.{HaveTypes}
+use Rattle.ref_semantics.proofs.WellTyped.{well_functions}
+use Rattle.ref_semantics.proofs.ProgramsKeep.{IsFound, found_is, functions_small, parameters_of, calls_keep, body_within, function_parts}
 use Rattle.tac_ir.specs.declared.register.Register.{Register}
 use Rattle.tac_ir.specs.Code.{Op, Callee, Known, Through, Tac}
 use Rattle.tac_ir.specs.Code as O
@@ -25,7 +25,7 @@ use Rattle.tac_build.specs.Homes.{Scope}
 use Rattle.tac_build.specs.Code.{HasOp}
 use Rattle.tac_build.specs.ProgramCode.{Code}
 use Rattle.tac_build.specs.Forms.{CalleeForm}
-use Rattle.c_well_typed.specs.Statements.{is_block}
+use Rattle.c_typed.specs.Statements.{is_block}
 use Rattle.tac_simulation.specs.Comparing.{ticks_per_unit}
 use Rattle.tac_simulation.specs.Standing.{Placement, Frame, surroundings}
 use Rattle.tac_simulation.specs.Entered.{entered, hidden_within}

@@ -2,7 +2,7 @@
 use Rattle.std.proofs.Common.{◌≡◌, ℕ, ◌==◌, ◌||◌, not, true, false, List, [], ◌∷◌, ◌++◌, append-nil, refl, sym, ap, ◌∙◌, subst, eqb-true}
 use Rattle.std.proofs.lemmas.Bool.{false≢true, not-false}
 use Rattle.std.proofs.lemmas.Option.{same_Some}
-use Rattle.text_place.specs.declared.place.Pos.{Pos}
+use Rattle.run_theory.specs.declared.place.Pos.{Pos}
 use Rattle.run_theory.specs.declared.ends.UbKind.TheVariants as Ub
 use Rattle.run_theory.specs.Runs.{Freed}
 use Rattle.c_typed.specs.Types.{CType}
@@ -14,7 +14,7 @@ use Rattle.ref_semantics.specs.Store.{Then, give, offset_of, is_dead}
 use Rattle.ref_semantics.specs.Pointers.{access}
 use Rattle.ref_semantics.specs.Library.{is_heap, freed}
 use Rattle.ref_semantics.specs.First.{around_of}
-use Rattle.ref_typing.specs.Sound.{PointsTo}
+use Rattle.ref_semantics.specs.Sound.{PointsTo}
 use Rattle.tac_ir.specs.Values.{OfHeap, Value, NoAddress, Address, Absent, Objects, with_content}
 use Rattle.tac_ir.specs.Events.{TacEvent, Released, seen}
 use Rattle.tac_ir.specs.Objects.{is_there}

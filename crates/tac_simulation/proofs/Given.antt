@@ -3,12 +3,12 @@ use Rattle.std.proofs.Common.{◌≡◌, ℕ, ◌<◌, true, false, Option, Some
 use Rattle.std.proofs.lemmas.Bool.{false≢true}
 use Rattle.c_typed.specs.Types.{CType, Void, Integer, Pointer, Array, Struct, Function}
 use Rattle.c_typed.specs.Typed.{Program}
-use Rattle.c_well_typed.specs.Expressions.{is_scalar}
+use Rattle.c_typed.specs.Expressions.{is_scalar}
 use Rattle.ref_semantics.specs.Values as V
 use Rattle.ref_semantics.specs.Values.{Name, Heap, Place, Scalar, IntegerValue, NullValue, FunctionValue, PointerValue, RawPointer}
 use Rattle.ref_semantics.specs.Store as S
 use Rattle.ref_semantics.specs.Store.{scalar_or, cleared}
-use Rattle.ref_typing.specs.Sound.{WasGiven, HasType, PointsTo, IsSoundContent}
+use Rattle.ref_semantics.specs.Sound.{WasGiven, HasType, PointsTo, IsSoundContent}
 use Rattle.tac_ir.specs.Values.{Object, Value, Content}
 use Rattle.tac_simulation.specs.Standing.{Placement, image, WhereAlive, PlaceStands, ScalarStands, HoldsFor, ContentStands, IsAlive}
 use Rattle.tac_simulation.proofs.Alive.{where_alive}

@@ -7,10 +7,10 @@ use Rattle.std.proofs.lemmas.Slice.Eq.{bytes_eq-Decides}
 use Rattle.c_typed.specs.Types.{CType, Void, Integer, Pointer, Array, Struct, Function}
 use Rattle.c_typed.specs.Layouts.{StructDef, MemberDef, Layout, saturated, aligned, no_layout, known_layout, member_layout, behind, members_layout, layouts, layout_of, members_by_tag, has_members, offset_before}
 use Rattle.c_typed.specs.Inside.{is_sized, is_known_sized, are_sized}
-use Rattle.c_well_typed.specs.Programs.{are_structs, are_members}
-use Rattle.ref_typing.specs.Rows.{are_sized_structs}
-use Rattle.ref_typing.proofs.Stays.{made_of}
-use Rattle.ref_typing.proofs.Inward.{Within, Itself, InElement, InMember}
+use Rattle.c_typed.specs.Programs.{are_structs, are_members}
+use Rattle.ref_semantics.specs.Rows.{are_sized_structs}
+use Rattle.ref_semantics.proofs.Stays.{made_of}
+use Rattle.ref_semantics.proofs.Inward.{Within, Itself, InElement, InMember}
 use Rattle.tac_ir.specs.Layouts.{in_elements, leaves_in, leaves_from, first_leaf, leaves_of_members, leaves_by_tag}
 
 pub sized_parts : (a b : Bool) → cond a b false ≡ true → (a ≡ true) × (b ≡ true)

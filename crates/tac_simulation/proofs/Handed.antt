@@ -7,7 +7,7 @@ use Rattle.ref_semantics.specs.Values as V
 use Rattle.ref_semantics.specs.Values.{Name, Scalar}
 use Rattle.ref_semantics.specs.Store as S
 use Rattle.ref_semantics.specs.Meaning.{Calls}
-use Rattle.ref_typing.specs.Sound.{WasGiven, MayBecome}
+use Rattle.ref_semantics.specs.Sound.{WasGiven, MayBecome}
 use Rattle.tac_ir.specs.declared.register.Local.{Local}
 use Rattle.tac_ir.specs.Code.{Op, Function, Tac}
 use Rattle.tac_ir.specs.Code as O

@@ -6,14 +6,14 @@ use Rattle.std.proofs.lemmas.Bool.{cond-false}
 use Rattle.run_theory.specs.Runs.{Called}
 use Rattle.c_typed.specs.Types.{CType}
 use Rattle.c_typed.specs.Typed.{Block, Program}
-use Rattle.c_well_typed.specs.Programs.{IsWellTyped, are_scalars, function_of}
+use Rattle.c_typed.specs.Programs.{IsWellTyped, are_scalars, function_of}
 use Rattle.ref_semantics.specs.Values as V
 use Rattle.ref_semantics.specs.Values.{Scalar}
 use Rattle.ref_semantics.specs.Store as S
 use Rattle.ref_semantics.specs.Meaning.{Calls, bind}
 use Rattle.ref_semantics.specs.First.{around_of}
-use Rattle.ref_typing.specs.Sound.{HaveTypes}
-use Rattle.ref_typing.proofs.Lasting.{types_last}
+use Rattle.ref_semantics.specs.Sound.{HaveTypes}
+use Rattle.ref_semantics.proofs.Lasting.{types_last}
 use Rattle.tac_ir.specs.declared.register.Local.TheVariants as L
 use Rattle.tac_ir.specs.declared.register.Register.{Register}
 use Rattle.tac_ir.specs.declared.register.Register.TheVariants as R

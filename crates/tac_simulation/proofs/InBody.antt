@@ -2,7 +2,7 @@
 use Rattle.std.proofs.Common.{◌≡◌, ℕ, ◌+◌, ◌*◌, ◌<◌, true, List, [], ◌∷◌, Option, sym, subst, arith}
 use Rattle.std.proofs.lemmas.Option.{same_Some}
 use Rattle.c_typed.specs.Typed.{FunctionDef, Program}
-use Rattle.c_well_typed.specs.Programs.{IsWellTyped, are_scalars, function_of}
+use Rattle.c_typed.specs.Programs.{IsWellTyped, are_scalars, function_of}
 use Rattle.ref_semantics.specs.Values as V
 use Rattle.ref_semantics.specs.Values.{Scalar}
 use Rattle.ref_semantics.specs.Store as S
@@ -10,7 +10,7 @@ use Rattle.ref_semantics.specs.Store.{continue_with, tick}
 use Rattle.ref_semantics.specs.Meaning as Meaning
 use Rattle.ref_semantics.specs.Meaning.{Calls, bind}
 use Rattle.ref_semantics.specs.First.{around_of}
-use Rattle.ref_typing.specs.Sound.{HaveTypes}
+use Rattle.ref_semantics.specs.Sound.{HaveTypes}
 use Rattle.tac_ir.specs.Code.{Op, Function, Tac}
 use Rattle.tac_ir.specs.Values.{Value}
 use Rattle.tac_ir.specs.States.{State}

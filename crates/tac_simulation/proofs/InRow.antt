@@ -2,7 +2,7 @@
 use Rattle.std.proofs.Common.{◌≡◌, ℕ, ◌+◌, ◌*◌, ◌≤◌, ◌==◌, nat_lt, lt-ltb, arith, ◌&&◌, ◌||◌, not, if◌then◌else◌, Bool, true, false, List, [], ◌∷◌, Some, None, ℤ, pos, ◌-ℤ◌, int_div, refl, sym, ap, ◌∙◌, subst, eqb-true}
 use Rattle.std.proofs.lemmas.Bool.{false≢true, true≢false, and_parts, and_from, not-false}
 use Rattle.std.proofs.lemmas.Option.{same_Some}
-use Rattle.text_place.specs.declared.place.Pos.{Pos}
+use Rattle.run_theory.specs.declared.place.Pos.{Pos}
 use Rattle.run_theory.specs.declared.ends.UbKind.TheVariants as Ub
 use Rattle.c_num.specs.declared.Relation.{Relation}
 use Rattle.c_num.specs.declared.Relation.TheVariants as R
@@ -13,7 +13,7 @@ use Rattle.c_typed.specs.Types.{CType, same_type}
 use Rattle.c_typed.specs.Layouts.{is_complete}
 use Rattle.c_typed.specs.Typed.{Program}
 use Rattle.c_typed.proofs.Same.{same_type-true}
-use Rattle.c_well_typed.specs.Programs.{IsWellTyped}
+use Rattle.c_typed.specs.Programs.{IsWellTyped}
 use Rattle.ref_semantics.specs.Values as V
 use Rattle.ref_semantics.specs.Values.{Heap, Place, Scalar, IntegerValue, NullValue, FunctionValue, PointerValue, RawPointer, same_name, same_row, whole_row, first_of_row}
 use Rattle.ref_semantics.specs.Store as S
@@ -21,10 +21,10 @@ use Rattle.ref_semantics.specs.Store.{Then, give, premise, unless, offset_of, is
 use Rattle.ref_semantics.specs.Pointers as P
 use Rattle.ref_semantics.specs.Pointers.{is_equality, are_in_one_row, is_one_row, as_typed, to_first, index_of, compared_pointers, difference}
 use Rattle.ref_semantics.specs.First.{around_of}
-use Rattle.ref_typing.specs.Rows.{size_in}
-use Rattle.ref_typing.specs.Sound.{PointsTo, Sound, IsSoundContent}
-use Rattle.ref_typing.proofs.Objects.{same_name-true}
-use Rattle.ref_typing.proofs.WellTyped.{well_structs, complete_known}
+use Rattle.ref_semantics.specs.Rows.{size_in}
+use Rattle.ref_semantics.specs.Sound.{PointsTo, Sound, IsSoundContent}
+use Rattle.ref_semantics.proofs.Objects.{same_name-true}
+use Rattle.ref_semantics.proofs.WellTyped.{well_structs, complete_known}
 use Rattle.tac_ir.specs.Values.{Object, OfHeap, Value, Number, Address, Objects, same_object}
 use Rattle.tac_ir.specs.Objects.{Surroundings, is_there}
 use Rattle.tac_ir.specs.Pointers as C
@@ -33,7 +33,7 @@ use Rattle.tac_simulation.specs.Standing.{Placement, image, ScalarStands, Memory
 use Rattle.tac_simulation.proofs.Memory.{same_object-refl}
 use Rattle.tac_simulation.proofs.Looking.{looked_at_alive, living_raw}
 use Rattle.tac_simulation.proofs.Placing.{placed}
-use Rattle.c_well_typed.specs.Sizes.{are_filled}
+use Rattle.c_typed.specs.Sizes.{are_filled}
 use Rattle.tac_simulation.proofs.Filled.{size_positive}
 use Rattle.tac_simulation.proofs.Answered.{past, gave, typed_pointer}
 use Rattle.tac_simulation.proofs.Tested.{truth_integer}

@@ -2,16 +2,16 @@
 use Rattle.std.proofs.Common.{◌≡◌, ℕ, ◌+◌, ◌*◌, ◌≤◌, ◌<◌, Bool, true, false, not, ◌||◌, nat_lt, List, [], ◌∷◌, Option, Some, None, ℤ, pos, negsuc, ◌+ℤ◌, ◌*ℤ◌, refl, sym, ap, ◌∙◌, subst, le_of_lt, arith}
 use Rattle.std.proofs.lemmas.Bool.{true≢false, and_parts, or_parts, not-false, ltb-true}
 use Rattle.std.proofs.Math.IntN.{+ℤ_idl}
-use Rattle.text_place.specs.declared.place.Pos.{Pos}
+use Rattle.run_theory.specs.declared.place.Pos.{Pos}
 use Rattle.run_theory.specs.declared.ends.UbKind.TheVariants as Ub
 use Rattle.c_num.specs.declared.IntType.{IntType}
 use Rattle.c_typed.specs.Types.{CType, Void, Integer, Pointer, Array, Struct, Function}
 use Rattle.c_typed.specs.Layouts.{is_complete}
 use Rattle.c_typed.specs.Typed as T
 use Rattle.c_typed.specs.Typed.{Value, Program}
-use Rattle.c_well_typed.specs.Expressions.{type_of, element}
-use Rattle.c_well_typed.specs.Programs.{IsWellTyped}
-use Rattle.c_well_typed.specs.Sizes.{makes, is_storable}
+use Rattle.c_typed.specs.Expressions.{type_of, element}
+use Rattle.c_typed.specs.Programs.{IsWellTyped}
+use Rattle.c_typed.specs.Sizes.{makes, is_storable}
 use Rattle.ref_semantics.specs.Values as V
 use Rattle.ref_semantics.specs.Values.{Place, Scalar, PointerValue, IntegerValue, place_of, at_index, integer_of}
 use Rattle.ref_semantics.specs.Store as S
@@ -20,10 +20,10 @@ use Rattle.ref_semantics.specs.Meaning.{Calls, value}
 use Rattle.ref_semantics.specs.Pointers as P
 use Rattle.ref_semantics.specs.Pointers.{index_moved, is_negative, is_at_least, or_zero}
 use Rattle.ref_semantics.specs.First.{around_of}
-use Rattle.ref_typing.specs.Sound.{HasType, Later}
-use Rattle.ref_typing.specs.Keeping.{CallsKeep}
-use Rattle.ref_typing.proofs.Lasting.{type_lasts}
-use Rattle.c_well_typed.proofs.Splitting.{two_parts, element_parts}
+use Rattle.ref_semantics.specs.Sound.{HasType, Later}
+use Rattle.ref_semantics.specs.Keeping.{CallsKeep}
+use Rattle.ref_semantics.proofs.Lasting.{type_lasts}
+use Rattle.c_typed.proofs.Splitting.{two_parts, element_parts}
 use Rattle.tac_ir.specs.declared.register.Register.{Register}
 use Rattle.tac_ir.specs.Code.{Op, Tac, Tree, Path, Held, Indexed, Element}
 use Rattle.tac_ir.specs.Values.{Address}

@@ -1,7 +1,7 @@
 -- The code of conversions and of operators on integers.
 use Rattle.std.proofs.Common.{◌≡◌, ℕ, suc, ◌+◌, ◌*◌, ◌≤◌, Bool, true, false, not, ◌&&◌, if◌then◌else◌, List, Option, Some, ℤ, pos, neg_ℤ, ◌-ℤ◌, Result, Ok, Err, refl, sym, ap, ◌∙◌, subst, arith}
 use Rattle.std.proofs.lemmas.Bool.{and_parts, false≢true}
-use Rattle.text_place.specs.declared.place.Pos.{Pos}
+use Rattle.run_theory.specs.declared.place.Pos.{Pos}
 use Rattle.c_num.specs.declared.IntType.{IntType}
 use Rattle.c_num.specs.declared.IntType.TheVariants as I
 use Rattle.c_num.specs.declared.ArithUb.{ArithUb}
@@ -14,10 +14,10 @@ use Rattle.c_typed.specs.Types.{CType, Void, Integer, int, same_type, is_integer
 use Rattle.c_typed.specs.Typed as T
 use Rattle.c_typed.specs.Typed.{Value, Program}
 use Rattle.c_typed.proofs.Same.{same_type-true}
-use Rattle.c_well_typed.specs.Context.{Context}
-use Rattle.c_well_typed.specs.Expressions.{is_conversion, is_scalar, type_of}
-use Rattle.c_well_typed.specs.Programs.{IsWellTyped}
-use Rattle.c_well_typed.specs.Sizes.{makes, is_storable}
+use Rattle.c_typed.specs.Context.{Context}
+use Rattle.c_typed.specs.Expressions.{is_conversion, is_scalar, type_of}
+use Rattle.c_typed.specs.Programs.{IsWellTyped}
+use Rattle.c_typed.specs.Sizes.{makes, is_storable}
 use Rattle.ref_semantics.specs.Values as V
 use Rattle.ref_semantics.specs.Values.{Scalar, IntegerValue, integer_of}
 use Rattle.ref_semantics.specs.Store as S
@@ -25,9 +25,9 @@ use Rattle.ref_semantics.specs.Store.{Eval, ◌>>=◌, continue_with, give}
 use Rattle.ref_semantics.specs.Pointers as P
 use Rattle.ref_semantics.specs.Meaning.{Calls, value, is_true, converted, arithmetic, outcome_at, kind_of}
 use Rattle.ref_semantics.specs.First.{around_of}
-use Rattle.ref_typing.specs.Sound.{HasType, Sound}
-use Rattle.ref_typing.specs.Keeping.{CallsKeep}
-use Rattle.c_well_typed.proofs.Splitting.{given_parts, same_parts, other_parts}
+use Rattle.ref_semantics.specs.Sound.{HasType, Sound}
+use Rattle.ref_semantics.specs.Keeping.{CallsKeep}
+use Rattle.c_typed.proofs.Splitting.{given_parts, same_parts, other_parts}
 use Rattle.tac_ir.specs.Code.{Op, Tac, Tree}
 use Rattle.tac_ir.specs.Code as O
 use Rattle.tac_ir.specs.States.{State}

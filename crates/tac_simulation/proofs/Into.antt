@@ -5,18 +5,18 @@ use Rattle.std.proofs.lemmas.Option.{same_Some}
 use Rattle.c_typed.specs.Types.{CType}
 use Rattle.c_typed.specs.Layouts.{StructDef}
 use Rattle.c_typed.specs.Typed.{Program}
-use Rattle.c_well_typed.specs.Context.{Context}
-use Rattle.c_well_typed.specs.Programs.{IsWellTyped, are_structs}
+use Rattle.c_typed.specs.Context.{Context}
+use Rattle.c_typed.specs.Programs.{IsWellTyped, are_structs}
 use Rattle.ref_semantics.specs.Values as V
 use Rattle.ref_semantics.specs.Values.{Name, Heap, Row, Place, Scalar, IntegerValue, NullValue, FunctionValue, PointerValue, RawPointer, place_of, same_name, is_end}
 use Rattle.ref_semantics.specs.Store as S
 use Rattle.ref_semantics.specs.Store.{offset_of, is_dead_pointer}
 use Rattle.ref_semantics.specs.Pointers.{is_into_object, is_past}
 use Rattle.ref_semantics.specs.First.{around_of}
-use Rattle.ref_typing.specs.Rows.{RowOf, Whole, InArray, InStruct, IsSmall, size_in}
-use Rattle.ref_typing.specs.Sound.{PointsTo, Sound, IsSoundContent}
-use Rattle.ref_typing.proofs.Objects.{same_name-true}
-use Rattle.ref_typing.proofs.WellTyped.{well_structs}
+use Rattle.ref_semantics.specs.Rows.{RowOf, Whole, InArray, InStruct, IsSmall, size_in}
+use Rattle.ref_semantics.specs.Sound.{PointsTo, Sound, IsSoundContent}
+use Rattle.ref_semantics.proofs.Objects.{same_name-true}
+use Rattle.ref_semantics.proofs.WellTyped.{well_structs}
 use Rattle.tac_ir.specs.Values.{Object, OfHeap, same_object, Value, Address, Content, Objects}
 use Rattle.tac_ir.specs.Objects.{extent_of, is_there}
 use Rattle.tac_simulation.specs.Standing.{Placement, image, ScalarStands, ContentStands, IsAlive, MemoryStands}
@@ -24,7 +24,7 @@ use Rattle.tac_simulation.proofs.Memory.{same_object-true, same_object-refl, sam
 use Rattle.tac_simulation.proofs.Looking.{not_dead, living_raw}
 use Rattle.tac_simulation.proofs.Placing.{TypedBoth, placed}
 use Rattle.tac_simulation.proofs.Extents.{row_small}
-use Rattle.c_well_typed.specs.Sizes.{is_filled, are_filled}
+use Rattle.c_typed.specs.Sizes.{is_filled, are_filled}
 use Rattle.tac_simulation.proofs.Filled.{size_positive, row_filled, filled_end}
 
 -- ---- objects with a byte at least

@@ -3,11 +3,11 @@
 use Rattle.std.proofs.Common.{◌≡◌, true, Option, refl, ◌∙◌, subst}
 use Rattle.c_typed.specs.Types.{CType, Pointer}
 use Rattle.c_typed.specs.Typed.{Program}
-use Rattle.c_well_typed.specs.Expressions.{is_scalar}
+use Rattle.c_typed.specs.Expressions.{is_scalar}
 use Rattle.ref_semantics.specs.Values as V
 use Rattle.ref_semantics.specs.Values.{Name, Scalar}
 use Rattle.ref_semantics.specs.Store as S
-use Rattle.ref_typing.specs.Sound.{WasGiven, HasType, PointsTo, Later, MayBecome}
+use Rattle.ref_semantics.specs.Sound.{WasGiven, HasType, PointsTo, Later, MayBecome}
 use Rattle.tac_ir.specs.declared.program.Counts.{Counts}
 use Rattle.tac_ir.specs.declared.register.Register.{Register}
 use Rattle.tac_ir.specs.Values.{Value}

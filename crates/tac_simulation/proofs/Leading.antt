@@ -1,17 +1,17 @@
 -- Where paths lead, and where names do.
 use Rattle.std.proofs.Common.{◌≡◌, ℕ, suc, ◌+◌, ◌*◌, ◌==◌, Bool, true, false, if◌then◌else◌, List, [], ◌∷◌, ◌++◌, length, slice_get, bytes_eq, Option, Some, None, pos, ◌*ℤ◌, refl, sym, ap, ◌∙◌, subst, arith}
 use Rattle.std.proofs.lemmas.Option.{none-some, same_Some}
-use Rattle.text_place.specs.declared.place.Pos.{Pos}
+use Rattle.run_theory.specs.declared.place.Pos.{Pos}
 use Rattle.c_typed.specs.Places.{is_same_place}
 use Rattle.c_typed.specs.Types.{CType}
 use Rattle.c_typed.specs.Typed.{Program, GlobalDef, LiteralDef}
-use Rattle.c_well_typed.specs.Context.{literal_bytes}
+use Rattle.c_typed.specs.Context.{literal_bytes}
 use Rattle.ref_semantics.specs.Values as V
 use Rattle.ref_semantics.specs.Values.{Name, LocalObject, Scalar, object_place}
 use Rattle.ref_semantics.specs.Store as S
 use Rattle.ref_semantics.specs.Store.{Then}
 use Rattle.ref_semantics.specs.Meaning.{local_name, named, local_place}
-use Rattle.ref_typing.specs.Sound.{AreLocals}
+use Rattle.ref_semantics.specs.Sound.{AreLocals}
 use Rattle.tac_ir.specs.Layouts.{Inner, within}
 use Rattle.tac_ir.specs.Trees.{Registers}
 use Rattle.tac_ir.specs.Values.{Object}

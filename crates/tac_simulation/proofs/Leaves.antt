@@ -7,14 +7,14 @@ use Rattle.std.proofs.lemmas.Nat.{div-add-mod', div_below, mod-mul-add}
 use Rattle.c_typed.specs.Types.{CType, Void, Integer, Pointer, Array, Struct, Function}
 use Rattle.c_typed.specs.Layouts.{StructDef, MemberDef, Layout, Table, saturated, aligned, no_layout, layout_in, member_layout, behind, members_layout, layouts, members_by_tag, offset_before}
 use Rattle.c_typed.specs.Inside.{is_known_sized}
-use Rattle.c_well_typed.specs.Expressions.{is_scalar}
-use Rattle.c_well_typed.specs.Programs.{are_structs}
+use Rattle.c_typed.specs.Expressions.{is_scalar}
+use Rattle.c_typed.specs.Programs.{are_structs}
 use Rattle.ref_semantics.specs.Values.{Row, whole_row}
-use Rattle.ref_typing.specs.Rows.{RowOf, Whole, InArray, InStruct, LeafAt, IsSmall, size_in, element_offset, are_sized_structs}
-use Rattle.ref_typing.proofs.Arithmetic.{element_ends}
-use Rattle.ref_typing.proofs.Sized.{sized_structs}
-use Rattle.ref_typing.proofs.Inward.{Within, Itself, InElement, InMember, InObject, from_leaf, scalar_size, within_size}
-use Rattle.ref_typing.proofs.Leaves.{leaf_type}
+use Rattle.ref_semantics.specs.Rows.{RowOf, Whole, InArray, InStruct, LeafAt, IsSmall, size_in, element_offset, are_sized_structs}
+use Rattle.ref_semantics.proofs.Arithmetic.{element_ends}
+use Rattle.ref_semantics.proofs.Sized.{sized_structs}
+use Rattle.ref_semantics.proofs.Inward.{Within, Itself, InElement, InMember, InObject, from_leaf, scalar_size, within_size}
+use Rattle.ref_semantics.proofs.Leaves.{leaf_type}
 use Rattle.tac_ir.specs.Layouts.{Leaves, in_elements, leaves_in, leaves_from, first_leaf, leaves_of_members, leaves_by_tag, leaf_at}
 use Rattle.tac_simulation.proofs.Growing.{IsNewest, is_newest, sized_member, struct_sized, offset_stays, within_stays, tag_leaves}
 use Rattle.tac_simulation.proofs.Sizes.{small_element, small_member}

@@ -1,14 +1,14 @@
 -- What is shown where a scope is left: wherever the code goes on, the outer locals stand as they did.
 use Rattle.std.proofs.Common.{◌≡◌, ℕ, ◌++◌, List, length, Option, Some, None, sym, subst}
 use Rattle.c_typed.specs.Typed.{Value, Program}
-use Rattle.c_well_typed.specs.Programs.{IsWellTyped}
+use Rattle.c_typed.specs.Programs.{IsWellTyped}
 use Rattle.ref_semantics.specs.Values as V
 use Rattle.ref_semantics.specs.Values.{Scalar}
 use Rattle.ref_semantics.specs.Store as S
 use Rattle.ref_semantics.specs.Meaning.{Calls, Completion, Normal, Break, Continue, Return}
-use Rattle.ref_typing.specs.Sound.{Sound}
-use Rattle.ref_typing.specs.Keeping.{CallsKeep}
-use Rattle.ref_typing.proofs.Storing.{left}
+use Rattle.ref_semantics.specs.Sound.{Sound}
+use Rattle.ref_semantics.specs.Keeping.{CallsKeep}
+use Rattle.ref_semantics.proofs.Storing.{left}
 use Rattle.tac_ir.specs.Code.{Op, Tac}
 use Rattle.tac_ir.specs.Values as M
 use Rattle.tac_ir.specs.States.{State}

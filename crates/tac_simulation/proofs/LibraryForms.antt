@@ -2,7 +2,7 @@
 use Rattle.std.proofs.Common.{◌≡◌, ℕ, zero, suc, ◌+◌, ◌≤◌, ◌<◌, ◌==◌, ◌||◌, not, Bool, true, false, List, [], ◌∷◌, ◌++◌, Option, Some, None, ℤ, pos, negsuc, refl, sym, ap, ◌∙◌, subst, arith}
 use Rattle.std.proofs.lemmas.Bool.{false≢true, not-false, and_parts}
 use Rattle.std.proofs.lemmas.Option.{none-some, same_Some}
-use Rattle.text_place.specs.declared.place.Pos.{Pos}
+use Rattle.run_theory.specs.declared.place.Pos.{Pos}
 use Rattle.run_theory.specs.declared.ends.UbKind.TheVariants as Ub
 use Rattle.run_theory.specs.Runs.{Trace, Move, To, Halt, Freed, Output, Allocated, Over, Ended}
 use Rattle.c_num.specs.declared.IntType.TheVariants as I
@@ -13,9 +13,9 @@ use Rattle.c_typed.specs.declared.typed.LibraryFunction.TheVariants as L
 use Rattle.c_typed.specs.Types.{CType, CTypes, Void, Integer, NoTypes, MoreTypes, Pointer, same_type, same_types}
 use Rattle.c_typed.specs.Typed as T
 use Rattle.c_typed.specs.Typed.{Value, Values, Program}
-use Rattle.c_well_typed.specs.Expressions.{given, given_two, library_result, type_of}
-use Rattle.c_well_typed.specs.Programs.{IsWellTyped}
-use Rattle.c_well_typed.specs.Sizes.{makes, is_storable}
+use Rattle.c_typed.specs.Expressions.{given, given_two, library_result, type_of}
+use Rattle.c_typed.specs.Programs.{IsWellTyped}
+use Rattle.c_typed.specs.Sizes.{makes, is_storable}
 use Rattle.ref_semantics.specs.Values as V
 use Rattle.ref_semantics.specs.Values.{Name, Heap, GlobalObject, LiteralObject, LocalObject, Scalar, IntegerValue, NullValue, FunctionValue, PointerValue, RawPointer, integer_of}
 use Rattle.ref_semantics.specs.Store as S
@@ -25,10 +25,10 @@ use Rattle.ref_semantics.specs.Library as Library
 use Rattle.ref_semantics.specs.Library.{next_byte, allocated, is_heap, is_unfreeable, freed, library}
 use Rattle.ref_semantics.specs.Meaning.{Calls, value, values}
 use Rattle.ref_semantics.specs.First.{around_of}
-use Rattle.ref_typing.specs.Sound.{HasType}
-use Rattle.ref_typing.specs.Keeping.{CallsKeep}
+use Rattle.ref_semantics.specs.Sound.{HasType}
+use Rattle.ref_semantics.specs.Keeping.{CallsKeep}
 use Rattle.c_typed.proofs.Same.{same_type-true}
-use Rattle.c_well_typed.proofs.Splitting.{held_parts, given_parts, two_parts}
+use Rattle.c_typed.proofs.Splitting.{held_parts, given_parts, two_parts}
 use Rattle.tac_ir.specs.declared.register.Local.{Local}
 use Rattle.tac_ir.specs.declared.register.Register.TheVariants as R
 use Rattle.tac_ir.specs.Code.{Op, Tac, Held}

@@ -6,17 +6,17 @@ use Rattle.c_num.specs.declared.IntType.TheVariants as I
 use Rattle.c_num.specs.Conversion.{bits_of}
 use Rattle.c_typed.specs.Types.{CType, NoTypes, int}
 use Rattle.c_typed.specs.Typed.{Program}
-use Rattle.c_well_typed.specs.Context.{function_type}
-use Rattle.c_well_typed.specs.Programs.{IsWellTyped, has_main}
-use Rattle.c_well_typed.specs.Sizes.{HasStorableTypes}
+use Rattle.c_typed.specs.Context.{function_type}
+use Rattle.c_typed.specs.Programs.{IsWellTyped, has_main}
+use Rattle.c_typed.specs.Sizes.{HasStorableTypes}
 use Rattle.ref_semantics.specs.Values.{Scalar, IntegerValue, NullValue, FunctionValue, PointerValue, RawPointer}
 use Rattle.ref_semantics.specs.Store as S
 use Rattle.ref_semantics.specs.Store.{Outcome}
 use Rattle.ref_semantics.specs.Library.{low_byte}
 use Rattle.ref_semantics.specs.Meaning.{Calls, call_named, bodies_within, greatest_depth}
 use Rattle.ref_semantics.specs.First.{around_of, first_state, status_of, run_main}
-use Rattle.ref_typing.specs.Sound.{HasType}
-use Rattle.ref_typing.proofs.ProgramsKeep.{first_sound, main_keeps}
+use Rattle.ref_semantics.specs.Sound.{HasType}
+use Rattle.ref_semantics.proofs.ProgramsKeep.{first_sound, main_keeps}
 use Rattle.tac_ir.specs.declared.register.Register.TheVariants as R
 use Rattle.tac_ir.specs.Code.{Held, Known, Tac}
 use Rattle.tac_ir.specs.Code as O

@@ -7,7 +7,7 @@ use Rattle.c_typed.specs.Typed.{Program}
 use Rattle.ref_semantics.specs.Values as V
 use Rattle.ref_semantics.specs.Values.{Name, Heap, GlobalObject, LiteralObject, LocalObject, same_name}
 use Rattle.ref_semantics.specs.Store as S
-use Rattle.ref_typing.proofs.Objects.{same_name-true}
+use Rattle.ref_semantics.proofs.Objects.{same_name-true}
 use Rattle.tac_ir.specs.declared.register.Local.{Local}
 use Rattle.tac_ir.specs.declared.register.Local.TheVariants as L
 use Rattle.tac_ir.specs.Values.{Object, OfHeap, OfGlobal, OfLiteral, OfActivation, same_local, same_object, Content, Objects, with_content}

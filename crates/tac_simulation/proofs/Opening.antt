@@ -7,8 +7,8 @@ use Rattle.c_typed.specs.Typed.{GlobalDef, LiteralDef, Program}
 use Rattle.ref_semantics.specs.Values as V
 use Rattle.ref_semantics.specs.Values.{Name, Heap, GlobalObject, LiteralObject, LocalObject, Scalar, same_name}
 use Rattle.ref_semantics.specs.Store as S
-use Rattle.ref_typing.specs.Sound.{WasGiven, IsSoundContent, AreLocals, Sound}
-use Rattle.ref_typing.proofs.Objects.{same_name-true}
+use Rattle.ref_semantics.specs.Sound.{WasGiven, IsSoundContent, AreLocals, Sound}
+use Rattle.ref_semantics.proofs.Objects.{same_name-true}
 use Rattle.tac_ir.specs.declared.program.Counts.{Counts}
 use Rattle.tac_ir.specs.declared.register.Local.{Local}
 use Rattle.tac_ir.specs.declared.register.Local.TheVariants as L

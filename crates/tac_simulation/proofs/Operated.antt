@@ -1,7 +1,7 @@
 -- The code of operators and relations on two integers.
 use Rattle.std.proofs.Common.{◌≡◌, ℕ, Bool, true, false, ◌&&◌, if◌then◌else◌, List, Option, refl, sym, ap, ◌∙◌, subst, arith}
 use Rattle.std.proofs.lemmas.Bool.{and_parts}
-use Rattle.text_place.specs.declared.place.Pos.{Pos}
+use Rattle.run_theory.specs.declared.place.Pos.{Pos}
 use Rattle.c_num.specs.declared.IntType.{IntType}
 use Rattle.c_num.specs.declared.IntType.TheVariants as I
 use Rattle.c_num.specs.declared.BinOp.{BinOp}
@@ -12,18 +12,18 @@ use Rattle.c_typed.specs.Types.{CType, Integer, int, same_type, is_integer}
 use Rattle.c_typed.specs.Typed as T
 use Rattle.c_typed.specs.Typed.{Value, Program}
 use Rattle.c_typed.proofs.Same.{same_type-true}
-use Rattle.c_well_typed.specs.Context.{Context}
-use Rattle.c_well_typed.specs.Expressions.{type_of, is_right}
-use Rattle.c_well_typed.specs.Programs.{IsWellTyped}
-use Rattle.c_well_typed.specs.Sizes.{makes, is_storable}
+use Rattle.c_typed.specs.Context.{Context}
+use Rattle.c_typed.specs.Expressions.{type_of, is_right}
+use Rattle.c_typed.specs.Programs.{IsWellTyped}
+use Rattle.c_typed.specs.Sizes.{makes, is_storable}
 use Rattle.ref_semantics.specs.Values as V
 use Rattle.ref_semantics.specs.Values.{integer_of}
 use Rattle.ref_semantics.specs.Store.{◌>>=◌, give}
 use Rattle.ref_semantics.specs.Pointers as P
 use Rattle.ref_semantics.specs.Meaning.{Calls, value, arithmetic}
 use Rattle.ref_semantics.specs.First.{around_of}
-use Rattle.ref_typing.specs.Keeping.{CallsKeep}
-use Rattle.c_well_typed.proofs.Splitting.{first_parts, both_parts}
+use Rattle.ref_semantics.specs.Keeping.{CallsKeep}
+use Rattle.c_typed.proofs.Splitting.{first_parts, both_parts}
 use Rattle.tac_ir.specs.Code.{Op, Tac}
 use Rattle.tac_ir.specs.Code as O
 use Rattle.tac_ir.specs.Trees.{truth}

@@ -1,7 +1,7 @@
 -- The code of `++` and `--` of integers in registers, and of assignments wherever their objects are.
 use Rattle.std.proofs.Common.{◌≡◌, ℕ, suc, ◌+◌, ◌≤◌, Bool, true, false, not, ◌&&◌, if◌then◌else◌, List, Option, Some, None, ◌⊎◌, inl, inr, ℤ, pos, refl, sym, ap, ◌∙◌, subst, arith}
 use Rattle.std.proofs.lemmas.Bool.{true≢false}
-use Rattle.text_place.specs.declared.place.Pos.{Pos}
+use Rattle.run_theory.specs.declared.place.Pos.{Pos}
 use Rattle.c_num.specs.declared.IntType.{IntType}
 use Rattle.c_num.specs.declared.IntType.TheVariants as I
 use Rattle.c_num.specs.declared.BinOp.{BinOp}
@@ -13,10 +13,10 @@ use Rattle.c_typed.specs.Types.{CType, Integer, same_type}
 use Rattle.c_typed.specs.Typed as T
 use Rattle.c_typed.specs.Typed.{Value, Object, Program}
 use Rattle.c_typed.proofs.Same.{same_type-true}
-use Rattle.c_well_typed.specs.Context.{Context}
-use Rattle.c_well_typed.specs.Expressions.{type_of, type_of_object}
-use Rattle.c_well_typed.specs.Programs.{IsWellTyped}
-use Rattle.c_well_typed.specs.Sizes.{makes, is_storable}
+use Rattle.c_typed.specs.Context.{Context}
+use Rattle.c_typed.specs.Expressions.{type_of, type_of_object}
+use Rattle.c_typed.specs.Programs.{IsWellTyped}
+use Rattle.c_typed.specs.Sizes.{makes, is_storable}
 use Rattle.ref_semantics.specs.Values as V
 use Rattle.ref_semantics.specs.Values.{Scalar, IntegerValue, LocalObject, object_place}
 use Rattle.ref_semantics.specs.Store as S
@@ -25,9 +25,9 @@ use Rattle.ref_semantics.specs.Pointers.{read, write}
 use Rattle.ref_semantics.specs.Meaning as Meaning
 use Rattle.ref_semantics.specs.Meaning.{Calls, value, find, arithmetic, converted, step_result}
 use Rattle.ref_semantics.specs.First.{around_of}
-use Rattle.ref_typing.specs.Keeping.{CallsKeep}
-use Rattle.c_well_typed.proofs.Splitting.{same_parts}
-use Rattle.ref_typing.proofs.Operating.{integer_scalar}
+use Rattle.ref_semantics.specs.Keeping.{CallsKeep}
+use Rattle.c_typed.proofs.Splitting.{same_parts}
+use Rattle.ref_semantics.proofs.Operating.{integer_scalar}
 use Rattle.tac_ir.specs.Code.{Op, Tac}
 use Rattle.tac_ir.specs.Code as O
 use Rattle.tac_ir.specs.Values as M

@@ -4,7 +4,7 @@ use Rattle.std.proofs.Common.{◌≡◌, ℕ, suc, ◌≤◌, ◌<◌, Bool, tru
 use Rattle.std.proofs.lemmas.Bool.{cond-false, cond-true}
 use Rattle.c_typed.specs.Types.{CType}
 use Rattle.c_typed.specs.Typed.{Block, FunctionDef, Program}
-use Rattle.c_well_typed.specs.Programs.{with_parameters}
+use Rattle.c_typed.specs.Programs.{with_parameters}
 use Rattle.tac_ir.specs.declared.program.Counts.{Counts}
 use Rattle.tac_ir.specs.declared.register.Local.{Local}
 use Rattle.tac_ir.specs.declared.register.Local.TheVariants as L

@@ -3,19 +3,19 @@ use Rattle.std.proofs.Common.{◌≡◌, if◌then◌else◌, ℕ, suc, ◌+◌,
 use Rattle.std.proofs.lemmas.Bool.{false≢true}
 use Rattle.c_typed.specs.Types.{CType, CTypes, NoTypes, Void, Integer, Pointer, Array, Struct, Function}
 use Rattle.c_typed.specs.Typed.{Block, Program}
-use Rattle.c_well_typed.specs.Expressions.{is_scalar}
-use Rattle.c_well_typed.specs.Programs.{IsWellTyped}
+use Rattle.c_typed.specs.Expressions.{is_scalar}
+use Rattle.c_typed.specs.Programs.{IsWellTyped}
 use Rattle.ref_semantics.specs.Values as V
 use Rattle.ref_semantics.specs.Values.{Place, Scalar, IntegerValue, NullValue, FunctionValue, PointerValue, RawPointer, LocalObject, object_place}
 use Rattle.ref_semantics.specs.Store as S
 use Rattle.ref_semantics.specs.Store.{continue_with, give, offset_of}
 use Rattle.ref_semantics.specs.Meaning.{Calls, Completion, Normal, stored_first}
 use Rattle.ref_semantics.specs.First.{around_of}
-use Rattle.ref_typing.specs.Sound.{HasType, AreLocals, Later}
-use Rattle.ref_typing.proofs.Lasting.{type_lasts, later_trans}
-use Rattle.ref_typing.proofs.Storable.{scalar_storable}
-use Rattle.ref_typing.proofs.ProgramsKeep.{scalar_complete}
-use Rattle.ref_typing.proofs.Storing.{Begins, new_local_keeps, write_keeps}
+use Rattle.ref_semantics.specs.Sound.{HasType, AreLocals, Later}
+use Rattle.ref_semantics.proofs.Lasting.{type_lasts, later_trans}
+use Rattle.ref_semantics.proofs.Storable.{scalar_storable}
+use Rattle.ref_semantics.proofs.ProgramsKeep.{scalar_complete}
+use Rattle.ref_semantics.proofs.Storing.{Begins, new_local_keeps, write_keeps}
 use Rattle.tac_ir.specs.declared.register.Local.{Local}
 use Rattle.tac_ir.specs.declared.register.Local.TheVariants as L
 use Rattle.tac_ir.specs.declared.register.Register.{Register}

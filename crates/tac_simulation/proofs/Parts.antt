@@ -7,14 +7,14 @@ use Rattle.c_typed.specs.declared.part.Part.TheVariants as P
 use Rattle.c_typed.specs.Types.{CType, Void, Integer, Pointer, Array, Struct, Function}
 use Rattle.c_typed.specs.Layouts.{MemberDef, layouts, members_by_tag, known_members, member_type, offset_before}
 use Rattle.c_typed.specs.Typed.{Program}
-use Rattle.c_well_typed.specs.Expressions.{given}
-use Rattle.c_well_typed.specs.Expressions as W
-use Rattle.c_well_typed.specs.Programs.{RowType, one_of, row_within, row_at}
+use Rattle.c_typed.specs.Expressions.{given}
+use Rattle.c_typed.specs.Expressions as W
+use Rattle.c_typed.specs.Programs.{RowType, one_of, row_within, row_at}
 use Rattle.ref_semantics.specs.Values.{Name, Row, Place, first_of_row, object_place, at_index}
 use Rattle.ref_semantics.specs.Store.{TypeEnvironment, offset_of, size_of, members_of, member_row, member_at, inner_row, decayed}
 use Rattle.ref_semantics.specs.First.{around_of, stepped, walked, first_state}
-use Rattle.ref_typing.specs.Rows.{Whole}
-use Rattle.ref_typing.proofs.Beginning.{member_within, elements_within, StandsAs, stepped_stands}
+use Rattle.ref_semantics.specs.Rows.{Whole}
+use Rattle.ref_semantics.proofs.Beginning.{member_within, elements_within, StandsAs, stepped_stands}
 use Rattle.tac_ir.specs.Layouts.{Inner, within, member_in, member_of, element_of, moved, part_of, parts_of}
 
 -- the first element of a row begins where the row does

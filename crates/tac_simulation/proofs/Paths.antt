@@ -3,7 +3,7 @@
 -- a number of units, and the lag is how many units no tick has paid for yet.
 use Rattle.std.proofs.Common.{◌≡◌, ℕ, zero, suc, ◌+◌, ◌*◌, ◌<◌, ◌≤◌, inl, Bool, true, false, if◌then◌else◌, List, Some, ap, sym, refl, subst, arith}
 use Rattle.std.specs.Prelude.{slice_get}
-use Rattle.text_place.specs.declared.place.Pos.{Pos}
+use Rattle.run_theory.specs.declared.place.Pos.{Pos}
 use Rattle.run_theory.specs.declared.ends.UbKind.{UbKind}
 use Rattle.run_theory.specs.Runs.{Trace, AnswerOf, Answer, Going, Over, Final, Undefined, MatchesBy, wrong, going, ended, short, IsGoing, IsProgramEnd, Run, SimulatesBy, To, Halt, steps, Leads, here}
 use Rattle.run_theory.proofs.Simulations.{simulates_from, simulates_later}

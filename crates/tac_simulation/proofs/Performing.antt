@@ -7,20 +7,20 @@ use Rattle.c_typed.specs.Types.{CType, Integer, is_integer}
 use Rattle.c_typed.specs.Values.{not_zero}
 use Rattle.c_typed.specs.Typed as T
 use Rattle.c_typed.specs.Typed.{Value, Stmt, Block, LocalDef, Program}
-use Rattle.c_well_typed.specs.Context.{with_local}
-use Rattle.c_well_typed.specs.Expressions.{type_of}
-use Rattle.c_well_typed.specs.Statements.{Within, is_condition, is_local, is_stmt, is_block}
-use Rattle.c_well_typed.specs.Programs.{IsWellTyped}
-use Rattle.c_well_typed.specs.Sizes.{makes, local_makes, stmt_makes, block_makes, is_storable}
+use Rattle.c_typed.specs.Context.{with_local}
+use Rattle.c_typed.specs.Expressions.{type_of}
+use Rattle.c_typed.specs.Statements.{Within, is_condition, is_local, is_stmt, is_block}
+use Rattle.c_typed.specs.Programs.{IsWellTyped}
+use Rattle.c_typed.specs.Sizes.{makes, local_makes, stmt_makes, block_makes, is_storable}
 use Rattle.ref_semantics.specs.Values as V
 use Rattle.ref_semantics.specs.Store as S
 use Rattle.ref_semantics.specs.Store.{Outcome, Then, Eval, ◌>>=◌, give, continue_with}
 use Rattle.ref_semantics.specs.Meaning as Meaning
 use Rattle.ref_semantics.specs.Meaning.{Calls, Completion, Normal, Break, Continue, Return, is_true, value, block_rest}
 use Rattle.ref_semantics.specs.First.{around_of}
-use Rattle.ref_typing.specs.Sound.{HasType}
-use Rattle.ref_typing.specs.Keeping.{Keeps, CallsKeep}
-use Rattle.ref_typing.proofs.StatementsKeep.{stmt_keeps, holds_for-some, some_type}
+use Rattle.ref_semantics.specs.Sound.{HasType}
+use Rattle.ref_semantics.specs.Keeping.{Keeps, CallsKeep}
+use Rattle.ref_semantics.proofs.StatementsKeep.{stmt_keeps, holds_for-some, some_type}
 use Rattle.tac_ir.specs.Code.{Op, Tree, Tac}
 use Rattle.tac_ir.specs.Code as O
 use Rattle.tac_ir.specs.Values.{OfActivation}

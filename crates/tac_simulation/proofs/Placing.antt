@@ -4,15 +4,15 @@ use Rattle.std.proofs.lemmas.Bool.{and_from, le-leb}
 use Rattle.std.specs.Prelude.{nat_le}
 use Rattle.c_typed.specs.Types.{CType}
 use Rattle.c_typed.specs.Typed.{Program}
-use Rattle.c_well_typed.specs.Programs.{IsWellTyped}
+use Rattle.c_typed.specs.Programs.{IsWellTyped}
 use Rattle.ref_semantics.specs.Values as V
 use Rattle.ref_semantics.specs.Values.{Place, Scalar, PointerValue, at_index}
 use Rattle.ref_semantics.specs.Store as S
 use Rattle.ref_semantics.specs.Store.{offset_of, is_dead, scalar_or}
 use Rattle.ref_semantics.specs.First.{around_of}
-use Rattle.ref_typing.specs.Rows.{RowOf, IsSmall, size_in}
-use Rattle.ref_typing.specs.Sound.{IsPlace, StandsIn, IsSoundContent, Sound}
-use Rattle.ref_typing.proofs.WellTyped.{well_structs}
+use Rattle.ref_semantics.specs.Rows.{RowOf, IsSmall, size_in}
+use Rattle.ref_semantics.specs.Sound.{IsPlace, StandsIn, IsSoundContent, Sound}
+use Rattle.ref_semantics.proofs.WellTyped.{well_structs}
 use Rattle.tac_ir.specs.Values.{Object, Value, Address, Content, Typed, Objects}
 use Rattle.ref_semantics.specs.Pointers.{index_moved}
 use Rattle.tac_ir.specs.Layouts.{leaf_at}

@@ -1,16 +1,16 @@
 -- The code of `p += n`, `p -= n`, `p++` and their like follows the reference.
 use Rattle.std.proofs.Common.{◌≡◌, ℕ, ◌+◌, ◌≤◌, Bool, true, false, not, ◌&&◌, if◌then◌else◌, List, Option, Some, None, pos, neg_ℤ, refl, sym, ap, ◌∙◌, subst, arith}
 use Rattle.std.proofs.lemmas.Bool.{and_parts}
-use Rattle.text_place.specs.declared.place.Pos.{Pos}
+use Rattle.run_theory.specs.declared.place.Pos.{Pos}
 use Rattle.c_typed.specs.declared.typed.Stepping.{Stepping}
 use Rattle.c_typed.specs.declared.typed.Stepping.TheVariants as Steppings
 use Rattle.c_typed.specs.Types.{CType, is_integer}
 use Rattle.c_typed.specs.Typed as T
 use Rattle.c_typed.specs.Typed.{Value, Object, Program}
-use Rattle.c_well_typed.specs.Context.{Context}
-use Rattle.c_well_typed.specs.Expressions.{is_pointer_to_complete, type_of, type_of_object}
-use Rattle.c_well_typed.specs.Programs.{IsWellTyped}
-use Rattle.c_well_typed.specs.Sizes.{makes, object_makes, is_storable}
+use Rattle.c_typed.specs.Context.{Context}
+use Rattle.c_typed.specs.Expressions.{is_pointer_to_complete, type_of, type_of_object}
+use Rattle.c_typed.specs.Programs.{IsWellTyped}
+use Rattle.c_typed.specs.Sizes.{makes, object_makes, is_storable}
 use Rattle.ref_semantics.specs.Values as V
 use Rattle.ref_semantics.specs.Values.{Scalar, LocalObject, object_place, integer_of}
 use Rattle.ref_semantics.specs.Store as S
@@ -18,9 +18,9 @@ use Rattle.ref_semantics.specs.Store.{◌>>=◌, continue_with, give}
 use Rattle.ref_semantics.specs.Pointers.{read, write, added}
 use Rattle.ref_semantics.specs.Meaning.{Calls, value, find, step_amount, step_result}
 use Rattle.ref_semantics.specs.First.{around_of}
-use Rattle.ref_typing.specs.Keeping.{CallsKeep, IsElement}
-use Rattle.c_well_typed.proofs.Splitting.{first_parts, same_parts, to_complete}
-use Rattle.ref_typing.proofs.Lasting.{element_lasts}
+use Rattle.ref_semantics.specs.Keeping.{CallsKeep, IsElement}
+use Rattle.c_typed.proofs.Splitting.{first_parts, same_parts, to_complete}
+use Rattle.ref_semantics.proofs.Lasting.{element_lasts}
 use Rattle.tac_ir.specs.Code.{Op, Tac}
 use Rattle.tac_ir.specs.Code as O
 use Rattle.tac_ir.specs.Trees.{Registers, computes, tree_nodes}

@@ -1,7 +1,7 @@
 -- The code of operators on pointers.
 use Rattle.std.proofs.Common.{◌≡◌, ℕ, suc, ◌+◌, [], ◌∷◌, ◌++◌, ◌≤◌, ◌<◌, Bool, true, false, not, ◌&&◌, ◌||◌, if◌then◌else◌, List, Option, Some, ℤ, neg_ℤ, refl, sym, ap, ◌∙◌, subst, arith}
 use Rattle.std.proofs.lemmas.Bool.{and_parts, not-true}
-use Rattle.text_place.specs.declared.place.Pos.{Pos}
+use Rattle.run_theory.specs.declared.place.Pos.{Pos}
 use Rattle.c_num.specs.declared.IntType.TheVariants as I
 use Rattle.c_num.specs.declared.Relation.{Relation}
 use Rattle.c_typed.specs.Types.{CType, Integer, Pointer, int, same_type, is_function, is_integer, is_pointer, is_void_pointer}
@@ -9,9 +9,9 @@ use Rattle.c_typed.specs.Layouts.{is_complete}
 use Rattle.c_typed.proofs.Same.{same_type-true}
 use Rattle.c_typed.specs.Typed as T
 use Rattle.c_typed.specs.Typed.{Value, Program}
-use Rattle.c_well_typed.specs.Expressions.{is_conversion, is_pointer_to_complete, are_comparable, repoints as is_repointed, given_two, moved, type_of}
-use Rattle.c_well_typed.specs.Sizes.{makes, is_storable}
-use Rattle.c_well_typed.specs.Programs.{IsWellTyped}
+use Rattle.c_typed.specs.Expressions.{is_conversion, is_pointer_to_complete, are_comparable, repoints as is_repointed, given_two, moved, type_of}
+use Rattle.c_typed.specs.Sizes.{makes, is_storable}
+use Rattle.c_typed.specs.Programs.{IsWellTyped}
 use Rattle.ref_semantics.specs.Values as V
 use Rattle.ref_semantics.specs.Values.{LocalObject, Scalar, IntegerValue, NullValue, integer_of}
 use Rattle.ref_semantics.specs.Store as S
@@ -19,9 +19,9 @@ use Rattle.ref_semantics.specs.Store.{Then, give, tick, ◌>>=◌}
 use Rattle.ref_semantics.specs.Pointers.{tested, repointed, added, is_equality, compared_pointers, difference}
 use Rattle.ref_semantics.specs.Meaning.{Calls, value}
 use Rattle.ref_semantics.specs.First.{around_of}
-use Rattle.ref_typing.specs.Sound.{PointsTo, Sound}
-use Rattle.ref_typing.specs.Keeping.{CallsKeep}
-use Rattle.c_well_typed.proofs.Splitting.{other_parts, first_parts, both_parts}
+use Rattle.ref_semantics.specs.Sound.{PointsTo, Sound}
+use Rattle.ref_semantics.specs.Keeping.{CallsKeep}
+use Rattle.c_typed.proofs.Splitting.{other_parts, first_parts, both_parts}
 use Rattle.tac_ir.specs.Code.{Op, Tac, Held}
 use Rattle.tac_ir.specs.Code as O
 use Rattle.tac_ir.specs.Values as M
@@ -51,7 +51,7 @@ use Rattle.tac_simulation.proofs.Evaluating.{AtSpot, Came, ComesToValue, ValueDo
 use Rattle.tac_simulation.proofs.Combining.{ticked, then_value}
 use Rattle.tac_simulation.proofs.Unchanged.{keeps_fewer, keeps_then}
 use Rattle.tac_simulation.proofs.Tested.{tested_is}
-use Rattle.c_well_typed.specs.Sizes.{are_filled}
+use Rattle.c_typed.specs.Sizes.{are_filled}
 use Rattle.tac_simulation.proofs.Equality.{ComparedBoth, equality_is}
 use Rattle.tac_simulation.proofs.InRow.{order_is, difference_is}
 use Rattle.tac_simulation.proofs.Guarding.{guarded_does, from_same, tested_guards, compared_guards, difference_guards, repointed_guards}

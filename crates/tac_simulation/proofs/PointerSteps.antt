@@ -1,12 +1,12 @@
 -- The code that reads a pointer, moves it and writes it, in a local or in memory.
 use Rattle.std.proofs.Common.{◌≡◌, ℕ, suc, ◌+◌, ◌*◌, ◌≤◌, ◌<◌, Bool, true, false, if◌then◌else◌, List, Option, Some, neg_ℤ, refl, sym, ap, ◌∙◌, subst, arith}
-use Rattle.text_place.specs.declared.place.Pos.{Pos}
+use Rattle.run_theory.specs.declared.place.Pos.{Pos}
 use Rattle.run_theory.specs.declared.ends.UbKind.TheVariants as Ub
 use Rattle.c_typed.specs.Types.{CType, Void, Integer, Pointer, Array, Struct, Function}
 use Rattle.c_typed.specs.Layouts.{is_complete}
 use Rattle.c_typed.specs.Typed.{Program}
-use Rattle.c_well_typed.specs.Context.{Context}
-use Rattle.c_well_typed.specs.Programs.{IsWellTyped}
+use Rattle.c_typed.specs.Context.{Context}
+use Rattle.c_typed.specs.Programs.{IsWellTyped}
 use Rattle.ref_semantics.specs.Values as V
 use Rattle.ref_semantics.specs.Values.{Place, Scalar, LocalObject, object_place}
 use Rattle.ref_semantics.specs.Store as S
@@ -14,10 +14,10 @@ use Rattle.ref_semantics.specs.Store.{Outcome, Then, Eval, continue_with, undefi
 use Rattle.ref_semantics.specs.Pointers.{read, write, added}
 use Rattle.ref_semantics.specs.Meaning.{Calls}
 use Rattle.ref_semantics.specs.First.{around_of}
-use Rattle.ref_typing.specs.Sound.{HasType, Sound}
-use Rattle.ref_typing.specs.Keeping.{CallsKeep, IsElement}
-use Rattle.ref_typing.proofs.Lasting.{element_lasts}
-use Rattle.ref_typing.proofs.Pointing.{added_keeps}
+use Rattle.ref_semantics.specs.Sound.{HasType, Sound}
+use Rattle.ref_semantics.specs.Keeping.{CallsKeep, IsElement}
+use Rattle.ref_semantics.proofs.Lasting.{element_lasts}
+use Rattle.ref_semantics.proofs.Pointing.{added_keeps}
 use Rattle.tac_ir.specs.declared.register.Local.{Local}
 use Rattle.tac_ir.specs.declared.register.Register.{Register}
 use Rattle.tac_ir.specs.declared.register.Register.TheVariants as R

@@ -1,13 +1,13 @@
 -- Pointers in registers: an operand comes to one, it is kept while other code runs, and a point gives what an operator makes of it.
 use Rattle.std.proofs.Common.{◌≡◌, ℕ, ◌+◌, ◌≤◌, ◌<◌, Bool, true, if◌then◌else◌, List, Option, Some, ℤ, neg_ℤ, refl, sym, ap, ◌∙◌, subst, arith}
-use Rattle.text_place.specs.declared.place.Pos.{Pos}
+use Rattle.run_theory.specs.declared.place.Pos.{Pos}
 use Rattle.c_num.specs.declared.IntType.{IntType}
 use Rattle.c_typed.specs.Types.{CType, Pointer}
 use Rattle.c_typed.specs.Layouts.{is_complete}
 use Rattle.c_typed.specs.Typed.{Value, Program}
-use Rattle.c_well_typed.specs.Expressions.{type_of}
-use Rattle.c_well_typed.specs.Programs.{IsWellTyped}
-use Rattle.c_well_typed.specs.Sizes.{makes, is_storable}
+use Rattle.c_typed.specs.Expressions.{type_of}
+use Rattle.c_typed.specs.Programs.{IsWellTyped}
+use Rattle.c_typed.specs.Sizes.{makes, is_storable}
 use Rattle.ref_semantics.specs.Values as V
 use Rattle.ref_semantics.specs.Values.{Scalar, IntegerValue}
 use Rattle.ref_semantics.specs.Store as S
@@ -15,9 +15,9 @@ use Rattle.ref_semantics.specs.Store.{Outcome, Then, Eval, continue_with}
 use Rattle.ref_semantics.specs.Pointers.{added}
 use Rattle.ref_semantics.specs.Meaning.{Calls, value}
 use Rattle.ref_semantics.specs.First.{around_of}
-use Rattle.ref_typing.specs.Sound.{HasType, PointsTo, Sound}
-use Rattle.ref_typing.specs.Keeping.{Keeps, CallsKeep}
-use Rattle.ref_typing.proofs.Lasting.{type_lasts, keeps_trans}
+use Rattle.ref_semantics.specs.Sound.{HasType, PointsTo, Sound}
+use Rattle.ref_semantics.specs.Keeping.{Keeps, CallsKeep}
+use Rattle.ref_semantics.proofs.Lasting.{type_lasts, keeps_trans}
 use Rattle.tac_ir.specs.declared.program.Counts.{Counts}
 use Rattle.tac_ir.specs.declared.register.Register.{Register}
 use Rattle.tac_ir.specs.Code.{Op, Tac, Tree, Held}

@@ -2,8 +2,8 @@
 use Rattle.std.proofs.Common.{◌≡◌, ℕ, ◌+◌, true, List, Option, Some}
 use Rattle.c_typed.specs.Types.{CType}
 use Rattle.c_typed.specs.Typed.{Value, Program}
-use Rattle.c_well_typed.specs.Expressions.{type_of}
-use Rattle.c_well_typed.specs.Sizes.{makes, is_storable}
+use Rattle.c_typed.specs.Expressions.{type_of}
+use Rattle.c_typed.specs.Sizes.{makes, is_storable}
 use Rattle.ref_semantics.specs.Values as V
 use Rattle.ref_semantics.specs.Store as S
 use Rattle.ref_semantics.specs.Meaning.{Calls, value}

@@ -1,15 +1,15 @@
 -- The objects to which pointers lead are found on both sides.
 use Rattle.std.proofs.Common.{◌≡◌, ℕ, ◌≤◌, Bool, true, false, List, [], ◌∷◌, Option, Some, pos, refl, sym, ap, ◌∙◌, subst, arith}
 use Rattle.std.proofs.lemmas.Bool.{true≢false}
-use Rattle.text_place.specs.declared.place.Pos.{Pos}
+use Rattle.run_theory.specs.declared.place.Pos.{Pos}
 use Rattle.run_theory.specs.declared.ends.UbKind.TheVariants as Ub
 use Rattle.c_typed.specs.Types.{CType, Void, Integer, Pointer}
 use Rattle.c_typed.specs.Layouts.{is_complete}
 use Rattle.c_typed.specs.Typed as T
 use Rattle.c_typed.specs.Typed.{Value, Program}
-use Rattle.c_well_typed.specs.Expressions.{given, type_of, pointed}
-use Rattle.c_well_typed.specs.Expressions as W
-use Rattle.c_well_typed.specs.Programs.{IsWellTyped}
+use Rattle.c_typed.specs.Expressions.{given, type_of, pointed}
+use Rattle.c_typed.specs.Expressions as W
+use Rattle.c_typed.specs.Programs.{IsWellTyped}
 use Rattle.ref_semantics.specs.Values as V
 use Rattle.ref_semantics.specs.Values.{Place, Scalar, IntegerValue, NullValue, FunctionValue, PointerValue, RawPointer, place_of, is_end}
 use Rattle.ref_semantics.specs.Store as S
@@ -17,10 +17,10 @@ use Rattle.ref_semantics.specs.Store.{Then, premise, give, continue_with, offset
 use Rattle.ref_semantics.specs.Meaning.{Calls, value}
 use Rattle.ref_semantics.specs.Pointers.{accessed}
 use Rattle.ref_semantics.specs.First.{around_of}
-use Rattle.ref_typing.specs.Sound.{HasType, IsPlace}
-use Rattle.ref_typing.specs.Keeping.{CallsKeep}
-use Rattle.c_well_typed.proofs.Splitting.{given_parts, pointed_parts}
-use Rattle.ref_typing.proofs.WellTyped.{complete_object, complete_known}
+use Rattle.ref_semantics.specs.Sound.{HasType, IsPlace}
+use Rattle.ref_semantics.specs.Keeping.{CallsKeep}
+use Rattle.c_typed.proofs.Splitting.{given_parts, pointed_parts}
+use Rattle.ref_semantics.proofs.WellTyped.{complete_object, complete_known}
 use Rattle.tac_ir.specs.Code.{Op, Tac, Path, Pointed, Member}
 use Rattle.tac_ir.specs.Layouts.{size_of}
 use Rattle.tac_ir.specs.Objects.{leads, stepped, at_offset, pointed as pointed_at}

@@ -3,16 +3,16 @@ use Rattle.std.proofs.Common.{◌≡◌, ℕ, suc, ◌+◌, ◌*◌, ◌≤◌, 
 use Rattle.std.proofs.lemmas.Bool.{true≢false}
 use Rattle.std.proofs.lemmas.List.{append-nil}
 use Rattle.std.proofs.lemmas.Option.{none-some, same_Some}
-use Rattle.text_place.specs.declared.place.Pos.{Pos}
+use Rattle.run_theory.specs.declared.place.Pos.{Pos}
 use Rattle.run_theory.specs.declared.ends.UbKind.TheVariants as Ub
 use Rattle.run_theory.specs.Runs.{Loaded}
 use Rattle.c_num.specs.declared.IntType.{IntType}
 use Rattle.c_typed.specs.Types.{CType, Void, Integer, Pointer, Array, Struct, Function}
 use Rattle.c_typed.specs.Typed as T
 use Rattle.c_typed.specs.Typed.{Value, Object, Program, GlobalDef, LiteralDef}
-use Rattle.c_well_typed.specs.Expressions.{is_scalar, type_of_object}
-use Rattle.c_well_typed.specs.Programs.{IsWellTyped}
-use Rattle.c_well_typed.specs.Sizes.{object_makes, is_storable}
+use Rattle.c_typed.specs.Expressions.{is_scalar, type_of_object}
+use Rattle.c_typed.specs.Programs.{IsWellTyped}
+use Rattle.c_typed.specs.Sizes.{object_makes, is_storable}
 use Rattle.ref_semantics.specs.Values as V
 use Rattle.ref_semantics.specs.Values.{Name, Heap, GlobalObject, LiteralObject, LocalObject, Place, Scalar, IntegerValue, NullValue, FunctionValue, PointerValue, RawPointer, object_place}
 use Rattle.ref_semantics.specs.Store as S
@@ -20,12 +20,12 @@ use Rattle.ref_semantics.specs.Store.{Outcome, Then, Eval, premise, continue_wit
 use Rattle.ref_semantics.specs.Meaning.{Calls, value, find}
 use Rattle.ref_semantics.specs.Pointers.{loaded, read, access}
 use Rattle.ref_semantics.specs.First.{around_of}
-use Rattle.ref_typing.specs.Rows.{LeafAt}
-use Rattle.ref_typing.specs.Sound.{HasType, Sound}
-use Rattle.ref_typing.specs.Keeping.{Keeps, CallsKeep, IsElement}
-use Rattle.c_well_typed.proofs.Splitting.{same_parts}
-use Rattle.ref_typing.proofs.Storing.{read_keeps}
-use Rattle.ref_typing.proofs.ValuesKeep.{find_keeps}
+use Rattle.ref_semantics.specs.Rows.{LeafAt}
+use Rattle.ref_semantics.specs.Sound.{HasType, Sound}
+use Rattle.ref_semantics.specs.Keeping.{Keeps, CallsKeep, IsElement}
+use Rattle.c_typed.proofs.Splitting.{same_parts}
+use Rattle.ref_semantics.proofs.Storing.{read_keeps}
+use Rattle.ref_semantics.proofs.ValuesKeep.{find_keeps}
 use Rattle.tac_ir.specs.declared.register.Register.{Register}
 use Rattle.tac_ir.specs.declared.register.Register.TheVariants as R
 use Rattle.tac_ir.specs.Code.{Op, Tac, Path, Held}

@@ -2,21 +2,21 @@
 use Rattle.std.proofs.Common.{◌≡◌, ℕ, zero, suc, ◌/◌, ◌%◌, ◌==◌, not, if◌then◌else◌, Bool, true, false, List, [], Option, Some, None, refl, sym, ap, ◌∙◌, subst, arith, eqb-true}
 use Rattle.std.proofs.lemmas.Bool.{false≢true, true≢false, not-false}
 use Rattle.std.proofs.lemmas.Option.{none-some}
-use Rattle.text_place.specs.declared.place.Pos.{Pos}
+use Rattle.run_theory.specs.declared.place.Pos.{Pos}
 use Rattle.run_theory.specs.declared.ends.UbKind.TheVariants as Ub
 use Rattle.c_typed.specs.Types.{CType, same_type, is_function, is_like_void}
 use Rattle.c_typed.specs.Layouts.{is_complete}
 use Rattle.c_typed.specs.Typed.{Program}
-use Rattle.c_well_typed.specs.Programs.{IsWellTyped}
+use Rattle.c_typed.specs.Programs.{IsWellTyped}
 use Rattle.ref_semantics.specs.Values as V
 use Rattle.ref_semantics.specs.Values.{Heap, LocalObject, Scalar, IntegerValue, NullValue, FunctionValue, PointerValue, RawPointer, whole_row, first_of_row}
 use Rattle.ref_semantics.specs.Store as S
 use Rattle.ref_semantics.specs.Store.{Then, give, offset_of, is_dead_pointer}
 use Rattle.ref_semantics.specs.Pointers.{repointed, retyped, of_allocation}
 use Rattle.ref_semantics.specs.First.{around_of}
-use Rattle.ref_typing.specs.Rows.{size_in}
-use Rattle.ref_typing.specs.Sound.{PointsTo, Sound}
-use Rattle.ref_typing.proofs.WellTyped.{complete_known, known_complete, like_object}
+use Rattle.ref_semantics.specs.Rows.{size_in}
+use Rattle.ref_semantics.specs.Sound.{PointsTo, Sound}
+use Rattle.ref_semantics.proofs.WellTyped.{complete_known, known_complete, like_object}
 use Rattle.tac_ir.specs.declared.register.Register.{Register}
 use Rattle.tac_ir.specs.declared.register.Local.{Local}
 use Rattle.tac_ir.specs.Values.{Object, OfHeap, OfActivation, Value, Address, Content, Untyped, Typed, Objects, with_content, same_object}

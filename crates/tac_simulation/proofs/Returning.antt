@@ -8,7 +8,7 @@ use Rattle.run_theory.specs.Runs.{Leads, here}
 use Rattle.run_theory.proofs.Machines.{leads_compose}
 use Rattle.c_typed.specs.Types.{int, is_void}
 use Rattle.c_typed.specs.Typed.{Program}
-use Rattle.c_well_typed.specs.Statements.{Within}
+use Rattle.c_typed.specs.Statements.{Within}
 use Rattle.ref_semantics.specs.Values as V
 use Rattle.ref_semantics.specs.Values.{Scalar, IntegerValue}
 use Rattle.ref_semantics.specs.Store as S

@@ -4,11 +4,11 @@ use Rattle.std.proofs.lemmas.Bool.{and_parts}
 use Rattle.c_typed.specs.Types.{CType}
 use Rattle.c_typed.specs.Typed as T
 use Rattle.c_typed.specs.Typed.{Value, Stmt, ForStart, LocalDef, Program}
-use Rattle.c_well_typed.specs.Context.{Context, with_local}
-use Rattle.c_well_typed.specs.Expressions.{type_of}
-use Rattle.c_well_typed.specs.Statements.{Within, in_loop, if_any, is_expression, is_condition, is_start, is_stmt, with_start, with_locals}
-use Rattle.c_well_typed.specs.Programs.{IsWellTyped}
-use Rattle.c_well_typed.specs.Sizes.{any_makes, start_makes, stmt_makes, is_storable}
+use Rattle.c_typed.specs.Context.{Context, with_local}
+use Rattle.c_typed.specs.Expressions.{type_of}
+use Rattle.c_typed.specs.Statements.{Within, in_loop, if_any, is_expression, is_condition, is_start, is_stmt, with_start, with_locals}
+use Rattle.c_typed.specs.Programs.{IsWellTyped}
+use Rattle.c_typed.specs.Sizes.{any_makes, start_makes, stmt_makes, is_storable}
 use Rattle.ref_semantics.specs.Values as V
 use Rattle.ref_semantics.specs.Values.{Scalar}
 use Rattle.ref_semantics.specs.Store as S
@@ -16,10 +16,10 @@ use Rattle.ref_semantics.specs.Store.{Outcome, Eval, ◌>>=◌, give}
 use Rattle.ref_semantics.specs.Meaning as Meaning
 use Rattle.ref_semantics.specs.Meaning.{Calls, Completion, Normal, loop, after_body, for_step, leave, scoped, value, stmt, holds, optional_value}
 use Rattle.ref_semantics.specs.First.{around_of}
-use Rattle.ref_typing.specs.Sound.{Sound}
-use Rattle.ref_typing.specs.Keeping.{CallsKeep}
-use Rattle.ref_typing.proofs.Storing.{left}
-use Rattle.ref_typing.proofs.StatementsKeep.{stmt_keeps}
+use Rattle.ref_semantics.specs.Sound.{Sound}
+use Rattle.ref_semantics.specs.Keeping.{CallsKeep}
+use Rattle.ref_semantics.proofs.Storing.{left}
+use Rattle.ref_semantics.proofs.StatementsKeep.{stmt_keeps}
 use Rattle.tac_ir.specs.Code.{Op, Tac}
 use Rattle.tac_ir.specs.Code as O
 use Rattle.tac_ir.specs.States.{State}

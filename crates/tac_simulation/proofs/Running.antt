@@ -8,7 +8,7 @@ use Rattle.ref_semantics.specs.Store.{Outcome, continue_with, spend, tick}
 use Rattle.ref_semantics.specs.Meaning as Meaning
 use Rattle.ref_semantics.specs.Meaning.{Calls, Completion}
 use Rattle.ref_semantics.specs.First.{around_of}
-use Rattle.ref_typing.proofs.Lasting.{aside_keeps}
+use Rattle.ref_semantics.proofs.Lasting.{aside_keeps}
 use Rattle.tac_ir.specs.Code.{Op, Tac}
 use Rattle.tac_ir.specs.States.{State}
 use Rattle.tac_build.specs.Homes.{Scope}

@@ -11,17 +11,17 @@ use Rattle.c_typed.specs.Types.{CType, Integer, is_integer, integer_type}
 use Rattle.c_typed.specs.Typed as T
 use Rattle.c_typed.specs.Typed.{Value, Stmt, SwitchItems, Program}
 use Rattle.c_typed.specs.Values.{not_zero}
-use Rattle.c_well_typed.specs.Expressions.{given, type_of}
-use Rattle.c_well_typed.specs.Statements.{in_switch, is_label, is_condition, is_stmt, are_items}
-use Rattle.c_well_typed.specs.Programs.{IsWellTyped}
-use Rattle.c_well_typed.specs.Sizes.{makes, stmt_makes, items_make, is_storable}
+use Rattle.c_typed.specs.Expressions.{given, type_of}
+use Rattle.c_typed.specs.Statements.{in_switch, is_label, is_condition, is_stmt, are_items}
+use Rattle.c_typed.specs.Programs.{IsWellTyped}
+use Rattle.c_typed.specs.Sizes.{makes, stmt_makes, items_make, is_storable}
 use Rattle.ref_semantics.specs.Values as V
 use Rattle.ref_semantics.specs.Values.{integer_of}
 use Rattle.ref_semantics.specs.Store as S
 use Rattle.ref_semantics.specs.Store.{Then, Eval, ◌>>=◌, give}
 use Rattle.ref_semantics.specs.Meaning.{Calls, Completion, Normal, Break, Continue, Return, Entry, NoEntry, At, later_entry, default_at, case_at, entry_or, broken_out, block_rest, switch_from, value}
 use Rattle.ref_semantics.specs.First.{around_of}
-use Rattle.ref_typing.specs.Keeping.{CallsKeep}
+use Rattle.ref_semantics.specs.Keeping.{CallsKeep}
 use Rattle.tac_ir.specs.declared.register.Register.{Register}
 use Rattle.tac_ir.specs.Code.{Op, Tac}
 use Rattle.tac_ir.specs.Code as O

@@ -3,8 +3,8 @@ use Rattle.std.proofs.Common.{ℕ, List, [], refl, arith}
 use Rattle.run_theory.specs.Runs.{SimulatesBy}
 use Rattle.run_theory.proofs.Simulations.{simulates_from}
 use Rattle.c_typed.specs.Typed.{Program}
-use Rattle.c_well_typed.specs.Programs.{IsWellTyped}
-use Rattle.c_well_typed.specs.Sizes.{HasStorableTypes}
+use Rattle.c_typed.specs.Programs.{IsWellTyped}
+use Rattle.c_typed.specs.Sizes.{HasStorableTypes}
 use Rattle.ref_semantics.specs.First.{reference}
 use Rattle.tac_ir.specs.Code.{Tac}
 use Rattle.tac_ir.specs.First.{tac_run}

@@ -2,11 +2,11 @@
 use Rattle.std.proofs.Common.{◌≡◌, ℕ, ◌+◌, ◌*◌, ◌<◌, ◌≤◌, true, List, slice_get, Some, ap, subst, ◌∙◌, mul_comm, arith}
 use Rattle.c_typed.specs.Types.{CType, Array, Struct}
 use Rattle.c_typed.specs.Layouts.{StructDef, MemberDef, Layout, greatest, layouts, struct_layout, known_layout, member_layout, members_by_tag, offset_before}
-use Rattle.c_well_typed.specs.Programs.{are_structs}
-use Rattle.ref_typing.specs.Rows.{IsSmall, size_in, are_sized_structs}
-use Rattle.ref_typing.proofs.Arithmetic.{cut_same, element_size}
-use Rattle.ref_typing.proofs.Stays.{struct_is}
-use Rattle.ref_typing.proofs.Placed.{aligned_layouts, member_within}
+use Rattle.c_typed.specs.Programs.{are_structs}
+use Rattle.ref_semantics.specs.Rows.{IsSmall, size_in, are_sized_structs}
+use Rattle.ref_semantics.proofs.Arithmetic.{cut_same, element_size}
+use Rattle.ref_semantics.proofs.Stays.{struct_is}
+use Rattle.ref_semantics.proofs.Placed.{aligned_layouts, member_within}
 
 -- an array of an exact size is as great as its elements
 pub array_size : (structs : List StructDef) (element : CType) (n : ℕ) → IsSmall structs (Array element n) → size_in structs (Array element n) ≡ n * size_in structs element

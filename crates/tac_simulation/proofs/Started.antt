@@ -3,12 +3,12 @@ use Rattle.std.proofs.Common.{◌≡◌, ℕ, suc, ◌+◌, Bool, true, false, i
 use Rattle.std.specs.Prelude.{slice_get, bytes_eq}
 use Rattle.std.proofs.lemmas.Option.{none-some, same_Some}
 use Rattle.c_typed.specs.Typed.{FunctionDef, Program}
-use Rattle.c_well_typed.specs.Programs.{IsWellTyped}
-use Rattle.c_well_typed.specs.Sizes.{HasStorableTypes}
+use Rattle.c_typed.specs.Programs.{IsWellTyped}
+use Rattle.c_typed.specs.Sizes.{HasStorableTypes}
 use Rattle.ref_semantics.specs.Values as V
 use Rattle.ref_semantics.specs.Meaning.{Calls}
 use Rattle.ref_semantics.specs.First.{first_state}
-use Rattle.ref_typing.proofs.ProgramsKeep.{first_sound}
+use Rattle.ref_semantics.proofs.ProgramsKeep.{first_sound}
 use Rattle.tac_ir.specs.Code.{Function, Tac}
 use Rattle.tac_ir.specs.States.{InStart}
 use Rattle.tac_ir.specs.First.{initial}

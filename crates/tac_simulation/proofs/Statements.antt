@@ -8,20 +8,20 @@ use Rattle.c_typed.specs.Types.{CType, is_integer}
 use Rattle.c_typed.specs.Typed as T
 use Rattle.c_typed.specs.Typed.{Value, Stmt, Program}
 use Rattle.c_typed.specs.Values.{not_zero}
-use Rattle.c_well_typed.specs.Expressions.{type_of, is_scalar}
-use Rattle.c_well_typed.specs.Statements.{Within, holds_for, if_any, is_condition, is_stmt}
-use Rattle.c_well_typed.specs.Programs.{IsWellTyped}
-use Rattle.c_well_typed.specs.Sizes.{makes, any_makes, stmt_makes, is_storable}
+use Rattle.c_typed.specs.Expressions.{type_of, is_scalar}
+use Rattle.c_typed.specs.Statements.{Within, holds_for, if_any, is_condition, is_stmt}
+use Rattle.c_typed.specs.Programs.{IsWellTyped}
+use Rattle.c_typed.specs.Sizes.{makes, any_makes, stmt_makes, is_storable}
 use Rattle.ref_semantics.specs.Values as V
 use Rattle.ref_semantics.specs.Values.{Scalar, IntegerValue}
 use Rattle.ref_semantics.specs.Store as S
 use Rattle.ref_semantics.specs.Store.{Outcome, Then, Eval, ◌>>=◌, continue_with, give}
 use Rattle.ref_semantics.specs.Meaning.{Calls, Completion, Normal, Break, Continue, Return, value, stmt, is_true, holds, optional_value}
 use Rattle.ref_semantics.specs.First.{around_of}
-use Rattle.ref_typing.specs.Sound.{HasType}
-use Rattle.ref_typing.specs.Keeping.{CallsKeep}
-use Rattle.ref_typing.proofs.ValuesKeep.{value_keeps}
-use Rattle.ref_typing.proofs.StatementsKeep.{stmt_keeps}
+use Rattle.ref_semantics.specs.Sound.{HasType}
+use Rattle.ref_semantics.specs.Keeping.{CallsKeep}
+use Rattle.ref_semantics.proofs.ValuesKeep.{value_keeps}
+use Rattle.ref_semantics.proofs.StatementsKeep.{stmt_keeps}
 use Rattle.tac_ir.specs.Code.{Op, Operand, Tac, Tree, IntegerOperand, PointerOperand}
 use Rattle.tac_ir.specs.Code as O
 use Rattle.tac_ir.specs.Values as M

@@ -2,13 +2,13 @@
 use Rattle.std.proofs.Common.{◌≡◌, ℕ, suc, ◌+◌, ◌<◌, Bool, true, false, if◌then◌else◌, List, [], ◌∷◌, ◌++◌, Option, Some, None, refl, sym, ap, ◌∙◌, subst, arith}
 use Rattle.std.proofs.lemmas.Bool.{cond-false, false_from_ne_true}
 use Rattle.std.proofs.lemmas.Option.{none-some, same_Some}
-use Rattle.text_place.specs.declared.place.Pos.{Pos}
+use Rattle.run_theory.specs.declared.place.Pos.{Pos}
 use Rattle.run_theory.specs.declared.ends.UbKind.TheVariants as Ub
 use Rattle.run_theory.specs.Runs.{Event, Loaded, Stored}
 use Rattle.c_typed.specs.Types.{CType}
 use Rattle.c_typed.specs.Typed.{Program, GlobalDef, LiteralDef}
-use Rattle.c_well_typed.specs.Expressions.{is_scalar}
-use Rattle.c_well_typed.specs.Programs.{IsWellTyped}
+use Rattle.c_typed.specs.Expressions.{is_scalar}
+use Rattle.c_typed.specs.Programs.{IsWellTyped}
 use Rattle.ref_semantics.specs.Values as V
 use Rattle.ref_semantics.specs.Values.{Name, Heap, GlobalObject, LiteralObject, LocalObject, Place, Scalar, same_name}
 use Rattle.ref_semantics.specs.Store as S
@@ -16,12 +16,12 @@ use Rattle.ref_semantics.specs.Store.{Outcome, Then, Eval, continue_with, undefi
 use Rattle.ref_semantics.specs.Pointers as P
 use Rattle.ref_semantics.specs.Pointers.{read, write, loaded}
 use Rattle.ref_semantics.specs.First.{around_of}
-use Rattle.ref_typing.specs.Rows.{LeafAt}
-use Rattle.ref_typing.specs.Sound.{HasType, Sound}
-use Rattle.ref_typing.specs.Keeping.{Keeps, IsElement}
-use Rattle.ref_typing.proofs.Objects.{same_name-true}
-use Rattle.ref_typing.proofs.Consequences.{accessed_leaf}
-use Rattle.ref_typing.proofs.Storing.{read_keeps, write_keeps}
+use Rattle.ref_semantics.specs.Rows.{LeafAt}
+use Rattle.ref_semantics.specs.Sound.{HasType, Sound}
+use Rattle.ref_semantics.specs.Keeping.{Keeps, IsElement}
+use Rattle.ref_semantics.proofs.Objects.{same_name-true}
+use Rattle.ref_semantics.proofs.Consequences.{accessed_leaf}
+use Rattle.ref_semantics.proofs.Storing.{read_keeps, write_keeps}
 use Rattle.tac_ir.specs.declared.register.Local.{Local}
 use Rattle.tac_ir.specs.declared.register.Register.{Register}
 use Rattle.tac_ir.specs.declared.register.Register.TheVariants as R

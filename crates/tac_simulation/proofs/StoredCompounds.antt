@@ -1,7 +1,7 @@
 -- The code of compound assignments to objects in memory, and of `++` and `--` of integers there.
 use Rattle.std.proofs.Common.{◌≡◌, ℕ, ◌+◌, ◌*◌, ◌≤◌, Bool, true, false, not, ◌&&◌, if◌then◌else◌, List, Option, Some, None, ℤ, pos, refl, sym, ap, ◌∙◌, subst, arith}
 use Rattle.std.proofs.lemmas.Bool.{and_parts}
-use Rattle.text_place.specs.declared.place.Pos.{Pos}
+use Rattle.run_theory.specs.declared.place.Pos.{Pos}
 use Rattle.run_theory.specs.declared.ends.UbKind.TheVariants as Ub
 use Rattle.c_num.specs.declared.IntType.{IntType}
 use Rattle.c_num.specs.declared.IntType.TheVariants as I
@@ -15,10 +15,10 @@ use Rattle.c_typed.specs.Types.{CType, Integer, same_type}
 use Rattle.c_typed.specs.Typed as T
 use Rattle.c_typed.specs.Typed.{Value, Object, Program}
 use Rattle.c_typed.proofs.Same.{same_type-true}
-use Rattle.c_well_typed.specs.Context.{Context}
-use Rattle.c_well_typed.specs.Expressions.{is_right, type_of, type_of_object}
-use Rattle.c_well_typed.specs.Programs.{IsWellTyped}
-use Rattle.c_well_typed.specs.Sizes.{makes, object_makes, is_storable}
+use Rattle.c_typed.specs.Context.{Context}
+use Rattle.c_typed.specs.Expressions.{is_right, type_of, type_of_object}
+use Rattle.c_typed.specs.Programs.{IsWellTyped}
+use Rattle.c_typed.specs.Sizes.{makes, object_makes, is_storable}
 use Rattle.ref_semantics.specs.Values as V
 use Rattle.ref_semantics.specs.Values.{Place, Scalar, IntegerValue}
 use Rattle.ref_semantics.specs.Store as S
@@ -27,11 +27,11 @@ use Rattle.ref_semantics.specs.Pointers.{read, write}
 use Rattle.ref_semantics.specs.Meaning as Meaning
 use Rattle.ref_semantics.specs.Meaning.{Calls, value, find, arithmetic, converted, step_result}
 use Rattle.ref_semantics.specs.First.{around_of}
-use Rattle.ref_typing.specs.Sound.{HasType, Sound}
-use Rattle.ref_typing.specs.Keeping.{CallsKeep, IsElement}
-use Rattle.c_well_typed.proofs.Splitting.{first_parts, same_parts}
-use Rattle.ref_typing.proofs.Lasting.{element_lasts}
-use Rattle.ref_typing.proofs.Operating.{integer_scalar}
+use Rattle.ref_semantics.specs.Sound.{HasType, Sound}
+use Rattle.ref_semantics.specs.Keeping.{CallsKeep, IsElement}
+use Rattle.c_typed.proofs.Splitting.{first_parts, same_parts}
+use Rattle.ref_semantics.proofs.Lasting.{element_lasts}
+use Rattle.ref_semantics.proofs.Operating.{integer_scalar}
 use Rattle.tac_ir.specs.declared.register.Register.{Register}
 use Rattle.tac_ir.specs.Code.{Op, Tac, Tree, Path}
 use Rattle.tac_ir.specs.Code as O

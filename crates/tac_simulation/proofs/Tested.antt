@@ -1,6 +1,6 @@
 -- Pointers that are tested on both sides.
 use Rattle.std.proofs.Common.{◌≡◌, Bool, true, false, not, [], refl, sym, ap, ◌∙◌}
-use Rattle.text_place.specs.declared.place.Pos.{Pos}
+use Rattle.run_theory.specs.declared.place.Pos.{Pos}
 use Rattle.run_theory.specs.declared.ends.UbKind.TheVariants as Ub
 use Rattle.c_typed.specs.Types.{CType}
 use Rattle.c_typed.specs.Typed.{Program}
@@ -9,7 +9,7 @@ use Rattle.ref_semantics.specs.Store as S
 use Rattle.ref_semantics.specs.Store.{Then, give, is_dead_pointer, is_null_pointer}
 use Rattle.ref_semantics.specs.Pointers as P
 use Rattle.ref_semantics.specs.Pointers.{tested}
-use Rattle.ref_typing.specs.Sound.{PointsTo}
+use Rattle.ref_semantics.specs.Sound.{PointsTo}
 use Rattle.tac_ir.specs.Trees.{truth}
 use Rattle.tac_ir.specs.Values.{Value, Objects}
 use Rattle.tac_ir.specs.Pointers.{is_alive, is_null}

@@ -5,7 +5,7 @@ use Rattle.run_theory.specs.Runs.{Leads, here}
 use Rattle.run_theory.proofs.Machines.{leads_compose}
 use Rattle.ref_semantics.specs.Store as S
 use Rattle.ref_semantics.specs.Store.{Outcome, Then}
-use Rattle.ref_typing.proofs.Lasting.{then_value, then_state}
+use Rattle.ref_semantics.proofs.Lasting.{then_value, then_state}
 use Rattle.tac_ir.specs.States.{State}
 use Rattle.tac_ir.specs.Meaning.{act}
 use Rattle.tac_ir.specs.Code.{Tac}

@@ -4,16 +4,16 @@ use Rattle.std.proofs.lemmas.Bool.{and_parts}
 use Rattle.run_theory.proofs.Machines.{leads_compose}
 use Rattle.c_typed.specs.Typed as T
 use Rattle.c_typed.specs.Typed.{Value, Stmt, Program}
-use Rattle.c_well_typed.specs.Statements.{in_loop, is_condition, is_stmt}
-use Rattle.c_well_typed.specs.Programs.{IsWellTyped}
-use Rattle.c_well_typed.specs.Sizes.{makes, stmt_makes, is_storable}
+use Rattle.c_typed.specs.Statements.{in_loop, is_condition, is_stmt}
+use Rattle.c_typed.specs.Programs.{IsWellTyped}
+use Rattle.c_typed.specs.Sizes.{makes, stmt_makes, is_storable}
 use Rattle.ref_semantics.specs.Values as V
 use Rattle.ref_semantics.specs.Values.{Scalar}
 use Rattle.ref_semantics.specs.Store as S
 use Rattle.ref_semantics.specs.Store.{Then, Eval, ◌>>=◌, give}
 use Rattle.ref_semantics.specs.Meaning.{Calls, Completion, Normal, Break, Continue, Return, way_or, turns, loop, after_body, do_condition, value, stmt, is_true}
 use Rattle.ref_semantics.specs.First.{around_of}
-use Rattle.ref_typing.specs.Keeping.{CallsKeep}
+use Rattle.ref_semantics.specs.Keeping.{CallsKeep}
 use Rattle.tac_ir.specs.Code.{Op, Tac}
 use Rattle.tac_ir.specs.Code as O
 use Rattle.tac_ir.specs.Costs.{more_cost}

@@ -2,7 +2,7 @@ use Rattle.std.proofs.Common.{ℤ, refl, sym, ap, subst, ◌∙◌, Option, ◌+
 use Rattle.std.specs.Int.{w128}
 use Rattle.std.proofs.lemmas.Int.{to_z-of_z as same_int}
 use Rattle.std.proofs.lemmas.Result.{IfOk-weaker}
-use Rattle.text_place.specs.declared.place.Pos.{Pos}
+use Rattle.run_theory.specs.declared.place.Pos.{Pos}
 use Rattle.c_num.specs.declared.IntType.TheVariants as I
 use Rattle.c_num.specs.Conversion.{convert_to}
 use Rattle.c_syntax.specs.declared.expr.TypeName.{TypeName, out-TypeName}
@@ -16,9 +16,9 @@ use Rattle.c_rules.specs.Operators.{object_member, pointer_member, stepped, size
 use Rattle.c_rules.specs.Expressions.{expr, integer_constant, place_of, type_named, optional_type, argument_values, library_called, Required, words_type, as_constant, positive, length_value, length_stated, with_name}
 use Rattle.c_types_state.specs.Finding.{IsExpr, IsType, ExprStands, expr_in, each_in, condition_in, Finds, IsTypes}
 use Rattle.c_types_state.specs.NameTables.{scope_of}
-use Rattle.c_types_unary.specs.Unary.{prefixed_rule}
-use Rattle.c_types_operands.specs.Operands.{OperandStands, operand_in, TargetStands, target_in}
-use Rattle.c_types_expressions.specs.Named.{named_in, named_in_type, named_in_optional, named_in_length, named_in_suffixes}
+use Rattle.c_types_expressions.specs.Unary.{prefixed_rule}
+use Rattle.c_types_state.specs.Operands.{OperandStands, operand_in, TargetStands, target_in}
+use Rattle.c_rules.specs.Named.{named_in, named_in_type, named_in_optional, named_in_length, named_in_suffixes}
 use Rattle.c_types_expressions.specs.Forms.{grouped_known, size_rule, named_in_call, ConditionStands}
 use Rattle.c_types_expressions.specs.Passes.{Passes, parameter_list, TypesStand, list_in}
 use Rattle.c_types_expressions.proofs.Naming.{passes-plain, passes-made}
@@ -29,14 +29,14 @@ use Rattle.c_syntax.specs.declared.expr.Declarator.{Declarator}
 use Rattle.c_types_expressions.specs.Roles.{role_of}
 use Rattle.c_typed.proofs.Grown.{grows_trans}
 use Rattle.c_types_expressions.proofs.Standing.{stays-operand, stays-target}
-use Rattle.c_types_expressions.proofs.Calls.{arguments-stay, passes-call, passes-library, passes-other, gathers-more, gathers-end}
+use Rattle.c_types_expressions.proofs.CTypesExpressions.Calls.{arguments-stay, passes-call, passes-library, passes-other, gathers-more, gathers-end}
 use Rattle.c_types_expressions.proofs.+expr.Goals.{expressions::call_expr-in-Some, expressions::call_expr-in-None+in_ok-known-in-None, declarators::suffixes_type-then-index-eq0, declarators::suffixes_type-else-index-eq0, declarators::suffix_type-in-Some+in_ok-length-in-Some, declarators::suffix_type-in-None, declarators::function_parameters-in-Some+in_ok-push-in-Some, declarators::function_parameters-in-None}
 use Rattle.std.proofs.lemmas.List.{drop_all, drop_more}
 use Rattle.c_types_state.proofs.Findings.{stays-type, stays-condition}
-use Rattle.c_types_binary.specs.Binary.{operand_rule}
+use Rattle.c_types_expressions.specs.Binary.{operand_rule}
 use Rattle.c_types_expressions.proofs.Choices.{passes-choice}
 use Rattle.c_num.specs.declared.BinOp.{BinOp}
-use Rattle.c_types_calls.specs.Assignments.{assigned_object_rule, assigned_value_rule}
+use Rattle.c_types_expressions.specs.Assignments.{assigned_object_rule, assigned_value_rule}
 use Rattle.c_syntax.specs.Trees.{TypeTree, NameTree}
 use Rattle.c_rules.specs.Expressions as rules
 use Rattle.c_types_expressions.proofs.Suffixed.{known_stands, type_tree-out, passes-named, stated-none, stated-unknown, stated-some, role_at, role_behind, own_role, own_required, suffix-next, followed-more, types_stay, elements_stay, passes-array, passes-function, suffix_of-array, suffix_of-function, length-stated, length-missing, passes-outer-items, passes-flat, passes-nested-read}

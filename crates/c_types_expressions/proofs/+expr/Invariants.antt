@@ -3,7 +3,7 @@ use denote.Param.Weighed.{most}
 use Rattle.c_syntax.proofs.expr.Expr.TheLaws.{the_size}
 use Rattle.c_syntax.proofs.expr.TypeName.TheLaws as type_laws
 use Rattle.std.proofs.Common.{drop, ◌≤◌, length, ◌≡◌}
-use Rattle.c_types_expressions.proofs.Calls.{Gathers}
+use Rattle.c_types_expressions.proofs.CTypesExpressions.Calls.{Gathers}
 use Rattle.c_typed.specs.Table.{type_in}
 use Rattle.c_types_state.specs.Finding.{each_in}
 use Rattle.c_types_expressions.specs.Roles.{role_of}

@@ -1,4 +1,4 @@
-use Rattle.graph_memory.specs.Memory.{IsGraph}
+use Rattle.graph_unification.specs.Memory.{IsGraph}
 use Rattle.graph_memory_bench.proofs.graph_of.Given as goal
 
 abbrev pub invariant-loop-number : goal.invariant-loop-number

@@ -1,7 +1,7 @@
 use Rattle.std.proofs.Common.{ap, sym, ◌∙◌}
 use Rattle.std.specs.Prelude.{option_map}
 use Rattle.heap_graph.specs.Memory.{target_of}
-use Rattle.graph_memory.specs.Memory.{name_of}
+use Rattle.graph_unification.specs.Memory.{name_of}
 use Rattle.graph_memory_bench.proofs.join.Goals as goal
 
 pub merge-requires-clause-first : goal.merge-requires-clause-first

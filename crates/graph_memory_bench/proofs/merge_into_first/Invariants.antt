@@ -1,4 +1,4 @@
-use Rattle.graph_memory.specs.Memory.{IsGraph}
+use Rattle.graph_unification.specs.Memory.{IsGraph}
 use Rattle.graph_memory_bench.proofs.merge_into_first.Given as goal
 
 abbrev pub invariant-loop-number : goal.invariant-loop-number

@@ -1,11 +1,11 @@
 use Rattle.std.proofs.Common.{List, map, is_some, sym, ap, subst, ◌∙◌}
-use Rattle.c_token.specs.declared.token.Token.{Token}
-use Rattle.c_token.specs.Leaves.{leaves_of}
+use Rattle.c_grammar.specs.declared.token.Token.{Token}
+use Rattle.c_grammar.specs.Leaves.{leaves_of}
 use Rattle.c_syntax.specs.Views.{program_tree}
-use Rattle.c_reader.specs.Readings.{IsProgram}
+use Rattle.c_reader.specs.ProgramReadings.{IsProgram}
 use Rattle.c_typed.specs.DefinitionViews.{program_of}
 use Rattle.c_types_expressions.specs.Passes.{named_type}
-use Rattle.c_types_premises.proofs.Premises.{Premises, accepted_premises}
+use Rattle.accepted_programs.proofs.Premises.{Premises, accepted_premises}
 use Rattle.ref_meaning_vectors.proofs.answer.Given as given
 use Rattle.ref_meaning_vectors.proofs.answer.Goals as goal
 

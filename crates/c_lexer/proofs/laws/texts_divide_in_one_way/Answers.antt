@@ -1,5 +1,5 @@
 use Rattle.std.proofs.Common.{true}
-use Rattle.text_place.specs.Places.{first_place}
+use Rattle.run_theory.specs.Places.{first_place}
 use Rattle.c_lexer.proofs.Dividing.{one_division}
 use Rattle.c_lexer.proofs.laws.texts_divide_in_one_way.Goals as goal
 

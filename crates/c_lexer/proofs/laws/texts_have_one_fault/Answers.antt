@@ -1,5 +1,5 @@
 use Rattle.std.proofs.Common.{true}
-use Rattle.text_place.specs.Places.{first_place}
+use Rattle.run_theory.specs.Places.{first_place}
 use Rattle.c_lexer.proofs.Dividing.{one_fault}
 use Rattle.c_lexer.proofs.laws.texts_have_one_fault.Goals as goal
 

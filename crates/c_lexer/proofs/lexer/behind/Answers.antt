@@ -1,6 +1,6 @@
 use Rattle.std.proofs.Common.{◌+◌, get_or, drop, sym, ap, ◌∙◌, arith}
 use Rattle.std.proofs.lemmas.List.{at_drop_more, at_drop_all}
-use Rattle.text_place.specs.Places.{place_behind}
+use Rattle.run_theory.specs.Places.{place_behind}
 use Rattle.c_lexer.proofs.Spans.{line_after, column_after}
 use Rattle.c_lexer.proofs.lexer.behind.Goals as goal
 

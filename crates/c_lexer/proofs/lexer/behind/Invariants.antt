@@ -1,5 +1,5 @@
 use Rattle.std.proofs.Common.{◌≡◌, ◌+◌, ◌^◌, ◌<◌, length, drop}
-use Rattle.text_place.specs.Places.{place_behind}
+use Rattle.run_theory.specs.Places.{place_behind}
 use Rattle.c_lexer.proofs.lexer.behind.Given as goal
 
 abbrev pub invariant-loop-byte : goal.invariant-loop-byte

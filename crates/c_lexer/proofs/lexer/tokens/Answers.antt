@@ -1,7 +1,7 @@
 use Rattle.std.proofs.Common.{◌≤◌, length, sym, refl, ap, ◌∙◌, arith, false-eqb, eqb-true, length-drop, length-take-le}
 use Rattle.std.proofs.lemmas.List.{map_push, nil_from_length}
-use Rattle.text_place.specs.Places.{place_behind}
-use Rattle.c_token.specs.Leaves.{leaves_of}
+use Rattle.run_theory.specs.Places.{place_behind}
+use Rattle.c_grammar.specs.Leaves.{leaves_of}
 use Rattle.c_lexer.specs.Tokens.{line_behind}
 use Rattle.c_lexer.proofs.Widths.{front_within}
 use Rattle.c_lexer.proofs.Dividing.{cut_first, cut_step, cut_end, cut_refused, refused_only, one_division}

@@ -1,5 +1,5 @@
 use Rattle.std.proofs.Common.{length}
-use Rattle.c_token.specs.Leaves.{leaves_of}
+use Rattle.c_grammar.specs.Leaves.{leaves_of}
 use Rattle.c_lexer.proofs.Dividing.{IsCutBefore}
 use Rattle.c_lexer.proofs.Spans.{StandBefore, IsPlacedBefore}
 use Rattle.c_lexer.proofs.lexer.tokens.Given as goal

@@ -1,10 +1,10 @@
 use Rattle.std.proofs.lemmas.Result.{err_from_is_err_and}
 use Rattle.c_syntax.specs.Views as views
 use Rattle.c_reader.proofs.ItemRows as steps
-use Rattle.c_reader_tokens.proofs.WordRows as words
+use Rattle.c_reader.proofs.WordRows as words
 use Rattle.std.proofs.Common.{true, ◌≤◌, length}
 use Rattle.std.specs.Prelude.{IfOk}
-use Rattle.c_reader_tokens.proofs.Results.{passed_on}
+use Rattle.c_reader.proofs.Results.{passed_on}
 use Rattle.c_reader.proofs.item.read_base.Goals as goal
 
 pub returns-in_err-first_kind-in_default : goal.returns-in_err-first_kind-in_default

@@ -1,10 +1,10 @@
 use Rattle.std.proofs.Common.{arith, refl, ap, sym, ◌∙◌}
 use Rattle.std.proofs.lemmas.Result.{err_from_is_err_and}
-use Rattle.grammar_table.specs.Table as tables
+use Rattle.c_grammar.specs.Table as tables
 use Rattle.c_grammar.specs.Forms as forms
 use Rattle.c_syntax.specs.Views as views
-use Rattle.c_reader_tokens.specs.Shapes as shapes
-use Rattle.c_reader_tokens.proofs.Reaching as Rows
+use Rattle.c_reader.specs.Shapes as shapes
+use Rattle.c_reader.proofs.Reaching as Rows
 use Rattle.c_grammar.specs.Chooses as chooses
 use Rattle.c_reader.specs.ItemLists as before
 use Rattle.c_reader.proofs.ItemRows as steps

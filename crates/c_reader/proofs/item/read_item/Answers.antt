@@ -1,11 +1,11 @@
 use Rattle.std.proofs.Common.{arith, refl}
 use Rattle.std.proofs.lemmas.Result.{err_from_is_err_and}
 use Rattle.c_syntax.specs.Views as views
-use Rattle.c_reader_tokens.specs.Shapes as shapes
-use Rattle.c_reader_tokens.proofs.Reaching as Rows
+use Rattle.c_reader.specs.Shapes as shapes
+use Rattle.c_reader.proofs.Reaching as Rows
 use Rattle.c_reader.specs.ItemForms as items
 use Rattle.c_reader.proofs.ItemRows as steps
-use Rattle.c_reader_tokens.specs.declared.syntax_err.SyntaxErr.TheVariants.{At}
+use Rattle.c_reader.specs.declared.syntax_err.SyntaxErr.TheVariants.{At}
 use Rattle.c_reader.proofs.item.read_item.Goals as goal
 
 pub loop-kind-init : goal.loop-kind-init

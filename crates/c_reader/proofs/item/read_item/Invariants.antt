@@ -1,5 +1,5 @@
 use Rattle.std.proofs.Common.{◌≤◌, length}
-use Rattle.c_token.specs.Leaves.{leaves_of}
+use Rattle.c_grammar.specs.Leaves.{leaves_of}
 use Rattle.c_reader.proofs.ItemRows.{Stored}
 use Rattle.c_reader.proofs.item.read_item.Given as goal
 

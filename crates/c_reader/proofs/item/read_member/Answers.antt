@@ -1,8 +1,8 @@
 use Rattle.std.proofs.Common.{arith, refl, ap, sym, ◌∙◌, ◌∷◌}
 use Rattle.std.proofs.lemmas.Result.{err_from_is_err_and}
 use Rattle.c_grammar.specs.Forms as forms
-use Rattle.c_reader_tokens.specs.Shapes as shapes
-use Rattle.c_reader_tokens.proofs.Reaching as Rows
+use Rattle.c_reader.specs.Shapes as shapes
+use Rattle.c_reader.proofs.Reaching as Rows
 use Rattle.c_grammar.specs.Kinds as kinds
 use Rattle.c_reader.proofs.SameItems as same
 use Rattle.c_reader.proofs.item.read_member.Goals as goal

@@ -1,7 +1,7 @@
 use Rattle.std.proofs.Common.{arith, ap, ◌∙◌, [], ◌∷◌, ◌++◌}
 use Rattle.std.proofs.lemmas.Result.{err_from_is_err_and}
 use Rattle.c_syntax.specs.Views as views
-use Rattle.c_reader_tokens.proofs.Reaching as Rows
+use Rattle.c_reader.proofs.Reaching as Rows
 use Rattle.c_reader.proofs.item.read_member_declarators.Goals as goal
 
 pub loop-declarators-init : goal.loop-declarators-init

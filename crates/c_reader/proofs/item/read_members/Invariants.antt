@@ -1,9 +1,9 @@
 use Rattle.std.proofs.Common.{◌≤◌, [], ◌∷◌, length}
-use Rattle.grammar_table.specs.Runs.{Whole}
+use Rattle.c_grammar.specs.Runs.{Whole}
 use Rattle.c_grammar.specs.Forms as forms
-use Rattle.c_token.specs.Leaves.{leaves_of}
-use Rattle.c_reader_tokens.specs.Shapes.{more_members_of}
-use Rattle.c_reader_tokens.specs.Lists.{Listed}
+use Rattle.c_grammar.specs.Leaves.{leaves_of}
+use Rattle.c_reader.specs.Shapes.{more_members_of}
+use Rattle.c_reader.specs.Lists.{Listed}
 use Rattle.c_reader.specs.ItemLists.{member_before}
 use Rattle.c_reader.proofs.item.read_members.Given as goal
 

@@ -1,7 +1,7 @@
 use Rattle.std.proofs.Common.{arith, refl, ap, ◌∷◌}
 use Rattle.std.proofs.lemmas.Result.{err_from_is_err_and}
-use Rattle.c_reader_tokens.specs.Shapes as shapes
-use Rattle.c_reader_tokens.proofs.Reaching as Rows
+use Rattle.c_reader.specs.Shapes as shapes
+use Rattle.c_reader.proofs.Reaching as Rows
 use Rattle.c_reader.specs.ItemForms as items
 use Rattle.c_reader.proofs.item.read_next_member_declarator.Goals as goal
 

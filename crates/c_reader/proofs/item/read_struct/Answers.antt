@@ -2,8 +2,8 @@ use Rattle.std.proofs.Common.{arith, refl, ap, ◌∙◌, ◌∷◌}
 use Rattle.std.proofs.lemmas.Result.{err_from_is_err_and}
 use Rattle.c_syntax.specs.Trees as trees
 use Rattle.c_syntax.specs.Views as views
-use Rattle.c_reader_tokens.specs.Shapes as shapes
-use Rattle.c_reader_tokens.proofs.Reaching as Rows
+use Rattle.c_reader.specs.Shapes as shapes
+use Rattle.c_reader.proofs.Reaching as Rows
 use Rattle.c_reader.specs.ItemLists as before
 use Rattle.c_reader.proofs.item.read_struct.Goals as goal
 

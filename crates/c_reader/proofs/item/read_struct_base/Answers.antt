@@ -1,9 +1,9 @@
 use Rattle.std.proofs.Common.{refl, ◌∙◌}
 use Rattle.std.proofs.lemmas.Result.{err_from_is_err_and}
-use Rattle.c_reader_tokens.specs.Shapes as shapes
-use Rattle.c_reader_tokens.proofs.Reaching as Rows
+use Rattle.c_reader.specs.Shapes as shapes
+use Rattle.c_reader.proofs.Reaching as Rows
 use Rattle.c_reader.proofs.ItemRows as steps
-use Rattle.c_reader_tokens.proofs.WordRows as words
+use Rattle.c_reader.proofs.WordRows as words
 use Rattle.std.proofs.Common.{true}
 use Rattle.c_reader.proofs.item.read_struct_base.Goals as goal
 

@@ -1,11 +1,11 @@
 use Rattle.std.proofs.Common.{ap, sym, ◌∙◌}
 use Rattle.std.proofs.lemmas.Result.{err_from_is_err_and}
-use Rattle.grammar_table.specs.Table as tables
+use Rattle.c_grammar.specs.Table as tables
 use Rattle.c_grammar.specs.Forms as forms
-use Rattle.c_token.specs.Leaves.{leaves_of}
+use Rattle.c_grammar.specs.Leaves.{leaves_of}
 use Rattle.c_syntax.specs.Views as views
-use Rattle.c_reader_tokens.specs.Shapes as shapes
-use Rattle.c_reader_tokens.proofs.Reaching as Rows
+use Rattle.c_reader.specs.Shapes as shapes
+use Rattle.c_reader.proofs.Reaching as Rows
 use Rattle.c_reader.proofs.ItemRows as steps
 use Rattle.c_reader.proofs.item.read_struct_item.Goals as goal
 

@@ -2,13 +2,13 @@ use Rattle.std.proofs.Common.{arith, refl, ap, sym, ◌∙◌}
 use Rattle.std.proofs.lemmas.Result.{err_from_is_err_and}
 use Rattle.c_syntax.specs.Trees as trees
 use Rattle.c_syntax.specs.Views as views
-use Rattle.c_reader_tokens.specs.Shapes as shapes
-use Rattle.c_reader_tokens.proofs.Reaching as Rows
+use Rattle.c_reader.specs.Shapes as shapes
+use Rattle.c_reader.proofs.Reaching as Rows
 use Rattle.c_reader.specs.ItemForms as items
 use Rattle.c_reader.proofs.ItemRows as steps
-use Rattle.c_reader_tokens.proofs.WordRows as words
+use Rattle.c_reader.proofs.WordRows as words
 use Rattle.std.proofs.Common.{true, map}
-use Rattle.text_place.specs.Places.{first_place}
+use Rattle.run_theory.specs.Places.{first_place}
 use Rattle.c_reader.proofs.item.read_struct_tail.Goals as goal
 
 pub returns-in_err-first_kind-clause-gives : goal.returns-in_err-first_kind-clause-gives

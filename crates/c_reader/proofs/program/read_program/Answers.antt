@@ -1,9 +1,9 @@
 use Rattle.std.proofs.Common.{arith, refl, sym, ◌∙◌}
 use Rattle.std.proofs.lemmas.Result.{err_from_is_err_and}
-use Rattle.grammar_table.specs.Table as tables
+use Rattle.c_grammar.specs.Table as tables
 use Rattle.c_grammar.specs.Forms as forms
-use Rattle.c_reader_tokens.specs.Shapes as shapes
-use Rattle.c_reader_tokens.proofs.Reaching as Rows
+use Rattle.c_reader.specs.Shapes as shapes
+use Rattle.c_reader.proofs.Reaching as Rows
 use Rattle.c_reader.proofs.SameItems as same
 use Rattle.std.proofs.Common.{◌||◌}
 use Rattle.c_grammar.specs.Kinds as kinds

@@ -1,5 +1,5 @@
 use Rattle.std.proofs.Common.{[], Option, Some, None, Box, Global, option_map, refl, sym, subst}
-use Rattle.text_place.specs.declared.place.Pos.{Pos}
+use Rattle.run_theory.specs.declared.place.Pos.{Pos}
 use Rattle.c_syntax.specs.declared.declaration.Init as memory_init
 use Rattle.c_syntax.specs.Trees.{NameTree}
 use Rattle.c_syntax.specs.Views.{name_tree, declarator_tree, init_tree}
@@ -11,7 +11,7 @@ use Rattle.c_rules.specs.Elaborated.{first_local}
 use Rattle.c_types_state.specs.Finding.{each_in}
 use Rattle.c_types_state.specs.NameTables.{scope_of}
 use Rattle.c_types_expressions.specs.declared.pass.Pass.{Pass}
-use Rattle.c_types.specs.NamedItems.{named_in_first}
+use Rattle.c_rules.specs.NamedItems.{named_in_first}
 use Rattle.c_types.specs.Made.{Makes, IsOptionalValue}
 use Rattle.c_types.proofs.Covering.{covers-none}
 use Rattle.c_types.proofs.DeclaredLocals.{MakesLocal, own-stands, makes-local}

@@ -16,7 +16,7 @@ use Rattle.c_rules.specs.Initializers as initializers
 use Rattle.c_rules.specs.Elaborated as elaborated
 use Rattle.c_types_state.specs.Finding.{each_in}
 use Rattle.c_types_state.specs.NameTables.{State, scope_of}
-use Rattle.c_types.specs.NamedItems.{named_in_inits}
+use Rattle.c_rules.specs.NamedItems.{named_in_inits}
 use Rattle.c_types.specs.Made.{Covers}
 use Rattle.c_types.specs.FirstValues.{HoldsFirst, too_many}
 use Rattle.c_types.proofs.Covering.{covers-same}

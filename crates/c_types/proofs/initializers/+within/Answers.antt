@@ -5,7 +5,7 @@ use Rattle.c_syntax.specs.Views.{init_tree, inits_of}
 use Rattle.c_syntax.proofs.SyntaxRows.{init_tree-list}
 use Rattle.c_rules.specs.Initializers as rules
 use Rattle.c_types_state.specs.NameTables.{scope_of}
-use Rattle.c_types.specs.NamedItems.{named_in_init, named_in_inits}
+use Rattle.c_rules.specs.NamedItems.{named_in_init, named_in_inits}
 use Rattle.c_types.proofs.Covering.{covers-same}
 use Rattle.c_types.specs.InitialValues.{init_values, inits_values}
 use Rattle.c_types.proofs.Firsts.{Passed, passed-none, passed-more, passed-all, left-more, on_ok}

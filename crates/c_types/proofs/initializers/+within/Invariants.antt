@@ -4,7 +4,7 @@ use Rattle.c_syntax.proofs.declaration.Init.TheLaws.{the_size}
 use Rattle.c_syntax.specs.Views.{inits_of}
 use Rattle.c_rules.specs.Initializers as rules
 use Rattle.c_types_state.specs.NameTables.{scope_of}
-use Rattle.c_types.specs.NamedItems.{named_in_inits}
+use Rattle.c_rules.specs.NamedItems.{named_in_inits}
 use Rattle.c_types.specs.InitialValues.{inits_values}
 use Rattle.c_types.proofs.Firsts.{Passed}
 use Rattle.c_types.proofs.KeptValues.{ValuesFar}

@@ -3,8 +3,8 @@ use Rattle.std.proofs.lemmas.Result.{IfOk-weaker}
 use Rattle.c_syntax.specs.Views.{expr_tree}
 use Rattle.c_typed.specs.Table.{type_in}
 use Rattle.c_types_state.specs.Finding.{AllStand, each_in, noted}
-use Rattle.c_types_operands.specs.declared.operands.Operand as memory_operand
-use Rattle.c_types_operands.specs.Operands.{OperandStands, operand_in}
+use Rattle.c_types_state.specs.declared.operands.Operand as memory_operand
+use Rattle.c_types_state.specs.Operands.{OperandStands, operand_in}
 use Rattle.c_types_expressions.specs.declared.pass.Pass.{Pass}
 use Rattle.c_types_expressions.proofs.Giving.{stands-now}
 use Rattle.c_types_expressions.proofs.Passing.{with_checker}

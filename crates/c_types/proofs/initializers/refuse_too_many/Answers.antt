@@ -7,7 +7,7 @@ use Rattle.c_rules.specs.Initializers as rules
 use Rattle.c_types_state.specs.NameTables.{scope_of}
 use Rattle.c_types_state.specs.Finding.{noted}
 use Rattle.c_types_expressions.specs.declared.pass.Pass.{Pass}
-use Rattle.c_types.specs.NamedItems.{named_in_inits}
+use Rattle.c_rules.specs.NamedItems.{named_in_inits}
 use Rattle.c_types.specs.InitialValues.{inits_values}
 use Rattle.c_types.proofs.KeptValues.{adds-same}
 use Rattle.c_types.proofs.Covering.{covers-same}

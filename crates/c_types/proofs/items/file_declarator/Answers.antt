@@ -11,7 +11,7 @@ use Rattle.c_types_state.specs.NameTables.{scope_of}
 use Rattle.c_rules.specs.Programs.{file_declarator}
 use Rattle.c_types_expressions.specs.Roles.{role_of}
 use Rattle.c_types.specs.Made.{Covers}
-use Rattle.c_types.specs.NamedItems.{named_in_file_declarator}
+use Rattle.c_rules.specs.NamedItems.{named_in_file_declarator}
 use Rattle.c_types.proofs.Filed.{known_stands-each}
 use Rattle.c_types.specs.InitialValues.{declarator_values}
 use Rattle.c_types.proofs.DefinedStays.{Defines}

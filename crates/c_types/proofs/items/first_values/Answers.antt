@@ -11,7 +11,7 @@ use Rattle.c_types_expressions.specs.declared.pass.Pass.{Pass}
 use Rattle.c_types.specs.declared.initializers.Target.{Target}
 use Rattle.c_types.specs.InitialValues.{AddsValues, init_values, optional_values}
 use Rattle.c_types.specs.Made.{Makes, IsFirst}
-use Rattle.c_types.specs.NamedItems.{named_in_first}
+use Rattle.c_rules.specs.NamedItems.{named_in_first}
 use Rattle.c_types.proofs.VariableNumbers.{option-none}
 use Rattle.c_types.proofs.KeptValues.{adds-none}
 use Rattle.c_types.proofs.OutsideMade.{first-none, first-some}

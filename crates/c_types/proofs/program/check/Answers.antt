@@ -5,8 +5,8 @@ use Rattle.c_typed.specs.declared.definition.Program as memory_program
 use Rattle.c_typed.specs.Table.{Interned, Grows}
 use Rattle.c_types_state.specs.NameTables.{State}
 use Rattle.c_rules.specs.Programs.{violations}
-use Rattle.c_well_typed.specs.Programs.{IsWellTyped}
-use Rattle.c_rules_typing.proofs.ProgramsFit.{elaboration_keeps_types}
+use Rattle.c_typed.specs.Programs.{IsWellTyped}
+use Rattle.c_rules.proofs.ProgramsFit.{elaboration_keeps_types}
 use Rattle.c_types_expressions.specs.declared.pass.Pass.{Pass}
 use Rattle.c_types_state.specs.Lists.{with_outline}
 use Rattle.c_types.proofs.DeclaredMembers.{trees-next, trees-end}

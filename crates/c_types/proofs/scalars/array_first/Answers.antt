@@ -1,6 +1,6 @@
 use Rattle.std.proofs.Common.{◌≡◌, ℕ, nat_le, true, List, [], ◌++◌, length, append-nil, Option, Some, None, refl, sym, ap, subst, ◌∙◌}
 use Rattle.std.proofs.lemmas.Bool.{false≢true}
-use Rattle.text_place.specs.declared.place.Pos.{Pos}
+use Rattle.run_theory.specs.declared.place.Pos.{Pos}
 use Rattle.c_num.specs.declared.IntType.TheVariants as I
 use Rattle.c_syntax.specs.Trees.{Literal}
 use Rattle.c_syntax.specs.Views.{expr_tree}
@@ -17,7 +17,7 @@ use Rattle.c_rules.specs.Expressions.{expr, place_of}
 use Rattle.c_rules.specs.Elaborated as elaborated
 use Rattle.c_types_state.specs.NameTables.{scope_of}
 use Rattle.c_types_expressions.specs.declared.pass.Pass.{Pass}
-use Rattle.c_types_expressions.specs.Named.{named_in}
+use Rattle.c_rules.specs.Named.{named_in}
 use Rattle.c_types.specs.Made.{Covers}
 use Rattle.c_types.specs.Checked.{CoversValue, CoversExpr}
 use Rattle.c_types.specs.FirstValues.{HoldsFirst}

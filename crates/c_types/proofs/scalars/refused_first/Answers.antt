@@ -1,5 +1,5 @@
 use Rattle.std.proofs.Common.{◌++◌, refl, ap}
-use Rattle.text_place.specs.declared.place.Pos.{Pos}
+use Rattle.run_theory.specs.declared.place.Pos.{Pos}
 use Rattle.c_syntax.specs.Views.{expr_tree}
 use Rattle.c_rules.specs.Known.{at}
 use Rattle.c_types_state.specs.NameTables.{scope_of}

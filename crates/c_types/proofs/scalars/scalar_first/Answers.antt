@@ -7,7 +7,7 @@ use Rattle.c_rules.specs.Initializers.{known_first}
 use Rattle.c_rules.specs.Elaborated as elaborated
 use Rattle.c_types_state.specs.NameTables.{State, scope_of}
 use Rattle.c_types_state.specs.Finding.{noted}
-use Rattle.c_types_operands.specs.Operands.{operand_in}
+use Rattle.c_types_state.specs.Operands.{operand_in}
 use Rattle.c_types.specs.FirstValues.{HoldsFirst}
 use Rattle.c_types.proofs.Firsts.{noted-scalar, unless-met, holds-one}
 use Rattle.c_types.proofs.KeptValues.{adds-one, adds-noted}

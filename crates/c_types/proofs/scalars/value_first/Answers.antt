@@ -16,8 +16,8 @@ use Rattle.c_rules.specs.Elaborated as elaborated
 use Rattle.c_types_state.specs.NameTables.{scope_of}
 use Rattle.c_types_state.specs.Finding.{each_in}
 use Rattle.c_types_state.proofs.Findings.{seen-known}
-use Rattle.c_types_operands.specs.Operands.{OperandStands, operand_in}
-use Rattle.c_types_expressions.specs.Named.{named_in}
+use Rattle.c_types_state.specs.Operands.{OperandStands, operand_in}
+use Rattle.c_rules.specs.Named.{named_in}
 use Rattle.c_types.specs.FirstValues.{HoldsFirst, scalar_found}
 use Rattle.c_types.proofs.Covering.{covers-same, covers-then, covers-passes}
 use Rattle.c_types.proofs.Firsts.{on_ok}

@@ -5,7 +5,7 @@ use Rattle.c_syntax.specs.Views.{name_tree, base_tree, member_tree}
 use Rattle.c_types_state.specs.NameTables.{scope_of}
 use Rattle.c_rules.specs.Programs as rules
 use Rattle.c_types_expressions.proofs.Passing.{with_checker}
-use Rattle.c_types.specs.NamedItems.{named_in_base}
+use Rattle.c_rules.specs.NamedItems.{named_in_base}
 use Rattle.c_types.specs.Made.{Reaches, IsOptionalType}
 use Rattle.c_types.proofs.Covering.{covers-finds}
 use Rattle.c_types.proofs.Reaching.{reaches-covers}

@@ -7,7 +7,7 @@ use Rattle.c_rules.specs.Expressions.{Required, declared_type, name_place}
 use Rattle.c_types_state.specs.Finding.{IsType, each_in}
 use Rattle.c_types_state.specs.NameTables.{scope_of}
 use Rattle.c_types_expressions.specs.declared.pass.Pass.{Pass}
-use Rattle.c_types_expressions.specs.Named.{named_in_declarator}
+use Rattle.c_rules.specs.Named.{named_in_declarator}
 use Rattle.c_types_expressions.specs.Passes.{Passes}
 use Rattle.c_types.specs.declared.structures.Members.{Members}
 use Rattle.c_types.specs.Outside.{defs_in}

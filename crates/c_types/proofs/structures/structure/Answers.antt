@@ -8,8 +8,8 @@ use Rattle.c_types_state.specs.Finding.{Finds, IsType}
 use Rattle.c_types_state.specs.NameTables.{scope_of}
 use Rattle.c_rules.specs.Programs as programs
 use Rattle.c_types_expressions.specs.declared.pass.Pass.{Pass}
-use Rattle.c_types_expressions.specs.Named.{named_at}
-use Rattle.c_types.specs.NamedItems.{named_in_all_members}
+use Rattle.c_rules.specs.Named.{named_at}
+use Rattle.c_rules.specs.NamedItems.{named_in_all_members}
 use Rattle.c_types.proofs.Completions.{is_again, covers-struct, struct-stays, members-same, not-again, is-before, still-open, Completes, reaches-completed, reaches-before, is-a-struct, reaches-named}
 use Rattle.c_types.proofs.structures.structure.Goals.{in-Struct-true+in_ok-complete, in_default, in_default-via-in-Struct+else-is_open, in_default-via-in_default}
 use Rattle.c_types.proofs.structures.structure.Goals as goal

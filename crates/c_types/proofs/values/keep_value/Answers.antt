@@ -1,7 +1,7 @@
 use Rattle.std.proofs.Common.{ap, ◌∙◌}
 use Rattle.c_rules.specs.Elaborated.{known_value}
 use Rattle.c_types_state.proofs.Findings.{seen-known}
-use Rattle.c_types_operands.specs.Operands.{OperandStands, operand_in}
+use Rattle.c_types_state.specs.Operands.{OperandStands, operand_in}
 use Rattle.c_types_expressions.proofs.Giving.{stands-now}
 use Rattle.c_types.proofs.Covering.{covers-passes}
 use Rattle.c_types.proofs.KeptValues.{adds-one}

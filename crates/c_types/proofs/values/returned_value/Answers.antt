@@ -5,8 +5,8 @@ use Rattle.c_typed.specs.Table.{type_in}
 use Rattle.c_rules.specs.declared.rule.TypeRule.TheVariants as T
 use Rattle.c_rules.specs.Known.{unless}
 use Rattle.c_types_state.specs.Finding.{AllStand, each_in}
-use Rattle.c_types_operands.specs.declared.operands.Operand as memory_operand
-use Rattle.c_types_operands.specs.Operands.{OperandStands, operand_in}
+use Rattle.c_types_state.specs.declared.operands.Operand as memory_operand
+use Rattle.c_types_state.specs.Operands.{OperandStands, operand_in}
 use Rattle.c_types_expressions.proofs.Giving.{stands-now}
 use Rattle.c_types.proofs.Returning.{fits_known, noted-stands, noted-all_stand, returned-stays, makes-returned}
 use Rattle.c_types.proofs.values.returned_value.Goals as goal

@@ -4,7 +4,7 @@ use Rattle.c_typed.specs.Views.{value_in, ValueStands}
 use Rattle.c_rules.specs.Elaborated.{known_value}
 use Rattle.c_rules.specs.Operators.{dropped}
 use Rattle.c_types_state.proofs.Findings.{seen-known}
-use Rattle.c_types_operands.specs.Operands.{OperandStands, operand_in}
+use Rattle.c_types_state.specs.Operands.{OperandStands, operand_in}
 use Rattle.c_types_expressions.proofs.Giving.{stands-now}
 use Rattle.c_types.proofs.Covering.{covers-passes}
 use Rattle.c_types.proofs.values.unused.Goals as goal

@@ -1,13 +1,13 @@
 use Rattle.std.proofs.Common.{subst}
 use Rattle.std.proofs.lemmas.Result.{IfOk-weaker}
-use Rattle.text_place.specs.declared.place.Pos.{Pos}
+use Rattle.run_theory.specs.declared.place.Pos.{Pos}
 use Rattle.c_syntax.specs.Views.{expr_tree}
 use Rattle.c_rules.specs.Known.{given, value_rule}
 use Rattle.c_rules.specs.Expressions.{expr}
 use Rattle.c_types_state.specs.Finding.{ExprStands, expr_in}
 use Rattle.c_types_state.specs.NameTables.{scope_of}
-use Rattle.c_types_operands.specs.Operands.{IsOperand}
-use Rattle.c_types_expressions.specs.Named.{named_in}
+use Rattle.c_types_state.specs.Operands.{IsOperand}
+use Rattle.c_rules.specs.Named.{named_in}
 use Rattle.c_types_expressions.specs.Passes.{Passes}
 use Rattle.c_types_expressions.proofs.Giving.{stands-now}
 use Rattle.c_types_expressions.proofs.Passing.{passes-one, with_checker}

@@ -1,7 +1,7 @@
 use Rattle.std.proofs.Common.{◌+◌, ◌<◌, ◌^◌, ap, sym, ◌∙◌}
 use Rattle.c_syntax.specs.Trees as Trees
 use Rattle.c_syntax.specs.Views.{expr_tree}
-use Rattle.c_types_expressions.proofs.Calls.{inside-counted}
+use Rattle.c_types_expressions.proofs.CTypesExpressions.Calls.{inside-counted}
 use Rattle.c_types_expressions.proofs.expressions.library_called.Goals as goal
 
 pub loop-function-preserved : goal.loop-function-preserved

@@ -1,5 +1,5 @@
 use Rattle.c_syntax.specs.Views.{expr_tree}
-use Rattle.c_types_expressions.proofs.Calls.{Inside}
+use Rattle.c_types_expressions.proofs.CTypesExpressions.Calls.{Inside}
 use Rattle.c_types_expressions.proofs.expressions.library_called.Given as goal
 
 abbrev pub invariant-loop-function : goal.invariant-loop-function

@@ -1,7 +1,7 @@
 use Rattle.c_rules.specs.Operators.{assignment}
 use Rattle.c_rules.specs.Known.{with_known}
 use Rattle.c_types_state.specs.Finding.{each_in}
-use Rattle.c_types_operands.specs.Operands.{operand_in, target_in}
+use Rattle.c_types_state.specs.Operands.{operand_in, target_in}
 use Rattle.c_types_expressions.proofs.Deriving.{operand-known, two-there, one-lacks, second-lacks}
 use Rattle.c_types_expressions.proofs.forms.assignment_of.Goals.{in_default-via-in-Some+in_default, in_default-via-in_default}
 use Rattle.c_types_expressions.proofs.forms.assignment_of.Goals as goal

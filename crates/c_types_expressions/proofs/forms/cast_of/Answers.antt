@@ -1,7 +1,7 @@
 use Rattle.c_typed.specs.Table.{type_in}
 use Rattle.c_rules.specs.Operators.{cast_to}
 use Rattle.c_types_state.specs.NameTables.{scope_of}
-use Rattle.c_types_operands.specs.Operands.{operand_in}
+use Rattle.c_types_state.specs.Operands.{operand_in}
 use Rattle.c_types_expressions.proofs.Deriving.{operand-known, two-there}
 use Rattle.c_types_expressions.proofs.forms.cast_of.Goals as goal
 

@@ -1,7 +1,7 @@
 use Rattle.c_rules.specs.Operators.{choice}
 use Rattle.c_rules.specs.Known.{with_known}
 use Rattle.c_types_state.specs.Finding.{each_in, condition_in}
-use Rattle.c_types_operands.specs.Operands.{operand_in}
+use Rattle.c_types_state.specs.Operands.{operand_in}
 use Rattle.c_types_expressions.proofs.Deriving.{operand-known, one-there, two-there, one-lacks, second-lacks, third-lacks}
 use Rattle.c_types_expressions.proofs.forms.choice_of.Goals.{in_default-via-in-Some+in-Some+in_default, in_default-via-in-Some+in_default, in_default-via-in_default}
 use Rattle.c_types_expressions.proofs.forms.choice_of.Goals as goal

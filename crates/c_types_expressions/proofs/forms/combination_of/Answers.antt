@@ -1,6 +1,6 @@
 use Rattle.c_rules.specs.Operators.{combined}
 use Rattle.c_types_state.specs.NameTables.{scope_of}
-use Rattle.c_types_operands.specs.Operands.{operand_in}
+use Rattle.c_types_state.specs.Operands.{operand_in}
 use Rattle.c_types_expressions.proofs.Deriving.{operand-known, two-there, one-lacks, second-lacks}
 use Rattle.c_rules.specs.Known.{with_known}
 use Rattle.c_types_state.specs.Finding.{each_in}

@@ -1,17 +1,17 @@
 use Rattle.std.proofs.Common.{◌≡◌, length, sym, ap, subst, ◌∙◌}
 use Rattle.tac_ir.specs.Views.{tac_of}
 use Rattle.c_typed.specs.Table.{structs_in}
-use Rattle.graph_memory.specs.Memory.{graph_in}
-use Rattle.graph_steps.specs.Leading.{Leads}
-use Rattle.call_copies.specs.Telling.{OnlyAsked}
-use Rattle.group_rounds.specs.Rounds.{owners_of, Settled, AreFit}
-use Rattle.group_rounds.specs.Growing.{OnlyArrays}
-use Rattle.group_rounds.specs.Sizes.{SizesTold, AsksOwner}
+use Rattle.graph_unification.specs.Memory.{graph_in}
+use Rattle.graph_unification.specs.Leading.{Leads}
+use Rattle.dsa_inlining.specs.CallCopies.Telling.{OnlyAsked}
+use Rattle.dsa_local.specs.Rounds.{owners_of, Settled, AreFit}
+use Rattle.dsa_local.specs.Growing.{OnlyArrays}
+use Rattle.dsa_local.specs.Sizes.{SizesTold, AsksOwner}
 use Rattle.dsa_local.proofs.Fitted.{all_fit}
-use Rattle.group_crossings.specs.Before.{graphs_before}
-use Rattle.group_crossings.specs.Asking.{AsksCall}
-use Rattle.group_crossings.specs.Crossings.{owners_in, EachStands, AllCopiesTold}
-use Rattle.group_crossings.proofs.Keeping.{stands_each}
+use Rattle.dsa_inlining.specs.Before.{graphs_before}
+use Rattle.dsa_inlining.specs.Asking.{AsksCall}
+use Rattle.dsa_inlining.specs.Crossings.{owners_in, EachStands, AllCopiesTold}
+use Rattle.dsa_inlining.proofs.Keeping.{stands_each}
 use Rattle.dsa_bottom_up.specs.Assembling.{TellEach}
 use Rattle.dsa_bottom_up.proofs.Leading.{settled_leads}
 use Rattle.dsa_bottom_up.proofs.FrozenBases.{bases_kept, bases_frozen}

@@ -1,6 +1,6 @@
 use Rattle.std.proofs.Common.{◌≡◌, ◌+◌, get_or, drop}
-use Rattle.call_targets.specs.ClassLists.{numbers_of}
-use Rattle.group_counts.specs.Counting.{total}
+use Rattle.call_graph.specs.ClassLists.{numbers_of}
+use Rattle.dsa_inlining.specs.Counting.{total}
 use Rattle.dsa_bottom_up.proofs.counting.own_count.Given as goal
 
 abbrev pub invariant-loop-member : goal.invariant-loop-member

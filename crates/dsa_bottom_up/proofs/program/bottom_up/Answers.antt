@@ -1,8 +1,8 @@
 use Rattle.std.proofs.Common.{◌≡◌, suc, ◌+◌, Err, length, sym, ap, subst, arith}
 use Rattle.std.specs.Prelude.{IsErrAnd}
-use Rattle.function_groups.specs.GroupViews.{groups_of}
-use Rattle.assembled_groups.specs.Making.{IsMaking}
-use Rattle.assembled_groups.proofs.Ending.{making_begins}
+use Rattle.call_graph.specs.GroupViews.{groups_of}
+use Rattle.dsa_bottom_up.specs.AssembledGroups.Making.{IsMaking}
+use Rattle.dsa_bottom_up.proofs.Ending.{making_begins}
 use Rattle.dsa_bottom_up.specs.declared.program.GraphErr.TheVariants as E
 use Rattle.dsa_bottom_up.specs.Making.{made_in, AreKeptBelow}
 use Rattle.dsa_bottom_up.proofs.Finishing.{groups_many}

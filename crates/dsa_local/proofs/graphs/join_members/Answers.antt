@@ -2,12 +2,12 @@ use Rattle.std.proofs.Common.{get_or, arith}
 use Rattle.std.proofs.lemmas.List.{length-map}
 use Rattle.tac_ir.specs.declared.register.FunctionId.{FunctionId}
 use Rattle.c_typed.specs.Table.{structs_in}
-use Rattle.graph_rows.proofs.Lists.{has_at}
-use Rattle.call_targets.specs.ClassLists.{numbers_of}
-use Rattle.inner_calls.specs.Joined.{CallsJoined}
-use Rattle.inner_calls.specs.Members.{code_of, shown, is_inside}
-use Rattle.inner_calls.proofs.Joining.{AtEach, joins_none, joins_next}
-use Rattle.inner_calls.proofs.Kept.{calls_joined_kept, classes_joined_kept, all_have_own}
+use Rattle.call_graph.proofs.RowLists.{has_at}
+use Rattle.call_graph.specs.ClassLists.{numbers_of}
+use Rattle.dsa_local.specs.Joined.{CallsJoined}
+use Rattle.dsa_local.specs.Members.{code_of, shown, is_inside}
+use Rattle.dsa_local.proofs.Joining.{AtEach, joins_none, joins_next}
+use Rattle.dsa_local.proofs.InnerCalls.Kept.{calls_joined_kept, classes_joined_kept, all_have_own}
 use Rattle.dsa_local.proofs.Scoping.{none, number_at}
 use Rattle.dsa_local.proofs.Assembling.{members_joined}
 use Rattle.dsa_local.proofs.graphs.join_members.Goals as goal

@@ -1,8 +1,8 @@
-use Rattle.call_targets.specs.ClassLists.{numbers_of}
-use Rattle.graph_memory.specs.Memory.{IsGraph}
-use Rattle.inner_calls.specs.Joined.{CallsJoined, ClassesJoined, Joins, AllHaveOwn}
-use Rattle.inner_calls.specs.Members.{code_of, shown, is_inside}
-use Rattle.inner_calls.proofs.Joining.{Below, AtEach}
+use Rattle.call_graph.specs.ClassLists.{numbers_of}
+use Rattle.graph_unification.specs.Memory.{IsGraph}
+use Rattle.dsa_local.specs.Joined.{CallsJoined, ClassesJoined, Joins, AllHaveOwn}
+use Rattle.dsa_local.specs.Members.{code_of, shown, is_inside}
+use Rattle.dsa_local.proofs.Joining.{Below, AtEach}
 use Rattle.dsa_local.proofs.graphs.join_members.Given as goal
 
 -- the calls of the functions so far are joined

@@ -3,14 +3,14 @@ use Rattle.std.specs.Prelude.{slice_get}
 use Rattle.std.proofs.lemmas.Option.{slice_get-map, slice_get_read, get_or_from_slice_get}
 use Rattle.tac_ir.specs.declared.register.FunctionId.{FunctionId}
 use Rattle.tac_ir.specs.Views.{tac_of}
-use Rattle.graph_memory.specs.Memory.{owner_of, graph_in}
-use Rattle.call_targets.specs.ClassLists.{numbers_of}
-use Rattle.function_groups.specs.GroupViews.{lists_of, groups_of}
-use Rattle.group_begins.specs.Beginning.{Begins}
-use Rattle.group_begins.specs.Told.{NamesTold}
-use Rattle.inner_calls.specs.declared.members.Group.{Group}
-use Rattle.inner_calls.specs.Members.{is_inside}
-use Rattle.inner_calls.proofs.Kept.{all_have_own}
+use Rattle.graph_unification.specs.Memory.{owner_of, graph_in}
+use Rattle.call_graph.specs.ClassLists.{numbers_of}
+use Rattle.call_graph.specs.GroupViews.{lists_of, groups_of}
+use Rattle.dsa_local.specs.Beginning.{Begins}
+use Rattle.dsa_local.specs.Told.{NamesTold}
+use Rattle.dsa_local.specs.declared.members.Group.{Group}
+use Rattle.dsa_local.specs.Members.{is_inside}
+use Rattle.dsa_local.proofs.InnerCalls.Kept.{all_have_own}
 use Rattle.dsa_local.specs.Local.{owners_in, owners_at}
 use Rattle.dsa_local.proofs.Keeping.{copies_kept, have_own}
 use Rattle.dsa_local.proofs.Owning.{inside_among, has_inside, listed_within}

@@ -1,9 +1,9 @@
 use Rattle.std.proofs.Common.{◌≡◌, false, map, None, [], ◌∷◌, ◌++◌, refl, sym, ap, subst, ◌∙◌}
 use Rattle.tac_ir.specs.States.{InStart}
 use Rattle.tac_ir.specs.Views.{tac_of}
-use Rattle.graph_memory.specs.Memory.{owner_of, graph_in}
-use Rattle.group_begins.specs.Beginning.{Begins}
-use Rattle.function_scopes.specs.Known.{owner_at}
+use Rattle.graph_unification.specs.Memory.{owner_of, graph_in}
+use Rattle.dsa_local.specs.Beginning.{Begins}
+use Rattle.heap_graph.specs.Known.{owner_at}
 use Rattle.dsa_local.specs.Local.{AreScopes}
 use Rattle.dsa_local.proofs.Leading.{begun_leads}
 use Rattle.dsa_local.proofs.Scoping.{scope_told}

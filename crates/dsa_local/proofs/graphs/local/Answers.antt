@@ -1,8 +1,8 @@
 use Rattle.std.proofs.Common.{◌≡◌, sym, ap, subst, ◌∙◌}
 use Rattle.tac_ir.specs.Views.{tac_of}
-use Rattle.graph_memory.specs.Memory.{graph_in}
-use Rattle.function_groups.specs.GroupViews.{groups_of}
-use Rattle.group_rounds.specs.Rounds.{owners_of, Settled, AreFit}
+use Rattle.graph_unification.specs.Memory.{graph_in}
+use Rattle.call_graph.specs.GroupViews.{groups_of}
+use Rattle.dsa_local.specs.Rounds.{owners_of, Settled, AreFit}
 use Rattle.dsa_local.specs.Local.{owners_at, is_of}
 use Rattle.dsa_local.proofs.Keeping.{joined_kept, copies_kept}
 use Rattle.dsa_local.proofs.Fitted.{all_fit}

@@ -1,8 +1,8 @@
 use Rattle.std.proofs.Common.{◌+◌, map, take, get_or, Some, refl, ap, ◌∙◌}
 use Rattle.tac_ir.specs.States.{InFunction}
-use Rattle.graph_memory.specs.Memory.{owner_of}
-use Rattle.graph_rows.proofs.Lists.{take_all}
-use Rattle.call_targets.specs.ClassLists.{numbers_of}
+use Rattle.graph_unification.specs.Memory.{owner_of}
+use Rattle.call_graph.proofs.RowLists.{take_all}
+use Rattle.call_graph.specs.ClassLists.{numbers_of}
 use Rattle.dsa_local.specs.Local.{owners_in}
 use Rattle.dsa_local.proofs.Collecting.{map_more}
 use Rattle.dsa_local.proofs.Scoping.{none, numbers_more}

@@ -1,6 +1,6 @@
 use Rattle.std.proofs.Common.{◌≡◌, map, take}
-use Rattle.graph_memory.specs.Memory.{owner_of}
-use Rattle.call_targets.specs.ClassLists.{numbers_of}
+use Rattle.graph_unification.specs.Memory.{owner_of}
+use Rattle.call_graph.specs.ClassLists.{numbers_of}
 use Rattle.dsa_local.specs.Local.{owners_in}
 use Rattle.dsa_local.proofs.graphs.owners.Given as goal
 

@@ -2,11 +2,11 @@ use Rattle.std.proofs.Common.{◌≡◌, ◌<◌, ◌+◌, take, get_or, length,
 use Rattle.std.proofs.lemmas.Option.{slice_get-map, slice_get_read}
 use Rattle.tac_ir.specs.States.{InFunction, function_of}
 use Rattle.tac_ir.specs.Views.{function_in, tac_of}
-use Rattle.graph_rows.proofs.Lists.{take_all, has_at}
-use Rattle.call_targets.specs.ClassLists.{numbers_of}
-use Rattle.function_scopes.specs.declared.scope.Scope.{Scope}
-use Rattle.function_scopes.specs.Known.{owner_at}
-use Rattle.group_rounds.specs.Rounds.{owners_of}
+use Rattle.call_graph.proofs.RowLists.{take_all, has_at}
+use Rattle.call_graph.specs.ClassLists.{numbers_of}
+use Rattle.heap_graph.specs.declared.scope.Scope.{Scope}
+use Rattle.heap_graph.specs.Known.{owner_at}
+use Rattle.dsa_local.specs.Rounds.{owners_of}
 use Rattle.dsa_local.specs.Local.{owners_in, IsScope, AreScopes}
 use Rattle.dsa_local.proofs.Collecting.{all_more, map_more}
 use Rattle.dsa_local.proofs.Scoping.{none, number_at, numbers_more, scope_told}

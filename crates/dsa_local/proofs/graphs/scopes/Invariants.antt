@@ -1,6 +1,6 @@
 use Rattle.std.proofs.Common.{◌≡◌, take}
-use Rattle.call_targets.specs.ClassLists.{numbers_of}
-use Rattle.group_rounds.specs.Rounds.{owners_of}
+use Rattle.call_graph.specs.ClassLists.{numbers_of}
+use Rattle.dsa_local.specs.Rounds.{owners_of}
 use Rattle.dsa_local.specs.Local.{owners_in, AreScopes}
 use Rattle.dsa_local.proofs.graphs.scopes.Given as goal
 

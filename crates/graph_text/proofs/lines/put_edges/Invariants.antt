@@ -1,5 +1,5 @@
 use Rattle.std.proofs.Common.{◌≡◌, ◌++◌, drop}
-use Rattle.node_order.specs.Orders.{number_of}
+use Rattle.heap_graph.specs.Orders.{number_of}
 use Rattle.graph_text.specs.Texts.{edges_text}
 use Rattle.graph_text.proofs.lines.put_edges.Given as goal
 

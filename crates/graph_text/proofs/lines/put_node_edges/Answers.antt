@@ -1,6 +1,6 @@
 use Rattle.std.proofs.Common.{◌++◌, sym, ap, ◌∙◌}
-use Rattle.node_order.specs.Orders.{number_of}
-use Rattle.node_order.proofs.Slots.{by_slot_same}
+use Rattle.heap_graph.specs.Orders.{number_of}
+use Rattle.heap_graph.proofs.Slots.{by_slot_same}
 use Rattle.graph_text.specs.Texts.{edges_text}
 use Rattle.graph_text.proofs.lines.put_node_edges.Goals as goal
 

@@ -1,5 +1,5 @@
 use Rattle.std.proofs.Common.{◌≡◌, ◌+◌, ◌-◌, ◌*◌, ◌/◌, ◌%◌, ◌^◌, ap, sym, ◌∙◌, arith}
-use Rattle.raw_slab.specs.Words.{word_at}
+use Rattle.run_theory.specs.Words.{word_at}
 use Rattle.machine.specs.Pages.{bytes_in}
 use Rattle.machine.proofs.WordPieces.{word_in_two, pieces_small, power_few, shifted}
 use Rattle.machine.proofs.pages.read_across.Goals as goal

@@ -1,7 +1,7 @@
 use Rattle.std.proofs.Common.{None, sym, ap, ◌∙◌, arith}
 use Rattle.std.proofs.Math.Nat.{one-le-pow}
 use Rattle.std.proofs.lemmas.List.{get_or_read}
-use Rattle.raw_slab.specs.Words.{word_at}
+use Rattle.run_theory.specs.Words.{word_at}
 use Rattle.machine.specs.Pages.{page_bytes}
 use Rattle.machine.proofs.PageBytes.{word_in_page, word_of_zeros}
 use Rattle.machine.proofs.pages.read_in.Goals as goal

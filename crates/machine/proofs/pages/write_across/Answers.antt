@@ -1,6 +1,6 @@
 use Rattle.std.proofs.Common.{◌≡◌, ℕ, ◌+◌, ◌-◌, ◌*◌, ◌/◌, ◌%◌, ◌^◌, ◌≤◌, List, length, ap, sym, ◌∙◌, arith}
 use Rattle.byteorder.proofs.Bytes.{pow256}
-use Rattle.raw_slab.specs.Words.{with_word}
+use Rattle.run_theory.specs.Words.{with_word}
 use Rattle.machine.specs.Pages.{bytes_in}
 use Rattle.machine.proofs.PageBytes.{length-bytes_in}
 use Rattle.machine.proofs.WordPieces.{written_in_two}

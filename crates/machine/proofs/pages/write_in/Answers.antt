@@ -1,6 +1,6 @@
 use Rattle.std.proofs.Common.{ℕ, List, None, Some, get_or, sym, ap, ◌∙◌}
 use Rattle.std.proofs.lemmas.List.{get_or_read, set-set}
-use Rattle.raw_slab.specs.Words.{with_word}
+use Rattle.run_theory.specs.Words.{with_word}
 use Rattle.machine.specs.Pages.{page_bytes, bytes_in}
 use Rattle.machine.proofs.PageBytes.{written_in_page}
 use Rattle.machine.proofs.pages.write_in.Goals as goal

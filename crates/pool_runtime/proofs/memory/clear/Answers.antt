@@ -1,5 +1,5 @@
 use Rattle.std.proofs.Common.{ℕ, ◌+◌, List, ap, sym, subst, ◌∙◌, arith}
-use Rattle.raw_slab.specs.Words.{with_word}
+use Rattle.run_theory.specs.Words.{with_word}
 use Rattle.slab_space.specs.Space.{Space}
 use Rattle.slab_space.proofs.WithRun.{length-with_run}
 use Rattle.pool_runtime.specs.Tables.{IsSpace}

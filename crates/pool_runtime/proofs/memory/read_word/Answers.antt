@@ -1,5 +1,5 @@
 use Rattle.std.proofs.Common.{◌≡◌, ◌+◌, ◌-◌, ◌*◌, ◌/◌, ◌%◌, ◌^◌, ap, sym, ◌∙◌, arith}
-use Rattle.raw_slab.specs.Words.{word_at}
+use Rattle.run_theory.specs.Words.{word_at}
 use Rattle.pool_runtime.proofs.Pieces.{word_in_two, pieces_small, power_few, shifted}
 use Rattle.pool_runtime.proofs.memory.read_word.Goals as goal
 

@@ -1,6 +1,6 @@
 use Rattle.std.proofs.Common.{◌≡◌, ℕ, ◌+◌, ◌-◌, ◌*◌, ◌/◌, ◌%◌, ◌^◌, ◌≤◌, List, length, ap, sym, ◌∙◌, arith}
 use Rattle.byteorder.proofs.Bytes.{pow256}
-use Rattle.raw_slab.specs.Words.{with_word}
+use Rattle.run_theory.specs.Words.{with_word}
 use Rattle.slab_space.specs.Space.{Space}
 use Rattle.pool_runtime.proofs.Pieces.{written_in_two}
 use Rattle.pool_runtime.proofs.Ranges.{held_inside}

@@ -2,7 +2,7 @@ use Rattle.std.proofs.Common.{List, subst}
 use Rattle.c_typed.specs.declared.typed.Value.{Value}
 use Rattle.c_typed.specs.Views.{values_in}
 use Rattle.c_typed.specs.DefinitionViews.{program_of}
-use Rattle.code_graphs.specs.Graphed.{AreCounts}
+use Rattle.dsa_bottom_up.specs.Graphed.{AreCounts}
 use Rattle.poolcc.specs.Lowered.{first_of}
 use Rattle.poolcc.proofs.compilation.analyse.Goals as goal
 

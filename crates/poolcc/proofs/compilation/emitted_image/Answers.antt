@@ -5,8 +5,8 @@ use Rattle.pool_isa.specs.Machine as M
 use Rattle.pool_rewrite.specs.Plan.{Plan}
 use Rattle.pool_rewrite.specs.Rewriting.{rewritten}
 use Rattle.pool_rewrite.specs.Views.{plan_of}
-use Rattle.pool_premises.proofs.Rewritable.{one_pool_rewritable}
-use Rattle.pool_stack.specs.Emitting.{emitted}
+use Rattle.backend_correct.proofs.Rewritable.{one_pool_rewritable}
+use Rattle.stack_code.specs.Emitting.{emitted}
 use Rattle.pool_linker.specs.Linking.{linked}
 use Rattle.stack_code.specs.Units.{units_code}
 use Rattle.image_form.specs.declared.image.Image.{Image}

@@ -1,5 +1,5 @@
 use Rattle.std.proofs.Common.{ℕ, sym, subst}
-use Rattle.pcc_status.specs.declared.status.Status.{Status}
+use Rattle.pcc_words.specs.declared.status.Status.{Status}
 use Rattle.image_form.specs.Form.{form_of}
 use Rattle.image_form.specs.declared.image.Image.{Image}
 use Rattle.image_form.specs.declared.image.ImageErr.{ImageErr}

@@ -1,6 +1,6 @@
 use Rattle.std.proofs.Common.{sym, subst}
 use Rattle.ref_meaning.specs.Running.{behaviour_of}
-use Rattle.pcc_status.specs.declared.status.Status.{Status}
+use Rattle.pcc_words.specs.declared.status.Status.{Status}
 use Rattle.poolcc.specs.Ref.{ProgramGives, RefGives}
 use Rattle.poolcc.proofs.Referring.{ref_gives}
 use Rattle.poolcc.proofs.reference.ref_text.Goals as goal

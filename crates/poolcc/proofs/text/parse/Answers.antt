@@ -1,9 +1,9 @@
 use Rattle.std.proofs.Common.{Err, sym, ap, ◌∙◌, subst}
-use Rattle.text_place.specs.Places.{first_place}
-use Rattle.c_token.specs.Leaves.{leaves_of}
+use Rattle.run_theory.specs.Places.{first_place}
+use Rattle.c_grammar.specs.Leaves.{leaves_of}
 use Rattle.c_lexer.specs.Tokens.{Divides}
 use Rattle.c_syntax.specs.Views.{program_tree}
-use Rattle.c_reader.specs.Readings.{Refuses, IsReadUnlessMemory}
+use Rattle.c_reader.specs.ProgramReadings.{Refuses, IsReadUnlessMemory}
 use Rattle.poolcc.proofs.Reading.{reads_as, unread}
 use Rattle.poolcc.proofs.text.parse.Goals as goal
 

@@ -1,7 +1,7 @@
 use Rattle.std.proofs.Common.{◌≡◌, ◌⊎◌, refl, sym, subst}
-use Rattle.pcc_status.specs.declared.status.Status.{Status}
-use Rattle.pcc_status.specs.declared.status.Status.TheVariants as S
-use Rattle.pcc_status.specs.declared.status.Refusal.TheVariants as R
+use Rattle.pcc_words.specs.declared.status.Status.{Status}
+use Rattle.pcc_words.specs.declared.status.Status.TheVariants as S
+use Rattle.pcc_words.specs.declared.status.Refusal.TheVariants as R
 use Rattle.poolcc.specs.Compiled.{image_run}
 use Rattle.c_rules.specs.Elaborated as elaborated
 use Rattle.ref_meaning.specs.Running.{behaviour_of}

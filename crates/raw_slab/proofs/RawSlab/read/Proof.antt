@@ -33,7 +33,7 @@ use types.Run.{look, hop, fld, stop, addr, of_opd, first, blocks, exec, returns,
 use Rattle.std_alloc.proofs.Words.{pointer_in, pointer_out}
 use Rattle.std.specs.contracts.alloc.Global as Heap
 use Rattle.std.proofs.alloc.Global.TheLaws as heap
-use Rattle.raw_slab.specs.Words.{word_at}
+use Rattle.run_theory.specs.Words.{word_at}
 use Rattle.raw_slab.specs.contracts.RawSlab as Slab
 use Rattle.raw_slab.specs.contracts.RawSlab.read as f
 use Rattle.raw_slab.specs.contracts.read_word as g

@@ -34,7 +34,7 @@ use types.Run.{hop, fld, stop, addr, of_opd, unit_lit, first, blocks, exec, retu
 use types.SemTy.{Body as Borrowed}
 use types.Tokens.{lft_new, lft_end}
 use Rattle.std.specs.contracts.impls.GlobalAllocator.TheImpl.{ghosts}
-use Rattle.raw_slab.specs.Words.{with_word}
+use Rattle.run_theory.specs.Words.{with_word}
 use Rattle.raw_slab.specs.contracts.RawSlab.{the_row as R}
 use Rattle.raw_slab.specs.contracts.RawSlab.write as f
 use Rattle.raw_slab.specs.contracts.write_word as g

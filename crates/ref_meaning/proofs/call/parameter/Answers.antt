@@ -1,5 +1,5 @@
 use Rattle.std.proofs.Common.{IfSome, sym, subst}
-use Rattle.ref_store.specs.Fitting.{IsObjectType}
+use Rattle.ref_meaning.specs.Fitting.{IsObjectType}
 use Rattle.ref_meaning.specs.Trees.{TypesFit}
 use Rattle.ref_meaning.specs.Holding.{NodeStands}
 use Rattle.ref_meaning.proofs.Arguments.{parameter-stands}

@@ -1,6 +1,6 @@
 use Rattle.std.proofs.Common.{subst}
-use Rattle.ref_store.specs.declared.value.Name.TheVariants as M
-use Rattle.ref_store.proofs.Fitting.{literal_elements, first_stands, first_element, whole_fits, whole_room}
+use Rattle.ref_meaning.specs.declared.value.Name.TheVariants as M
+use Rattle.ref_meaning.proofs.Fitting.{literal_elements, first_stands, first_element, whole_fits, whole_room}
 use Rattle.ref_meaning.specs.Trees.{ObjectFits}
 use Rattle.ref_meaning.proofs.entry.object_entry.Goals as goal
 

@@ -2,9 +2,9 @@ use Rattle.std.proofs.Common.{ℤ, FitsSigned, to_z-of_z, sym, subst, ◌∙◌}
 use Rattle.std.specs.Int.{w128}
 use Rattle.c_typed.specs.Views.{object_in}
 use Rattle.ref_semantics.specs.Pointers.{added}
-use Rattle.ref_steps.specs.Parts.{address_of_both}
-use Rattle.ref_store.specs.Views.{scalar_in}
-use Rattle.ref_store.specs.Holding.{CallGives}
+use Rattle.ref_semantics.specs.Parts.{address_of_both}
+use Rattle.ref_meaning.specs.RefStore.Views.{scalar_in}
+use Rattle.ref_meaning.specs.RefStore.Holding.{CallGives}
 use Rattle.ref_meaning.proofs.operand.after_address.Goals as goal
 
 pub returns-in-Element-clause-gives : goal.returns-in-Element-clause-gives

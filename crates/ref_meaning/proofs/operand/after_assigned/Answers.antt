@@ -3,9 +3,9 @@ use Rattle.std.specs.Int.{w128}
 use Rattle.c_typed.specs.Views.{value_in}
 use Rattle.ref_semantics.specs.Values.{integer_of}
 use Rattle.ref_semantics.specs.Meaning.{converted}
-use Rattle.ref_steps.specs.Parts.{value_of_both}
-use Rattle.ref_store.specs.Views.{scalar_in}
-use Rattle.ref_store.specs.Holding.{CallGives}
+use Rattle.ref_semantics.specs.Parts.{value_of_both}
+use Rattle.ref_meaning.specs.RefStore.Views.{scalar_in}
+use Rattle.ref_meaning.specs.RefStore.Holding.{CallGives}
 use Rattle.ref_meaning.proofs.Both.{gives-handed, read-stopped, written, write-stopped, operated, operator-stopped, operator-then, moved, move-stopped, move-then}
 use Rattle.ref_meaning.proofs.operand.after_assigned.Goals as goal
 

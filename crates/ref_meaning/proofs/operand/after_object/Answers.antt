@@ -4,10 +4,10 @@ use Rattle.c_typed.specs.Views.{object_in}
 use Rattle.ref_semantics.specs.Values.{PointerValue, integer_of}
 use Rattle.ref_semantics.specs.Store.{give}
 use Rattle.ref_semantics.specs.Pointers.{element}
-use Rattle.ref_steps.specs.Parts.{object_of_both}
-use Rattle.ref_store.specs.declared.value.Scalar.TheVariants as M
-use Rattle.ref_store.specs.Views.{place_in, scalar_in}
-use Rattle.ref_store.specs.Holding.{CallGives}
+use Rattle.ref_semantics.specs.Parts.{object_of_both}
+use Rattle.ref_meaning.specs.declared.value.Scalar.TheVariants as M
+use Rattle.ref_meaning.specs.RefStore.Views.{place_in, scalar_in}
+use Rattle.ref_meaning.specs.RefStore.Holding.{CallGives}
 use Rattle.ref_meaning.proofs.Both.{gives-stopped, gives-bind, gives-handed, gives-same}
 use Rattle.ref_meaning.proofs.operand.after_object.Goals as goal
 use Rattle.ref_meaning.proofs.operand.after_object.Goals.{in-Element+in_ok-found-in-Element, in-ElementOf+in_ok-found-in-ElementOf}

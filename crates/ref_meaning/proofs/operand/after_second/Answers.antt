@@ -1,7 +1,7 @@
 use Rattle.std.proofs.Common.{sym, subst}
-use Rattle.ref_steps.specs.Parts.{both_of}
-use Rattle.ref_store.specs.Views.{scalar_in}
-use Rattle.ref_store.specs.Holding.{CallGives}
+use Rattle.ref_semantics.specs.Parts.{both_of}
+use Rattle.ref_meaning.specs.RefStore.Views.{scalar_in}
+use Rattle.ref_meaning.specs.RefStore.Holding.{CallGives}
 use Rattle.ref_meaning.specs.Views.{part_in}
 use Rattle.ref_meaning.proofs.operand.after_second.Goals as goal
 

@@ -6,8 +6,8 @@ use Rattle.c_num.proofs.Words.{value_fits}
 use Rattle.c_typed.specs.Table.{empty}
 use Rattle.ref_semantics.specs.Values.{integer_of}
 use Rattle.ref_semantics.specs.Meaning.{arithmetic, right_of}
-use Rattle.ref_store.specs.Views.{scalar_in}
-use Rattle.ref_store.specs.Holding.{IsUndefined}
+use Rattle.ref_meaning.specs.RefStore.Views.{scalar_in}
+use Rattle.ref_meaning.specs.RefStore.Holding.{IsUndefined}
 use Rattle.ref_meaning.proofs.Both.{shifts-right, other-right, no_shift, right-fits, comes-arithmetic, undefined-arithmetic}
 use Rattle.ref_meaning.proofs.operand.arithmetic.Goals as goal
 use Rattle.ref_meaning.proofs.operand.arithmetic.Goals.{in-Shl, in_default}

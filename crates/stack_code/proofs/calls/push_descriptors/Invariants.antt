@@ -1,8 +1,8 @@
 use Rattle.std.proofs.Common.{◌≡◌, ◌++◌, drop}
 use Rattle.std.specs.List.{AllByRecursion}
 use Rattle.pool_ir.specs.Views.{descriptors_of, frame_of, function_of}
-use Rattle.pool_stack.specs.Emitting.{descriptors_code}
-use Rattle.pool_stack.specs.Standing.{HasDescriptor}
+use Rattle.stack_code.specs.Emitting.{descriptors_code}
+use Rattle.stack_code.specs.Standing.{HasDescriptor}
 use Rattle.stack_code.proofs.calls.push_descriptors.Given as goal
 
 -- with the descriptors that are left, the code is the whole

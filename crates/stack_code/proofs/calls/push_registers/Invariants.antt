@@ -1,8 +1,8 @@
 use Rattle.std.proofs.Common.{◌≡◌, ◌++◌, drop}
 use Rattle.std.specs.List.{AllByRecursion}
 use Rattle.pool_ir.specs.Views.{frame_of, function_of}
-use Rattle.pool_stack.specs.Emitting.{registers_code}
-use Rattle.pool_stack.specs.Standing.{HasRegister}
+use Rattle.stack_code.specs.Emitting.{registers_code}
+use Rattle.stack_code.specs.Standing.{HasRegister}
 use Rattle.stack_code.proofs.calls.push_registers.Given as goal
 
 -- with the registers that are left, the code is the whole

@@ -4,7 +4,7 @@ use Rattle.std.proofs.lemmas.List.{append-nil, length-map}
 use Rattle.pool_isa.specs.declared.instr.Instr.{Instr}
 use Rattle.pool_ir.specs.Views.{action_of, function_of, op_of}
 use Rattle.pool_ir.specs.declared.program.Action.{Action}
-use Rattle.pool_stack.specs.Emitting.{opening, actions_code, block}
+use Rattle.stack_code.specs.Emitting.{opening, actions_code, block}
 use Rattle.stack_code.proofs.LaidPoints.{point_at, names_at, block_further, all_blocks}
 use Rattle.stack_code.proofs.functions.instructions.Goals as goal
 

@@ -1,7 +1,7 @@
 use Rattle.std.proofs.Common.{◌≡◌, ◌++◌, map, take}
 use Rattle.std.specs.Prelude.{slice_index}
 use Rattle.pool_ir.specs.Views.{function_of, op_of}
-use Rattle.pool_stack.specs.Emitting.{opening, blocks}
+use Rattle.stack_code.specs.Emitting.{opening, blocks}
 use Rattle.stack_code.proofs.functions.instructions.Given as goal
 
 -- the blocks before the number are appended

@@ -4,7 +4,7 @@ use Rattle.std.proofs.lemmas.List.{append-nil, length-append, length-map, length
 use Rattle.pool_isa.specs.declared.instr.Instr.{Instr}
 use Rattle.pool_ir.specs.Views.{action_of, function_of, op_of}
 use Rattle.pool_ir.specs.declared.program.Action.{Action}
-use Rattle.pool_stack.specs.Emitting.{opening, actions_code, block, place_of}
+use Rattle.stack_code.specs.Emitting.{opening, actions_code, block, place_of}
 use Rattle.stack_code.proofs.LaidPoints.{point_at, names_at, block_further, next_place}
 use Rattle.stack_code.proofs.PlaceTables.{one_more_entry}
 use Rattle.stack_code.proofs.functions.places.Goals as goal

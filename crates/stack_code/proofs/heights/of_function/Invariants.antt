@@ -1,7 +1,7 @@
 use Rattle.std.proofs.Common.{◌≡◌, map, drop}
 use Rattle.std.specs.Prelude.{max}
 use Rattle.pool_ir.specs.Views.{function_of, op_of}
-use Rattle.pool_stack.specs.Emitting.{greatest_height, height_of}
+use Rattle.stack_code.specs.Emitting.{greatest_height, height_of}
 use Rattle.stack_code.proofs.heights.of_function.Given as goal
 
 -- with the points that are left, it is the height of the function

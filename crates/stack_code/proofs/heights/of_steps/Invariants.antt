@@ -1,7 +1,7 @@
 use Rattle.std.proofs.Common.{◌≡◌, ◌≤◌, map, drop}
 use Rattle.std.specs.Prelude.{max}
 use Rattle.pool_ir.specs.Views.{step_of}
-use Rattle.pool_stack.specs.Emitting.{steps_height}
+use Rattle.stack_code.specs.Emitting.{steps_height}
 use Rattle.stack_code.proofs.heights.of_steps.Given as goal
 
 -- with the steps that are left, it is the height of all

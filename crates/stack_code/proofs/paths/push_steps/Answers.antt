@@ -1,7 +1,7 @@
 use Rattle.std.proofs.Common.{◌++◌, map, refl, arith}
 use Rattle.pool_ir.specs.Views.{frame_of, function_of, step_of}
-use Rattle.pool_stack.specs.Emitting.{step_code, steps_code}
-use Rattle.pool_stack.specs.Fitting.{StepFits}
+use Rattle.stack_code.specs.Emitting.{step_code, steps_code}
+use Rattle.stack_code.specs.Fitting.{StepFits}
 use Rattle.stack_code.proofs.AppendedParts.{all_further, appended, appended_all}
 use Rattle.stack_code.proofs.paths.push_steps.Goals as goal
 

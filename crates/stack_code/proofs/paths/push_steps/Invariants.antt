@@ -1,8 +1,8 @@
 use Rattle.std.proofs.Common.{◌≡◌, ◌++◌, map, drop}
 use Rattle.std.specs.List.{AllByRecursion}
 use Rattle.pool_ir.specs.Views.{frame_of, function_of, step_of}
-use Rattle.pool_stack.specs.Emitting.{steps_code}
-use Rattle.pool_stack.specs.Fitting.{StepFits}
+use Rattle.stack_code.specs.Emitting.{steps_code}
+use Rattle.stack_code.specs.Fitting.{StepFits}
 use Rattle.stack_code.proofs.paths.push_steps.Given as goal
 
 -- with the steps that are left, the code is the whole

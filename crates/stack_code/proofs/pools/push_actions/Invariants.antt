@@ -1,8 +1,8 @@
 use Rattle.std.proofs.Common.{◌≡◌, ◌++◌, map, drop}
 use Rattle.std.specs.List.{AllByRecursion}
 use Rattle.pool_ir.specs.Views.{action_of, frame_of, function_of}
-use Rattle.pool_stack.specs.Emitting.{actions_code}
-use Rattle.pool_stack.specs.Fitting.{ActionFits}
+use Rattle.stack_code.specs.Emitting.{actions_code}
+use Rattle.stack_code.specs.Fitting.{ActionFits}
 use Rattle.stack_code.proofs.pools.push_actions.Given as goal
 
 -- with the actions that are left, the code is the whole

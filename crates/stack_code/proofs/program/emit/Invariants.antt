@@ -1,6 +1,6 @@
 use Rattle.std.proofs.Common.{◌≡◌, ◌∷◌, ◌++◌, map, drop}
 use Rattle.pool_ir.specs.Views.{function_of}
-use Rattle.pool_stack.specs.Emitting.{emitted_function}
+use Rattle.stack_code.specs.Emitting.{emitted_function}
 use Rattle.stack_code.specs.Units.{unit_function}
 use Rattle.stack_code.proofs.program.emit.Given as goal
 

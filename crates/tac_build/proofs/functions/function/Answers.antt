@@ -2,8 +2,8 @@ use Rattle.std.proofs.Common.{◌≡◌, true, Some, [], length, map, refl, sym,
 use Rattle.c_typed.specs.Table.{type_in}
 use Rattle.c_typed.specs.StatementViews.{block_in}
 use Rattle.c_typed.specs.DefinitionViews.{TypesStand}
-use Rattle.c_sizes.specs.TypedNodes.{block_nodes}
-use Rattle.c_well_typed.specs.Programs.{are_scalars}
+use Rattle.c_typed.specs.TypedNodes.{block_nodes}
+use Rattle.c_typed.specs.Programs.{are_scalars}
 use Rattle.tac_ir.specs.declared.program.Counts.{Counts}
 use Rattle.tac_ir.specs.declared.program.Function as memory_function
 use Rattle.tac_build.specs.Homes.{takes_block}

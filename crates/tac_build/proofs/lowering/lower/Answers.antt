@@ -3,7 +3,7 @@ use Rattle.std.specs.Prelude.{is_some, codes}
 use Rattle.c_typed.specs.declared.definition.Program as memory_program
 use Rattle.c_typed.specs.Table.{structs_in}
 use Rattle.c_typed.specs.DefinitionViews.{LiteralsStand, global_in, literal_of, program_of}
-use Rattle.c_sizes.specs.TypedNodes.{program_nodes, greatest_nodes}
+use Rattle.c_typed.specs.TypedNodes.{program_nodes, greatest_nodes}
 use Rattle.tac_ir.specs.Views as tac
 use Rattle.tac_build.specs.Code.{function_number}
 use Rattle.tac_build.specs.ProgramCode.{FunctionsCode}

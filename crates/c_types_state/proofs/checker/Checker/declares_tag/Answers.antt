@@ -1,5 +1,5 @@
 use Rattle.std.proofs.Common.{not, Option, ap, ◌∙◌}
-use Rattle.text_place.specs.declared.place.Pos.{Pos}
+use Rattle.run_theory.specs.declared.place.Pos.{Pos}
 use Rattle.c_syntax.specs.Views.{name_tree}
 use Rattle.c_rules.specs.Names.{declares_tag}
 use Rattle.c_types_state.specs.NameTables.{State}

@@ -4,20 +4,20 @@ use Rattle.std.proofs.lemmas.Option.{slice_get-map, slice_get_read}
 use Rattle.c_typed.specs.DefinitionViews.{LiteralsStand}
 use Rattle.tac_ir.specs.declared.register.FunctionId.{FunctionId}
 use Rattle.tac_ir.specs.Views.{tac_of}
-use Rattle.graph_memory.specs.Memory.{graph_in}
-use Rattle.call_targets.specs.ClassLists.{numbers_of}
-use Rattle.function_groups.specs.GroupViews.{lists_of, groups_of, IsOf}
-use Rattle.graph_premises.specs.Standing.{CodeStands}
-use Rattle.frozen_graphs.specs.Frozen.{bare}
-use Rattle.group_statics.specs.Aligned.{AreAligned}
-use Rattle.group_statics.specs.Groups.{HaveStatics}
-use Rattle.group_freezing.specs.Owners.{IsFunctionOf}
+use Rattle.graph_unification.specs.Memory.{graph_in}
+use Rattle.call_graph.specs.ClassLists.{numbers_of}
+use Rattle.call_graph.specs.GroupViews.{lists_of, groups_of, IsOf}
+use Rattle.graph_unification.specs.Standing.{CodeStands}
+use Rattle.heap_graph.specs.Frozen.{bare}
+use Rattle.dsa_inlining.specs.Aligned.{AreAligned}
+use Rattle.dsa_inlining.specs.GroupStatics.Groups.{HaveStatics}
+use Rattle.dsa_inlining.specs.Owners.{IsFunctionOf}
 use Rattle.dsa_local.specs.Local.{IsJoinedGroup, LeadsJoined, owners_at}
-use Rattle.group_crossings.specs.Before.{GraphsBefore, graphs_before, is_inside}
-use Rattle.group_crossings.specs.Crossings.{AllReached, owners_in}
-use Rattle.group_crossings.specs.Live.{AreLive}
-use Rattle.assembled_groups.specs.Assembled.{IsAssembled}
-use Rattle.assembled_groups.proofs.Growing.{all_reached}
+use Rattle.dsa_inlining.specs.Before.{GraphsBefore, graphs_before, is_inside}
+use Rattle.dsa_inlining.specs.Crossings.{AllReached, owners_in}
+use Rattle.dsa_inlining.specs.Live.{AreLive}
+use Rattle.dsa_bottom_up.specs.Assembled.{IsAssembled}
+use Rattle.dsa_bottom_up.proofs.Growing.{all_reached}
 use Rattle.dsa_bottom_up.specs.Assembling.{HasBases}
 use Rattle.dsa_bottom_up.specs.Making.{made_in}
 use Rattle.dsa_bottom_up.proofs.FrozenBases.{self_aligned}

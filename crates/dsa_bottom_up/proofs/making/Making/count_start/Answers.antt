@@ -1,7 +1,7 @@
 use Rattle.std.proofs.Common.{◌<◌, length, sym, subst, ◌∙◌}
 use Rattle.std.proofs.lemmas.Result.{on_ok_weaker}
-use Rattle.function_groups.specs.GroupViews.{groups_of}
-use Rattle.group_crossings.specs.Before.{GraphsBefore, graphs_before}
+use Rattle.call_graph.specs.GroupViews.{groups_of}
+use Rattle.dsa_inlining.specs.Before.{GraphsBefore, graphs_before}
 use Rattle.dsa_bottom_up.specs.Making.{made_in}
 use Rattle.dsa_bottom_up.specs.Refused.{limit}
 use Rattle.dsa_bottom_up.proofs.Outside.{known_of, counts_start, start_told}

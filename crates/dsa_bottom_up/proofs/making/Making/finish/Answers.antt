@@ -1,11 +1,11 @@
 use Rattle.std.proofs.Common.{◌≡◌, List, [], ◌∷◌, ◌++◌, length, Option, None, refl, ap, ◌∙◌, arith}
 use Rattle.tac_ir.specs.declared.register.FunctionId.{FunctionId}
 use Rattle.tac_ir.specs.Views.{tac_of}
-use Rattle.function_groups.specs.GroupViews.{groups_of}
-use Rattle.graph_memory.specs.Memory.{graph_in}
-use Rattle.program_graphs.specs.declared.program.ProgramGraphs.{ProgramGraphs}
+use Rattle.call_graph.specs.GroupViews.{groups_of}
+use Rattle.graph_unification.specs.Memory.{graph_in}
+use Rattle.heap_graph.specs.declared.program.ProgramGraphs.{ProgramGraphs}
 use Rattle.std.proofs.lemmas.Option.{slice_get_within}
-use Rattle.assembled_groups.proofs.Ascending.{assembled_ascends}
+use Rattle.dsa_bottom_up.proofs.Ascending.{assembled_ascends}
 use Rattle.dsa_bottom_up.specs.Making.{made_in}
 use Rattle.dsa_bottom_up.proofs.Finishing.{known_of, reached_of, first_joined, still_joined, first_copies, still_no_copies, start_assembled, ends_closed, ends_smallest, ends_least, groups_many}
 use Rattle.dsa_bottom_up.proofs.making.Making.finish.Goals as goal

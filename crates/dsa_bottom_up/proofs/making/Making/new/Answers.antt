@@ -1,6 +1,6 @@
 use Rattle.std.proofs.Common.{[], length, ap, ◌∙◌, arith}
 use Rattle.std.proofs.lemmas.List.{length-replicate}
-use Rattle.group_crossings.specs.Before.{is_listed}
+use Rattle.dsa_inlining.specs.Before.{is_listed}
 use Rattle.dsa_bottom_up.proofs.Keeping.{none_listed}
 use Rattle.dsa_bottom_up.proofs.making.Making.new.Goals as goal
 

@@ -1,5 +1,5 @@
 use Rattle.std.proofs.Common.{◌+◌, ◌≤◌, length, take, sym, ap, ◌∙◌, arith}
-use Rattle.raw_slab.specs.Words.{word_at}
+use Rattle.run_theory.specs.Words.{word_at}
 use Rattle.machine.specs.Pages.{bytes_in}
 use Rattle.machine.proofs.PageBytes.{length-bytes_in, word_taken, length_taken}
 use Rattle.machine.proofs.pages.Paged.read.Goals as goal

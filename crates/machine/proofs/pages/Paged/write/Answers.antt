@@ -1,6 +1,6 @@
 use Rattle.std.proofs.Common.{◌≡◌, ◌+◌, ◌≤◌, length, take, ap, ◌∙◌, arith}
 use Rattle.std.proofs.lemmas.List.{with_items_is}
-use Rattle.raw_slab.specs.Words.{with_word}
+use Rattle.run_theory.specs.Words.{with_word}
 use Rattle.machine.specs.Pages.{bytes_in}
 use Rattle.machine.proofs.PageBytes.{length-bytes_in, with_word_taken, length_taken, spliced_word}
 use Rattle.machine.proofs.pages.Paged.write.Goals as goal

@@ -1,6 +1,6 @@
 use Rattle.std.proofs.Common.{ℕ, ◌+◌, ◌-◌, ◌^◌, ◌<◌, List, false, refl, subst, sym, ap, ◌∙◌, arith}
 use Rattle.std.specs.Vec.{with_item}
-use Rattle.raw_slab.specs.Words.{with_word}
+use Rattle.run_theory.specs.Words.{with_word}
 use Rattle.slab_space.specs.Space.{Space}
 use Rattle.pool_runtime.specs.declared.cells.Cells.{Cells}
 use Rattle.pool_runtime.specs.Seen.{class_seen}

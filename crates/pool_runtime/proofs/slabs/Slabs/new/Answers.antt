@@ -1,6 +1,6 @@
 use Rattle.std.proofs.Common.{◌∙◌, ◌*◌, ap, length}
 use Rattle.std.proofs.lemmas.List.{length-replicate}
-use Rattle.raw_slab.specs.Words.{zeros}
+use Rattle.run_theory.specs.Words.{zeros}
 use Rattle.pool_runtime.proofs.Undone.{new_space}
 use Rattle.pool_runtime.proofs.slabs.Slabs.new.Goals as goal
 

@@ -2,7 +2,7 @@ use Rattle.std.proofs.Common.{length, FitsSigned, rules, subst, refl, sym, ap, â
 use Rattle.std.specs.Int.{w128}
 use Rattle.std.proofs.lemmas.Int.{to_z-of_z}
 use Rattle.ref_semantics.specs.Store.{Eval}
-use Rattle.ref_steps.specs.Steps.{Config}
+use Rattle.ref_semantics.specs.Steps.{Config}
 use Rattle.ref_meaning.specs.declared.control.Task.TheVariants as K
 use Rattle.ref_meaning.specs.Views.{table_of, operands_of}
 use Rattle.ref_meaning.specs.Holding.{NodeStands, TaskFits, TaskFinds}

@@ -1,7 +1,7 @@
 use Rattle.std.proofs.Common.{sym, ap, subst, ◌∙◌}
 use Rattle.ref_semantics.specs.Store.{give}
-use Rattle.ref_steps.specs.Steps as steps
-use Rattle.ref_steps.specs.Steps.{WayGiven}
+use Rattle.ref_semantics.specs.Steps as steps
+use Rattle.ref_semantics.specs.Steps.{WayGiven}
 use Rattle.ref_meaning.specs.declared.control.Given.TheVariants as G
 use Rattle.ref_meaning.specs.declared.control.Stage.TheVariants as S
 use Rattle.ref_meaning.specs.Views.{config_in, around_run, functions_of, table_of, part_in, completion_in, behind_body}

@@ -2,8 +2,8 @@ use Rattle.std.proofs.Common.{◌≡◌, Err, length, arith, sym, ap, subst, ◌
 use Rattle.std.specs.Vec.{vec_len}
 use Rattle.ref_semantics.specs.Store.{Eval, give}
 use Rattle.ref_semantics.specs.Library.{library}
-use Rattle.ref_steps.specs.Steps as steps
-use Rattle.ref_steps.specs.Steps.{Config, ScalarGiven}
+use Rattle.ref_semantics.specs.Steps as steps
+use Rattle.ref_semantics.specs.Steps.{Config, ScalarGiven}
 use Rattle.ref_meaning.specs.Views.{table_of, around_run, functions_of, operands_of, newest, config_in}
 use Rattle.ref_meaning.specs.Holding.{IsCall}
 use Rattle.ref_meaning.specs.Doing.{acting}

@@ -1,7 +1,7 @@
 use Rattle.std.proofs.Common.{◌≡◌, ◌+◌, option_map, arith, refl, sym, ap, ◌∙◌}
 use Rattle.c_typed.specs.Table.{type_in}
 use Rattle.ref_semantics.specs.Store.{give}
-use Rattle.ref_steps.specs.Steps as steps
+use Rattle.ref_semantics.specs.Steps as steps
 use Rattle.ref_meaning.specs.declared.control.Control.{Control}
 use Rattle.ref_meaning.specs.declared.control.Task.TheVariants as K
 use Rattle.ref_meaning.specs.Views.{around_run, table_of, part_in, config_in}

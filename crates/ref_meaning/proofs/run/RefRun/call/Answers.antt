@@ -1,7 +1,7 @@
 use Rattle.std.proofs.Common.{arith, length, sym, subst, ap, ◌∙◌}
 use Rattle.ref_semantics.specs.Meaning.{function_from}
 use Rattle.c_typed.specs.Table.{type_in}
-use Rattle.ref_store.specs.declared.value.Scalar.TheVariants as M
+use Rattle.ref_meaning.specs.declared.value.Scalar.TheVariants as M
 use Rattle.ref_meaning.specs.declared.control.Control.{Control}
 use Rattle.ref_meaning.specs.declared.control.Given.TheVariants as G
 use Rattle.ref_meaning.specs.declared.control.Task.TheVariants as K

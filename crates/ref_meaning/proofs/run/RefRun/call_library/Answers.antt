@@ -1,7 +1,7 @@
 use Rattle.std.proofs.Common.{◌≡◌, List, None, sym, subst}
 use Rattle.ref_semantics.specs.Values.{Scalar}
 use Rattle.ref_semantics.specs.Library.{library}
-use Rattle.ref_store.specs.Views.{scalar_in}
+use Rattle.ref_meaning.specs.RefStore.Views.{scalar_in}
 use Rattle.ref_meaning.specs.Views.{table_of, around_run, operands_of, newest}
 use Rattle.ref_meaning.specs.Calling.{Evaluates, only_of}
 use Rattle.ref_meaning.proofs.Provided.{only-is, length-newest}

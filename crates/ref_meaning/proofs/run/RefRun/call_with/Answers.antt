@@ -3,8 +3,8 @@ use Rattle.std.specs.Int.{w128}
 use Rattle.c_typed.specs.declared.typed.LibraryFunction.{LibraryFunction}
 use Rattle.ref_semantics.specs.Values.{NullValue}
 use Rattle.ref_semantics.specs.Library.{library, allocated, natural_of, written}
-use Rattle.ref_store.specs.Views.{scalar_in}
-use Rattle.ref_store.specs.declared.value.Scalar.TheVariants as M
+use Rattle.ref_meaning.specs.RefStore.Views.{scalar_in}
+use Rattle.ref_meaning.specs.declared.value.Scalar.TheVariants as M
 use Rattle.ref_meaning.specs.Views.{table_of, around_run}
 use Rattle.ref_meaning.specs.Calling.{Evaluates}
 use Rattle.ref_meaning.proofs.Provided.{gives-evaluates, gives-remains, stops-evaluates, written-evaluates}

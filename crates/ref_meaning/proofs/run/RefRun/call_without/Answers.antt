@@ -4,7 +4,7 @@ use Rattle.c_typed.specs.declared.typed.LibraryFunction.{LibraryFunction}
 use Rattle.ref_semantics.specs.Values.{Scalar}
 use Rattle.ref_semantics.specs.Store.{Eval}
 use Rattle.ref_semantics.specs.Library.{library}
-use Rattle.ref_store.specs.declared.value.Scalar.TheVariants as M
+use Rattle.ref_meaning.specs.declared.value.Scalar.TheVariants as M
 use Rattle.ref_meaning.specs.Views.{around_run}
 use Rattle.ref_meaning.specs.Calling.{Evaluates}
 use Rattle.ref_meaning.proofs.Provided.{none-next, next-evaluates}

@@ -1,6 +1,6 @@
 use Rattle.std.proofs.Common.{sym, subst}
-use Rattle.ref_steps.specs.Steps.{ScalarGiven}
-use Rattle.ref_store.specs.Views.{scalar_in}
+use Rattle.ref_semantics.specs.Steps.{ScalarGiven}
+use Rattle.ref_meaning.specs.RefStore.Views.{scalar_in}
 use Rattle.ref_meaning.specs.Views.{part_in, waiting}
 use Rattle.ref_meaning.specs.Doing.{taking}
 use Rattle.ref_meaning.specs.Moving.{Moves}

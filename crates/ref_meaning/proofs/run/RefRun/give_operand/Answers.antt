@@ -1,7 +1,7 @@
 use Rattle.std.proofs.Common.{ap, subst, ◌∙◌}
 use Rattle.ref_meaning.specs.declared.control.Stage.TheVariants as S
-use Rattle.ref_meaning.specs.declared.first.Next as memory_next
-use Rattle.ref_meaning.specs.declared.first.Next.TheVariants as X
+use Rattle.ref_meaning.specs.declared.first_operand.Next as memory_next
+use Rattle.ref_meaning.specs.declared.first_operand.Next.TheVariants as X
 use Rattle.ref_meaning.specs.Views.{around_run, table_of}
 use Rattle.ref_meaning.specs.Doing.{NextStands, NextFinds}
 use Rattle.ref_meaning.proofs.Moves.{ok-moves, becomes-then}

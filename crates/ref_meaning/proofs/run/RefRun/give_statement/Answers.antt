@@ -1,5 +1,5 @@
 use Rattle.std.proofs.Common.{sym, ap, subst, ◌∙◌}
-use Rattle.ref_steps.specs.Steps.{WayGiven}
+use Rattle.ref_semantics.specs.Steps.{WayGiven}
 use Rattle.ref_meaning.specs.declared.control.Stage.TheVariants as S
 use Rattle.ref_meaning.specs.Views.{config_in, around_run, functions_of, table_of, part_in, given_in, at_item, behind_body}
 use Rattle.ref_meaning.specs.Doing.{IsInnermost, innermost, taking, popped}

@@ -4,10 +4,10 @@ use Rattle.c_typed.specs.declared.statement.Stmt.TheVariants as M
 use Rattle.c_typed.specs.StatementViews.{stmt_in}
 use Rattle.ref_meaning.specs.Trees.{StmtFits}
 use Rattle.ref_semantics.specs.Store.{give}
-use Rattle.ref_steps.specs.Parts.{StmtPart}
-use Rattle.ref_steps.specs.Steps as steps
-use Rattle.ref_steps.specs.Steps.{ScalarGiven}
-use Rattle.ref_store.specs.Views.{scalar_in}
+use Rattle.ref_semantics.specs.Parts.{StmtPart}
+use Rattle.ref_semantics.specs.Steps as steps
+use Rattle.ref_semantics.specs.Steps.{ScalarGiven}
+use Rattle.ref_meaning.specs.RefStore.Views.{scalar_in}
 use Rattle.ref_meaning.specs.declared.control.Frame as memory_frame
 use Rattle.ref_meaning.specs.declared.control.Given.TheVariants as G
 use Rattle.ref_meaning.specs.declared.control.Completion.TheVariants as W

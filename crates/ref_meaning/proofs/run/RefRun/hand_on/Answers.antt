@@ -2,9 +2,9 @@ use Rattle.std.proofs.Common.{sym, ap, subst, ◌∙◌}
 use Rattle.ref_semantics.specs.Pointers.{truth}
 use Rattle.ref_semantics.specs.Store.{give}
 use Rattle.ref_semantics.specs.Meaning.{is_true}
-use Rattle.ref_steps.specs.Steps as steps
-use Rattle.ref_steps.specs.Steps.{ScalarGiven, WayGiven}
-use Rattle.ref_store.specs.Views.{scalar_in}
+use Rattle.ref_semantics.specs.Steps as steps
+use Rattle.ref_semantics.specs.Steps.{ScalarGiven, WayGiven}
+use Rattle.ref_meaning.specs.RefStore.Views.{scalar_in}
 use Rattle.ref_meaning.specs.declared.control.Given.TheVariants as G
 use Rattle.ref_meaning.specs.declared.control.Stage.TheVariants as S
 use Rattle.ref_meaning.specs.Views.{around_run, functions_of, config_in, table_of, part_in, given_in}

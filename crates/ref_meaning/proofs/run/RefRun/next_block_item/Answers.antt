@@ -1,6 +1,6 @@
 use Rattle.std.proofs.Common.{suc, arith, sym, ap, subst, ◌∙◌, add-one}
 use Rattle.c_typed.specs.StatementViews.{stmt_in, local_in}
-use Rattle.ref_steps.specs.Steps.{WayGiven}
+use Rattle.ref_semantics.specs.Steps.{WayGiven}
 use Rattle.ref_meaning.specs.declared.control.Stage.TheVariants as S
 use Rattle.ref_meaning.specs.declared.control.Given.TheVariants as G
 use Rattle.ref_meaning.specs.declared.control.Completion.TheVariants as W

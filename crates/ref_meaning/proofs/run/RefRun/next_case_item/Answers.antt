@@ -1,6 +1,6 @@
 use Rattle.std.proofs.Common.{suc, sym, subst, add-one}
 use Rattle.c_typed.specs.StatementViews.{stmt_in}
-use Rattle.ref_steps.specs.Parts.{StmtPart}
+use Rattle.ref_semantics.specs.Parts.{StmtPart}
 use Rattle.ref_meaning.specs.declared.control.Node.TheVariants as N
 use Rattle.ref_meaning.specs.declared.control.Stage.TheVariants as S
 use Rattle.ref_meaning.specs.declared.control.Given.TheVariants as G

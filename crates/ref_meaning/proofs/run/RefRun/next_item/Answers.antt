@@ -1,6 +1,6 @@
 use Rattle.std.proofs.Common.{suc, sym, ap, subst, ◌∙◌}
 use Rattle.c_typed.specs.StatementViews.{local_in}
-use Rattle.ref_steps.specs.Steps.{WayGiven}
+use Rattle.ref_semantics.specs.Steps.{WayGiven}
 use Rattle.ref_meaning.specs.declared.control.Given.TheVariants as G
 use Rattle.ref_meaning.specs.declared.control.Node.TheVariants as N
 use Rattle.ref_meaning.specs.declared.control.Stage.TheVariants as S

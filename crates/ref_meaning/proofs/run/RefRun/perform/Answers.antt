@@ -4,8 +4,8 @@ use Rattle.c_typed.specs.declared.statement.ForStart.TheVariants as F
 use Rattle.c_typed.specs.StatementViews.{stmt_in}
 use Rattle.ref_meaning.specs.Trees.{StmtFits}
 use Rattle.ref_semantics.specs.Store.{give}
-use Rattle.ref_steps.specs.Parts.{StmtPart}
-use Rattle.ref_steps.specs.Steps as steps
+use Rattle.ref_semantics.specs.Parts.{StmtPart}
+use Rattle.ref_semantics.specs.Steps as steps
 use Rattle.ref_meaning.specs.declared.control.Node.TheVariants as N
 use Rattle.ref_meaning.specs.declared.control.Given.TheVariants as G
 use Rattle.ref_meaning.specs.declared.control.Completion.TheVariants as W

@@ -1,7 +1,7 @@
 use Rattle.std.proofs.Common.{◌<◌, length, None, sym, ap, ◌∙◌, subst}
 use Rattle.std.specs.Prelude.{IsSome}
 use Rattle.std.proofs.lemmas.List.{get_or_read}
-use Rattle.raw_slab.specs.Words.{word_at}
+use Rattle.run_theory.specs.Words.{word_at}
 use Rattle.slab_space.specs.Runs.{owner_at}
 use Rattle.slab_space.specs.Slots.{slot_bytes}
 use Rattle.slab_space.specs.Space.{Space}

@@ -1,7 +1,7 @@
 use Rattle.std.proofs.Common.{◌≡◌, ◌+◌, ◌*◌, ◌<◌, Some, None, length, get_or, set, sym, ap, ◌∙◌, refl, subst, arith}
 use Rattle.std.specs.Prelude.{IsSome}
 use Rattle.std.proofs.lemmas.List.{get_or_read, length-set}
-use Rattle.raw_slab.specs.Words.{with_word}
+use Rattle.run_theory.specs.Words.{with_word}
 use Rattle.slab_space.specs.Runs.{owner_at, free_count}
 use Rattle.slab_space.specs.Slots.{all_owners, all_bytes}
 use Rattle.slab_space.specs.Space.{Space}

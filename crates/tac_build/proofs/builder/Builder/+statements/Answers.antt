@@ -2,8 +2,8 @@ use Rattle.std.proofs.Common.{rules, ◌≡◌, suc, ◌+◌, false, ◌||◌, L
 use Rattle.c_typed.specs.declared.statement.Stmt.{the_lemmas as stmt_lemmas}
 use Rattle.c_typed.specs.Views.{value_in}
 use Rattle.c_typed.specs.StatementViews.{optional_value_in, start_in, stmt_in, StmtStands, block_in, switch_in}
-use Rattle.c_sizes.specs.TypedNodes.{value_nodes, optional_nodes, start_nodes, stmt_nodes, block_nodes, switch_nodes}
-use Rattle.c_well_typed.specs.Statements.{Within}
+use Rattle.c_typed.specs.TypedNodes.{value_nodes, optional_nodes, start_nodes, stmt_nodes, block_nodes, switch_nodes}
+use Rattle.c_typed.specs.Statements.{Within}
 use Rattle.tac_ir.specs.Views.{tree_of}
 use Rattle.tac_build.specs.declared.homes.Home.{Home}
 use Rattle.tac_build.specs.Homes.{takes, takes_optional, takes_stmt, takes_items}

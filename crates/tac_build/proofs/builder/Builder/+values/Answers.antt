@@ -3,8 +3,8 @@ use Rattle.c_typed.specs.declared.typed.Value.{the_lemmas as value_lemmas}
 use Rattle.c_typed.specs.Types.{CTypes, is_integer, is_pointer}
 use Rattle.c_typed.specs.Table.{Stands, type_in}
 use Rattle.c_typed.specs.Views.{value_in, object_in, designator_in, values_in, ValueStands}
-use Rattle.c_sizes.specs.TypedNodes.{value_nodes, object_nodes, designator_nodes, values_nodes}
-use Rattle.c_well_typed.specs.Expressions.{all_scalar, types_of, type_of, is_scalar}
+use Rattle.c_typed.specs.TypedNodes.{value_nodes, object_nodes, designator_nodes, values_nodes}
+use Rattle.c_typed.specs.Expressions.{all_scalar, types_of, type_of, is_scalar}
 use Rattle.tac_build.specs.Homes.{takes_called, takes_any, takes, takes_in, is_pure}
 use Rattle.tac_build.specs.Building.{mode_of, IsArrayType, IsFunctionType, TargetStands, HasRoom, Adds, HomesStand, lowered_in, optional_home, points_in, spot_of}
 use Rattle.tac_build.specs.Lowering.{names_for, AddsFewer, types_of_source, scope_of, context_in, DesignatorTyped, ValuesTyped, LibraryTyped, LieInMemory, DesignatorLowers, ArgumentsLower, LibraryLowers, ValueLives, ValueTyped, ValueLowers, program_in, ObjectTyped, ObjectLives, ObjectLowers}

@@ -1,0 +1,6 @@
+-- Rewritten code fits into frames of the machine. A crate of proofs alone.
+pub mod Expressions
+pub mod Functions
+pub mod Leading
+pub mod Parts
+pub mod Statements

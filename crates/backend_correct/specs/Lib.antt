@@ -1,0 +1,9 @@
+pub mod Comparing
+pub mod Descriptors
+pub mod HeapEvents
+pub mod Inside
+pub mod Named
+pub mod Naming
+pub mod Operands
+pub mod Planned
+pub mod Weights

@@ -1,2 +1,0 @@
-pub mod SyntaxDepths
-pub mod TypedDepths

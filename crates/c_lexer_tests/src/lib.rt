@@ -1,5 +1,0 @@
-//! Tests of `c_lexer`, by its public calls. They stand apart, since a crate with tests is proved twice.
-#![tactic(auto)]
-
-#[cfg(test)]
-mod tests;

@@ -1,4 +1,0 @@
-pub mod Nesting
-pub mod Expressions
-pub mod Statements
-pub mod Programs

@@ -1,4 +1,0 @@
-pub mod ExprRows
-pub mod DeclaratorRows
-pub mod OperandRows
-pub mod TermRows

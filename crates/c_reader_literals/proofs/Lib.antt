@@ -1,6 +1,0 @@
-pub mod Rising
-pub mod Listed
-pub mod Carried
-pub mod Expressions
-pub mod Statements
-pub mod Programs

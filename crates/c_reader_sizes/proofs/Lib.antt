@@ -1,6 +1,0 @@
-pub mod Filling
-pub mod Expressions
-pub mod Statements
-pub mod Programs
-pub mod Lengths
-pub mod Texts

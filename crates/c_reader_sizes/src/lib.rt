@@ -1,2 +1,0 @@
-//! The syntax tree of a program that is read from a text has at most one node for each byte, and one for its end.
-#![tactic(auto)]

@@ -1,4 +1,0 @@
-pub mod RowForms
-pub mod Lists
-pub mod StmtForms
-pub mod StmtLists

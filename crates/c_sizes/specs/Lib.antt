@@ -1,2 +1,0 @@
-pub mod SyntaxNodes
-pub mod TypedNodes

@@ -1,5 +1,0 @@
-use Rattle.c_typed.proofs.Kept.{integer_object}
-use Rattle.c_typed_tests.proofs.tests.integer.Goals as goal
-
-pub returns : goal.returns
-returns c = λ table. integer_object table c.integer.result c.args.int_type c.integer.ensures

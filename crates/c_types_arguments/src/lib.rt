@@ -1,2 +1,0 @@
-//! The calls of an accepted program have few arguments. A crate of proofs alone.
-#![tactic(auto)]

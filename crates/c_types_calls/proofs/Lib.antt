@@ -1,5 +1,0 @@
-mod Arguments
-mod Assigned
-mod Calling
-mod Passing
-mod LibraryTypes

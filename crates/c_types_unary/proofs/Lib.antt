@@ -1,6 +1,0 @@
-mod MemberRules
-mod ObjectRules
-mod OperandSteps
-mod PointedMembers
-mod Prefixes
-mod SteppedObjects

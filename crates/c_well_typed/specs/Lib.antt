@@ -1,5 +1,0 @@
-pub mod Context
-pub mod Expressions
-pub mod Statements
-pub mod Programs
-pub mod Sizes

@@ -1,5 +1,0 @@
-pub mod Copied
-pub mod Adding
-pub mod Steps
-pub mod Telling
-pub mod Images

@@ -1,0 +1,13 @@
+pub mod CallLists
+pub mod ClassLists
+pub mod GroupLists
+pub mod GroupViews
+pub mod Heads
+pub mod Lists
+pub mod Orders
+pub mod RowLists
+pub mod Rows
+pub mod Search
+pub mod Searches
+pub mod TakenLists
+pub mod TargetLists

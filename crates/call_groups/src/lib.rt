@@ -1,4 +1,0 @@
-//! Which functions call which.
-//!
-//! `specs/Targets.antt` says which functions a call may reach.
-#![tactic(auto)]

@@ -1,3 +1,0 @@
-pub mod TakenLists
-pub mod TargetLists
-pub mod ClassLists

@@ -1,9 +1,0 @@
-mod Cases
-mod Placing
-mod Passing
-mod Found
-mod Mentions
-mod SameTargets
-mod Keeping
-mod Marks
-mod Crossings

@@ -1,6 +1,0 @@
-use Rattle.std.proofs.Common.{◌≡◌, ℕ, ◌<◌}
-use Rattle.frozen_graphs.specs.Frozen.{target_in}
-use Rattle.closed_calls.proofs.shared.share_formals.Given as goal
-
-abbrev pub invariant-loop-number : goal.invariant-loop-number
-invariant-loop-number l = (number : ℕ) → number < l.number → target_in l.a.parameters.items number ≡ target_in l.b.parameters.items number

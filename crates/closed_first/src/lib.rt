@@ -1,7 +1,0 @@
-//! Whether the graph of `start` keeps what the first values of variables outside functions ask: `start` stores each into its variable.
-#![tactic(auto)]
-
-mod first;
-mod values;
-
-pub use first::first_closed;

@@ -1,9 +1,0 @@
-use Rattle.tac_ir.specs.States.{Owner}
-use Rattle.closed_functions.specs.Asked.{TargetAsked}
-use Rattle.closed_functions.specs.Programs.{family_of, IsMember}
-use Rattle.closed_functions.proofs.Judged.{Left}
-use Rattle.closed_functions.proofs.program.Program.targets_asked.Given as goal
-
--- what is asked of those that are left holds just where it holds of all
-abbrev pub invariant-loop-called : goal.invariant-loop-called
-invariant-loop-called l = (owner : Owner) → IsMember l.self.tac.now.types (family_of l.self) owner l.own → Left (λ called. called.0) (TargetAsked (family_of l.self) owner l.site l.arguments) l.targets l.called-index

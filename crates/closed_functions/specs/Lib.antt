@@ -1,4 +1,0 @@
-pub mod Programs
-pub mod Asked
-pub mod Fits
-pub mod Code

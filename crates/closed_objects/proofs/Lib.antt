@@ -1,6 +1,0 @@
-mod Formal
-mod Found
-mod Locals
-mod Numbers
-mod Shown
-mod StaticObjects

@@ -1,8 +1,0 @@
-use Rattle.std.proofs.Common.{◌∙◌}
-use Rattle.heap_graph.specs.Targets.{at_target}
-use Rattle.closed_points.specs.Contexts.{graph_of}
-use Rattle.closed_points.proofs.context.Context.is_base_read.Goals as goal
-
-pub returns : goal.returns
-returns c =
-    c.is_read.ensures c.args.self.now.tac.now.types ∙ (λ i. at_target (graph_of c.args.self.now) (c.base_target-base.ensures i) (λ node shift. node.flags.read))

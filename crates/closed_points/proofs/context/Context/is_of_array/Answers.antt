@@ -1,4 +1,0 @@
-use Rattle.closed_points.proofs.context.Context.is_of_array.Goals as goal
-
-pub returns : goal.returns
-returns c = c.is_array_if.ensures c.args.self.now.tac.now.types

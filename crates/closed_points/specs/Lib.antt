@@ -1,4 +1,0 @@
-pub mod Held
-pub mod Contexts
-pub mod Stored
-pub mod Plain

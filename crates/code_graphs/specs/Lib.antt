@@ -1,2 +1,0 @@
-pub mod Graphed
-pub mod Made

@@ -1,6 +1,0 @@
-use Rattle.std.proofs.Common.{take}
-use Rattle.component_order.specs.Heads.{HeadsSoFar}
-use Rattle.component_order.proofs.first_nodes.heads.Given as goal
-
-abbrev pub invariant-loop-node : goal.invariant-loop-node
-invariant-loop-node l = HeadsSoFar (take l.node l.numbers) l.firsts l.heads.items

@@ -1,2 +1,0 @@
--- What the limits tell of structures.
-pub mod FewSlots

@@ -1,2 +1,0 @@
-//! The structures of an accepted program have few slots. A crate of proofs alone.
-#![tactic(auto)]

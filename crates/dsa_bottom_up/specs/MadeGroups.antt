@@ -1,0 +1,2 @@
+-- That the graph of a group is closed once all is told of it that is asked: what was told while it was made holds of its certain nodes.
+pub mod Made

@@ -1,9 +1,0 @@
-pub mod Rising
-pub mod Callees
-pub mod RoundTrips
-pub mod SameOutside
-pub mod SameTotals
-pub mod SameCounts
-pub mod Refusals
-pub mod Renamed
-pub mod SameRefused

@@ -1,6 +1,0 @@
-use Rattle.std.proofs.Common.{sym, ◌∙◌}
-use Rattle.expression_counts.proofs.Shapes.{void_in, no_target}
-use Rattle.expression_counts.proofs.types.target.Goals as goal
-
-pub returns-in_default : goal.returns-in_default
-returns-in_default c = λ table. void_in table ∙ sym (no_target table c.args.shape c.in_default.not-Pointer)

@@ -1,3 +1,0 @@
-pub mod ExpressionTypes
-pub mod Counting
-pub mod Counts

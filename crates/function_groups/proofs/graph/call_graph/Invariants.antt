@@ -1,6 +1,0 @@
-use Rattle.tac_ir.specs.Views.{tac_of}
-use Rattle.function_groups.specs.CallLists.{AreFirstCalls}
-use Rattle.function_groups.proofs.graph.call_graph.Given as goal
-
-abbrev pub invariant-loop-caller : goal.invariant-loop-caller
-invariant-loop-caller l = AreFirstCalls (tac_of l.tac) l.caller l.edges.items l.called.items

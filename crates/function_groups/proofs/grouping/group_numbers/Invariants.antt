@@ -1,6 +1,0 @@
-use Rattle.std.proofs.Common.{take}
-use Rattle.function_groups.specs.GroupLists.{AreNumbers}
-use Rattle.function_groups.proofs.grouping.group_numbers.Given as goal
-
-abbrev pub invariant-loop-head : goal.invariant-loop-head
-invariant-loop-head l = AreNumbers (take l.head-index l.heads) l.order l.numbers.items

@@ -1,6 +1,0 @@
-use Rattle.std.proofs.Common.{take}
-use Rattle.function_groups.proofs.MemberSteps.{ArePlacesOf}
-use Rattle.function_groups.proofs.grouping.places.Given as goal
-
-abbrev pub invariant-loop-place : goal.invariant-loop-place
-invariant-loop-place l = ArePlacesOf l.count l.order (take l.place l.order) l.places.items

@@ -1,3 +1,0 @@
-pub mod CallLists
-pub mod GroupLists
-pub mod GroupViews

@@ -1,6 +1,0 @@
-pub mod Exact
-pub mod Agree
-pub mod Sound
-pub mod Deep
-pub mod Complete
-pub mod Places

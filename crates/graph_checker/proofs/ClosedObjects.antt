@@ -1,0 +1,3 @@
+-- What heap graphs ask of formals, of locals in memory, of variables outside functions and of literals.
+mod Found
+mod Shown

@@ -1,0 +1,31 @@
+use Rattle.std.proofs.Common.{◌+◌, ◌&&◌, map, drop, sym, ap, ◌∙◌, arith}
+use Rattle.std.specs.List.{list_all}
+use Rattle.std.proofs.lemmas.List.{at_drop_more, at_drop_all}
+use Rattle.c_typed.specs.Table.{structs_in, type_in}
+use Rattle.heap_graph.specs.Frozen.{bare, static_in}
+use Rattle.graph_checker.specs.Objects.{static_at}
+use Rattle.graph_checker.proofs.StaticObjects.{literals_shown}
+use Rattle.graph_checker.proofs.statics.literals_closed.Goals as goal
+
+pub returns-then-not-literal_closed : goal.returns-then-not-literal_closed
+returns-then-not-literal_closed c =
+    let table = c.args.types.now in
+    let graph = c.args.graph.now in
+    let test = static_at (structs_in table) (bare table graph) (static_in graph.literals) (map (λ literal. type_in table literal.c_type) c.args.literals.now) in
+    let numbers = c.as_slice-number-items.result.now in
+    let index = c.loop-number.number-index in
+    let fails = sym c.if-not-literal_closed.true ∙ c.literal_closed.ensures in
+    λ family owner shows.
+    (λ i. fails i && list_all test (drop (index + 1) numbers))
+    ∙ (sym (at_drop_more (list_all test) numbers index 0 c.loop-number-test.true)
+    ∙ (c.loop-number.invariant ∙ (ap (list_all test) (c.as_slice-number-items.ensures ∙ c.keys.ensures.rest) ∙ literals_shown table family owner graph shows c.args.literals.now c.requires.stand)))
+
+pub returns : goal.returns
+returns c =
+    let table = c.args.types.now in
+    let graph = c.args.graph.now in
+    let test = static_at (structs_in table) (bare table graph) (static_in graph.literals) (map (λ literal. type_in table literal.c_type) c.args.literals.now) in
+    let numbers = c.as_slice-number-items.result.now in
+    λ family owner shows.
+    sym (at_drop_all (list_all test) numbers c.loop-number.number-index (omega arith))
+    ∙ (c.loop-number.invariant ∙ (ap (list_all test) (c.as_slice-number-items.ensures ∙ c.keys.ensures.rest) ∙ literals_shown table family owner graph shows c.args.literals.now c.requires.stand))

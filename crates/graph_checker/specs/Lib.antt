@@ -1,0 +1,15 @@
+pub mod Calling
+pub mod ClosedGroups
+pub mod Contexts
+pub mod Fits
+pub mod Formals
+pub mod Held
+pub mod Images
+pub mod Members
+pub mod Needed
+pub mod Objects
+pub mod Programs
+pub mod SoundGraphs
+pub mod Stored
+pub mod Tests
+pub mod Values

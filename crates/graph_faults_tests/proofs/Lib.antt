@@ -1,3 +1,0 @@
-mod Fit
-mod Known
-mod Slots

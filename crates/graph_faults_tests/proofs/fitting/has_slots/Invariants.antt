@@ -1,7 +1,0 @@
-use Rattle.closed_calls.specs.Embeddings.{OptionHasSlots}
-use Rattle.closed_functions.proofs.Judged.{Left}
-use Rattle.graph_faults_tests.proofs.fitting.has_slots.Given as goal
-
--- what is asked of those that are left holds just where it holds of all
-abbrev pub invariant-loop-node : goal.invariant-loop-node
-invariant-loop-node l = Left (λ node. node) (OptionHasSlots l.types) l.nodes l.node-index

@@ -1,7 +1,0 @@
-use Rattle.std.proofs.Common.{◌≡◌, ◌++◌, take, drop}
-use Rattle.frozen_graphs.specs.declared.frozen.Edge as memory_edge
-use Rattle.graph_freezing.specs.Placing.{placed}
-use Rattle.graph_freezing.proofs.edges.index_behind.Given as goal
-
-abbrev pub invariant-loop-index : goal.invariant-loop-index
-invariant-loop-index l = (edge : memory_edge.Edge) → edge.slot ≡ l.slot → take l.index l.edges ++ placed edge (drop l.index l.edges) ≡ placed edge l.edges

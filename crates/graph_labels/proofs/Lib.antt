@@ -1,4 +1,0 @@
-pub mod CalledKnown
-pub mod MarksAdded
-pub mod ScopesWithin
-pub mod Found

@@ -1,7 +1,0 @@
-use Rattle.std.proofs.Common.{◌≡◌, ◌++◌, drop}
-use Rattle.graph_memory.specs.Statics.{literal_numbers}
-use Rattle.graph_memory.proofs.name.literals_among.Given as goal
-
--- what was found and what is left are all
-abbrev pub invariant-loop-key : goal.invariant-loop-key
-invariant-loop-key l = l.numbers.items ++ literal_numbers (drop l.key-index l.keys) ≡ literal_numbers l.keys

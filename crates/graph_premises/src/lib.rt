@@ -1,2 +1,0 @@
-//! What is known of the code of a program before its heap graphs are made, and that then each point fits a graph with its names.
-#![tactic(auto)]

@@ -1,0 +1,5 @@
+pub mod HeapGraphTests
+pub mod Made
+mod Fit
+mod FunctionGroupsTests
+mod GraphFaultsTests

@@ -1,0 +1,4 @@
+pub mod FunctionGroupsTests
+pub mod GraphFaultsTests
+pub mod Objects
+pub mod Plain

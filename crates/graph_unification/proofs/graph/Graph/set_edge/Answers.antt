@@ -1,0 +1,34 @@
+use Rattle.std.proofs.Common.{refl, rules}
+use Rattle.std.proofs.lemmas.Result.{on_ok_weaker}
+use Rattle.graph_unification.proofs.Settling.{two_graph, two_slots, least_edge}
+use Rattle.graph_unification.proofs.graph.Graph.set_edge.Goals as goal
+
+pub returns-in_err-at-clause-graph : goal.returns-in_err-at-clause-graph
+returns-in_err-at-clause-graph c = search rules
+
+pub returns-in_err-at-clause-least : goal.returns-in_err-at-clause-least
+returns-in_err-at-clause-least c = search rules
+
+pub returns-in_err-end-clause-graph : goal.returns-in_err-end-clause-graph
+returns-in_err-end-clause-graph c = search rules
+
+pub returns-in_err-end-clause-least : goal.returns-in_err-end-clause-least
+returns-in_err-end-clause-least c = search rules
+
+pub settle-requires-clause-made : goal.settle-requires-clause-made
+settle-requires-clause-made c = c.requires.made
+
+pub settle-requires-clause-graph : goal.settle-requires-clause-graph
+settle-requires-clause-graph c = two_graph c.args.types.now c.requires.made c.args.self.now (record { nodes = c.new_cell.new.self; names = c.args.self.now.names }) c.in_ok-at.at (record { node = c.args.node; shift = c.args.slot }) c.requires.graph refl c.in_ok-at.ensures c.requires.from (record { nodes = c.new_cell-2.new.self; names = c.args.self.now.names }) c.in_ok-end.end c.args.to refl c.in_ok-end.ensures c.requires.to
+
+pub settle-requires-clause-asks : goal.settle-requires-clause-asks
+settle-requires-clause-asks c = two_slots c.args.types.now c.requires.made c.args.self.now (record { nodes = c.new_cell.new.self; names = c.args.self.now.names }) c.in_ok-at.at (record { node = c.args.node; shift = c.args.slot }) c.requires.graph refl c.in_ok-at.ensures c.requires.from (record { nodes = c.new_cell-2.new.self; names = c.args.self.now.names }) c.in_ok-end.end c.args.to refl c.in_ok-end.ensures c.requires.to
+
+pub returns-clause-graph : goal.returns-clause-graph
+returns-clause-graph c = on_ok_weaker c.settle.result (λ goes. goes.graph) c.settle.ensures
+
+pub returns-clause-least : goal.returns-clause-least
+returns-clause-least c =
+    on_ok_weaker c.settle.result
+    (least_edge c.args.types.now c.requires.made c.args.self.now (record { nodes = c.new_cell.new.self; names = c.args.self.now.names }) c.in_ok-at.at (record { node = c.args.node; shift = c.args.slot }) c.requires.graph refl c.in_ok-at.ensures c.requires.from (record { nodes = c.new_cell-2.new.self; names = c.args.self.now.names }) c.in_ok-end.end c.args.to refl c.in_ok-end.ensures c.requires.to c.settle.new.self)
+    c.settle.ensures

@@ -1,4 +1,0 @@
-pub mod Mentioned
-pub mod Beginning
-pub mod Told
-pub mod Shown

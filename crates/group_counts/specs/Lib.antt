@@ -1,5 +1,0 @@
-pub mod Counting
-pub mod Sums
-pub mod Marks
-pub mod Tallies
-pub mod FirstValues

@@ -1,9 +1,0 @@
-use Rattle.std.proofs.Common.{length}
-use Rattle.c_typed.specs.Table.{Interned}
-use Rattle.graph_memory.specs.Memory.{graph_in, IsGraph}
-use Rattle.group_crossings.proofs.FrozenEntries.{TellsFirst}
-use Rattle.group_crossings.proofs.freezing.frozen_crossings.Given as goal
-
--- it is told of the first calls
-abbrev pub invariant-loop-crossing : goal.invariant-loop-crossing
-invariant-loop-crossing l = (table : Interned) → IsGraph table l.graph → TellsFirst (graph_in table l.graph) l.own.copies.entries (length l.yielded) l.embeddings

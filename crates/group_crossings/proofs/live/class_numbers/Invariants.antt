@@ -1,7 +1,0 @@
-use Rattle.std.proofs.Common.{take}
-use Rattle.group_crossings.specs.Live.{TellClasses}
-use Rattle.group_crossings.proofs.live.class_numbers.Given as goal
-
--- the classes of the links so far
-abbrev pub invariant-loop-link : goal.invariant-loop-link
-invariant-loop-link l = TellClasses l.count (take l.link-index l.links) l.classes.items

@@ -1,3 +1,0 @@
-pub mod Rounds
-pub mod Growing
-pub mod Sizes

@@ -1,5 +1,0 @@
-use Rattle.group_statics.specs.Own.{AddsOwnAmong}
-use Rattle.group_statics.proofs.own.StaticSets.add_groups.Given as goal
-
-abbrev pub invariant-loop-group : goal.invariant-loop-group
-invariant-loop-group l = AddsOwnAmong l.all l.groups l.fn.self l.self

@@ -1,5 +1,0 @@
-use Rattle.inner_calls.specs.Called.{AreFirstCalled}
-use Rattle.inner_calls.proofs.called.CalledClasses.of_program.Given as goal
-
-abbrev pub invariant-loop-function : goal.invariant-loop-function
-invariant-loop-function l = AreFirstCalled l.tac l.function-index l.callees.items

@@ -1,7 +1,0 @@
-use Rattle.std.proofs.Common.{map, take}
-use Rattle.tac_ir.specs.Views.{op_in}
-use Rattle.inner_calls.specs.Called.{AddsCalled}
-use Rattle.inner_calls.proofs.called.add_called.Given as goal
-
-abbrev pub invariant-loop-op : goal.invariant-loop-op
-invariant-loop-op l = AddsCalled l.tac (map (op_in l.tac.types) (take l.op-index l.points)) l.fn.callees.items l.callees.items

@@ -1,4 +1,0 @@
-pub mod Mapping
-pub mod Below
-pub mod Making
-pub mod Smallest

@@ -1,2 +1,0 @@
-//! Lowered code calls by name only functions of the program, and no two points of a function have one call site. A crate of proofs alone.
-#![tactic(auto)]

@@ -1,7 +1,0 @@
--- What is proved of lowered code.
-pub mod Leading
-pub mod Parts
-pub mod Expressions
-pub mod Statements
-pub mod Functions
-pub mod Heights

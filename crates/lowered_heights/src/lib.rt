@@ -1,2 +1,0 @@
-//! Lowered code has few operands at once. A crate of proofs alone.
-#![tactic(auto)]

@@ -1,2 +1,0 @@
-//! Frames, static objects and numbers of functions of lowered code lie in their ranges. A crate of proofs alone.
-#![tactic(auto)]

@@ -1,2 +1,0 @@
-//! That the graph of a group is closed once all is told of it that is asked: what was told while it was made holds of its certain nodes.
-#![tactic(auto)]

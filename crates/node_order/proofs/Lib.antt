@@ -1,4 +1,0 @@
-pub mod Numbers
-pub mod Searching
-pub mod Slots
-pub mod Steps

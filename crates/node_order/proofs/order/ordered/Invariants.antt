@@ -1,8 +1,0 @@
-use Rattle.node_order.specs.Searches.{left, IsSearch}
-use Rattle.node_order.proofs.order.ordered.Given as goal
-
-abbrev pub invariant-loop-node : goal.invariant-loop-node
-invariant-loop-node l = IsSearch l.graph.nodes.items l.fn.starts l.made l.pending.items
-
-abbrev pub decreases-loop-node : goal.decreases-loop-node
-decreases-loop-node l = left l.graph.nodes.items l.made l.pending.items

@@ -1,5 +1,0 @@
-pub mod Crossed
-pub mod Joins
-pub mod Shown
-pub mod Placed
-pub mod Listed

@@ -1,5 +1,0 @@
-pub mod Asks
-pub mod Restricted
-pub mod Completed
-pub mod Within
-pub mod CertainMaps

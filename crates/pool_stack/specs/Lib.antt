@@ -1,4 +1,0 @@
-pub mod Emitting
-pub mod Standing
-pub mod Fitting
-pub mod Following

@@ -1,2 +1,0 @@
-//! The machine's instructions of code with pools, and that they do what it does. A crate of definitions and proofs alone.
-#![tactic(auto)]

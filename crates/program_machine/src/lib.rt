@@ -1,2 +1,0 @@
-//! What the machine runs of a program's emitted code follows the program: proofs alone.
-#![tactic(auto)]

@@ -1,6 +1,0 @@
-use Rattle.reached_nodes.specs.Marks.{Adds}
-use Rattle.reached_nodes.proofs.Members.{IsOutsideFirst}
-use Rattle.reached_nodes.proofs.complete.complete_closed.Given as goal
-
-abbrev pub invariant-loop-member : goal.invariant-loop-member
-invariant-loop-member l = Adds l.initial.starts l.starts (IsOutsideFirst l.members l.functions l.member-index)

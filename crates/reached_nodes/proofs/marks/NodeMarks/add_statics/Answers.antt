@@ -1,5 +1,0 @@
-use Rattle.reached_nodes.proofs.Adding.{adds_both}
-use Rattle.reached_nodes.proofs.marks.NodeMarks.add_statics.Goals as goal
-
-pub returns : goal.returns
-returns c = adds_both c.args.self.now c.add_found.new.self c.add_found-2.new.self _ _ c.add_found.ensures c.add_found-2.ensures

@@ -1,7 +1,0 @@
-use Rattle.std.proofs.Common.{◌≡◌, true}
-use Rattle.reached_nodes.specs.Marks.{is_marked}
-use Rattle.reached_nodes.proofs.Nodes.{FirstHold}
-use Rattle.reached_nodes.proofs.needed.NeededNodes.are_all.Given as goal
-
-abbrev pub invariant-loop-number : goal.invariant-loop-number
-invariant-loop-number l = FirstHold l.node-items (λ number node. is_marked l.self.marks number ≡ true) l.number

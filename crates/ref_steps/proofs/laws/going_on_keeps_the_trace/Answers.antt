@@ -1,5 +1,0 @@
-use Rattle.ref_steps.proofs.Spans.{kept}
-use Rattle.ref_steps.proofs.laws.going_on_keeps_the_trace.Goals as goal
-
-pub returns : goal.returns
-returns c = kept

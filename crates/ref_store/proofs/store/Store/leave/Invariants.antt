@@ -1,8 +1,0 @@
-use Rattle.ref_store.proofs.Leaving.{IsLeaving}
-use Rattle.ref_store.proofs.store.Store.leave.Given as goal
-
-abbrev pub invariant-loop-self : goal.invariant-loop-self
-invariant-loop-self l = IsLeaving l.height l.initial.self l.self
-
-abbrev pub decreases-loop-self : goal.decreases-loop-self
-decreases-loop-self l = goal.left-loop-self l

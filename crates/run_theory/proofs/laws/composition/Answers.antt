@@ -1,5 +1,0 @@
-use Rattle.run_theory.proofs.Simulations.{compose}
-use Rattle.run_theory.proofs.laws.composition.Goals as goal
-
-pub returns : goal.returns
-returns g c = λ by by' through connects. compose by by' through connects

@@ -1,5 +1,0 @@
-use Rattle.run_theory.proofs.Machines.{steps_run}
-use Rattle.run_theory.proofs.laws.machine_is_run.Goals as goal
-
-pub returns : goal.returns
-returns g c = λ act trace keeps s. steps_run act trace keeps s

@@ -1,5 +1,0 @@
-use Rattle.run_theory.proofs.Simulations.{explains}
-use Rattle.run_theory.proofs.laws.reverse_direction.Goals as goal
-
-pub returns : goal.returns
-returns g c = λ by appends. explains by appends

@@ -1,2 +1,0 @@
-pub mod Saturated
-pub mod Places

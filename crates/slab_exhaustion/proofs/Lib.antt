@@ -1,6 +1,0 @@
-pub mod Slabs
-pub mod Cells
-pub mod Placing
-pub mod Exhausted
-pub mod Calls
-mod Rows

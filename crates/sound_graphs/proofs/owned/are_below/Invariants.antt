@@ -1,7 +1,0 @@
-use Rattle.std.proofs.Common.{◌≡◌, drop}
-use Rattle.sound_graphs.specs.Tests.{are_below}
-use Rattle.sound_graphs.proofs.owned.are_below.Given as goal
-
--- the numbers from this index on are below the count where all are
-abbrev pub invariant-loop-number : goal.invariant-loop-number
-invariant-loop-number l = are_below l.count (drop l.number-index l.numbers) ≡ are_below l.count l.numbers

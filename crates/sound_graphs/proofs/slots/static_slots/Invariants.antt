@@ -1,7 +1,0 @@
-use Rattle.std.proofs.Common.{◌≡◌}
-use Rattle.sound_graphs.specs.Tests.{entry_slots}
-use Rattle.sound_graphs.proofs.slots.static_slots.Given as goal
-
--- the targets that are left are slots where all are
-abbrev pub invariant-loop-target : goal.invariant-loop-target
-invariant-loop-target l = entry_slots l.graph l.target-iterator ≡ entry_slots l.graph l.targets.entries

@@ -1,2 +1,0 @@
-mod InsertedEntries
-mod NameNumbers

@@ -1,6 +1,0 @@
-use Rattle.std.proofs.Common.{◌≡◌, take, map}
-use Rattle.strong_components.specs.Searches.{component_of}
-use Rattle.strong_components.proofs.components.numbers.Given as goal
-
-abbrev pub invariant-loop-mark : goal.invariant-loop-mark
-invariant-loop-mark l = l.numbers.items ≡ map component_of (take l.mark-index l.marks)

@@ -1,2 +1,0 @@
-pub mod DefinedRuns
-pub mod MachineRuns

@@ -1,2 +1,0 @@
--- What is proved of places in a text.
-pub mod Places

@@ -1,4 +1,0 @@
-pub mod Heights
-pub mod PartSearch
-pub mod MemberSearch
-pub mod PartLeads

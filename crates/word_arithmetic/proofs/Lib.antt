@@ -1,3 +1,0 @@
-pub mod Congruence
-pub mod Extended
-pub mod Results

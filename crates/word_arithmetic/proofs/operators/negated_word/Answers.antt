@@ -1,6 +1,0 @@
-use Rattle.std.proofs.Common.{arith}
-use Rattle.word_arithmetic.proofs.Results.{negated}
-use Rattle.word_arithmetic.proofs.operators.negated_word.Goals as goal
-
-pub returns : goal.returns
-returns c = let e = negated c.args.int_type c.args.operand (omega arith) in cc

@@ -1,6 +1,0 @@
-use Rattle.std.proofs.Common.{◌*◌, ◌^◌, pos}
-use Rattle.word_arithmetic.proofs.Results.{reduced_word}
-use Rattle.word_arithmetic.proofs.shifts.shifted_left_word.Goals as goal
-
-pub returns : goal.returns
-returns c = let e = reduced_word c.args.int_type (pos (c.args.left * 2 ^ c.amount_of.result)) in cc
