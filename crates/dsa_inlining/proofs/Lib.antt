@@ -26,7 +26,7 @@ pub mod Going
 pub mod GroupCounts
 pub mod GroupCrossings
 pub mod GroupNames
-pub mod GroupStatics
+pub mod ToldStatics
 pub mod HaveSlots
 pub mod Joining
 pub mod Keeping

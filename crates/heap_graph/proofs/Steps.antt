@@ -12,7 +12,7 @@ use Rattle.heap_graph.specs.declared.order.NodeOrder.{NodeOrder}
 use Rattle.heap_graph.specs.Orders.{EdgesAscend, leads_to, number_in, number_of, Visited, passed, added}
 use Rattle.heap_graph.specs.Searches.{IsNumbered, edges_at, edge_count, left, GoesOn}
 use Rattle.heap_graph.proofs.Slots.{by_slot_same}
-use Rattle.heap_graph.proofs.NodeOrder.Numbers.{numbers_more}
+use Rattle.heap_graph.proofs.NodesInOrder.Numbers.{numbers_more}
 
 edges_below : (nodes : List (Option Node)) (number : ℕ) (node : Node) → node_there nodes number ≡ Some node → length node.edges.items ≤ edge_count nodes
 edges_below [] number node is = absurd (none-some node is)

@@ -10,7 +10,7 @@ pub mod Both
 pub mod Called
 pub mod Comparing
 pub mod Dropping
-pub mod Elements
+pub mod RowElements
 pub mod Entering
 pub mod Finding
 pub mod FirstObjects

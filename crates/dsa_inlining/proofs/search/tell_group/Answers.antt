@@ -1,6 +1,6 @@
 use Rattle.std.proofs.Common.{[], ◌∷◌, ◌++◌, refl, ap, ◌∙◌, arith}
 use Rattle.dsa_inlining.proofs.SeenNodes.{seen_before}
-use Rattle.dsa_inlining.proofs.GroupStatics.Telling.{not_there, same_keys, more_keys, telling_begins, telling_again, telling_more, telling_ends, again_less, more_less}
+use Rattle.dsa_inlining.proofs.ToldStatics.Telling.{not_there, same_keys, more_keys, telling_begins, telling_again, telling_more, telling_ends, again_less, more_less}
 use Rattle.dsa_inlining.proofs.search.tell_group.Goals as goal
 
 pub loop-next-init : goal.loop-next-init

@@ -1,6 +1,6 @@
 use Rattle.std.proofs.lemmas.List.Elements.{Contains-get_or}
 use Rattle.std.proofs.Common.{get_or}
-use Rattle.dsa_inlining.proofs.GroupStatics.Telling.{from_none, from_more}
+use Rattle.dsa_inlining.proofs.ToldStatics.Telling.{from_none, from_more}
 use Rattle.dsa_inlining.proofs.search.told_groups.Goals as goal
 
 pub loop-base-init : goal.loop-base-init

@@ -1,5 +1,5 @@
 use Rattle.std.proofs.Common.{arith}
-use Rattle.heap_graph.proofs.NodeOrder.Searching.{search_begins, search_goes_on, search_shrinks, search_ends}
+use Rattle.heap_graph.proofs.NodesInOrder.Searching.{search_begins, search_goes_on, search_shrinks, search_ends}
 use Rattle.heap_graph.proofs.order.ordered.Goals as goal
 
 pub loop-node-init : goal.loop-node-init

@@ -17,7 +17,7 @@ use Rattle.ref_meaning.proofs.Nexts.{value_nexts, form-next, form-scalar, form-f
 use Rattle.ref_meaning.proofs.LastOperands.{value_last}
 use Rattle.ref_meaning.specs.declared.control.Node.TheVariants as N
 use Rattle.ref_meaning.specs.Holding.{IsPlaced}
-use Rattle.ref_meaning.proofs.Elements.{pointed-element}
+use Rattle.ref_meaning.proofs.RowElements.{pointed-element}
 use Rattle.ref_meaning.proofs.first_operand.after_value.Goals as goal
 
 pub returns-in-Read-clause-gives : goal.returns-in-Read-clause-gives
