@@ -1,2 +1,2 @@
 -- Whether the graph of `start` keeps what the first values of variables outside functions ask: `start` stores each into its variable.
-mod Shown
+pub mod Shown

@@ -1,3 +1,3 @@
 -- What heap graphs ask of formals, of locals in memory, of variables outside functions and of literals.
-mod Found
-mod Shown
+pub mod Found
+pub mod Shown

@@ -1,2 +1,2 @@
 -- Tests of `call_targets` and `function_groups`, by their public calls. They stand apart, since a crate with tests is proved twice.
-mod Known
+pub mod Known

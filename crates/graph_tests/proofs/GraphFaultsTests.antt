@@ -1,3 +1,3 @@
 -- Tests of `graph_faults`, by its public calls. They stand apart, since a crate with tests is proved twice.
-mod Known
-mod Slots
+pub mod Known
+pub mod Slots
