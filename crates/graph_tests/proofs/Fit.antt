@@ -21,10 +21,10 @@ use Rattle.heap_graph.specs.Embeddings.{NodesHaveSlots}
 use Rattle.graph_checker.specs.declared.program.Program.{Program}
 use Rattle.graph_checker.specs.Fits.{IsFit}
 use Rattle.heap_graph.proofs.Whole.{at_each}
-use Rattle.graph_tests.specs.GraphFaultsTests.KnownCalls.{is_known}
+use Rattle.graph_tests.specs.KnownCalls.{is_known}
 use Rattle.graph_tests.specs.Plain.{IsPlain, HasNoObjects, HaveNoObjects, HaveSlots}
-use Rattle.graph_tests.proofs.GraphFaultsTests.Known.{all_at}
-use Rattle.graph_tests.proofs.GraphFaultsTests.Slots.{objects_fit}
+use Rattle.graph_tests.proofs.Known.{all_at}
+use Rattle.graph_tests.proofs.HasSlots.{objects_fit}
 
 none_have_slots : {X : Type 0} (structs : List StructDef) (f : X → CType) (xs : List X) → xs ≡ [] → ObjectsHaveSlots structs (map f xs)
 none_have_slots structs f xs e = subst (λ ys. ObjectsHaveSlots structs (map f ys)) (sym e) (λ number c_type is. absurd (none-some c_type is))

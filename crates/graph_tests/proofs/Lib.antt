@@ -1,5 +1,5 @@
-pub mod HeapGraphTests
 pub mod Made
+pub mod Slots
 mod Fit
-mod FunctionGroupsTests
-mod GraphFaultsTests
+mod HasSlots
+mod Known

@@ -1,4 +1,3 @@
-pub mod FunctionGroupsTests
-pub mod GraphFaultsTests
+pub mod KnownCalls
 pub mod Objects
 pub mod Plain

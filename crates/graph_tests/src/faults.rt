@@ -7,8 +7,8 @@ ghost use Rattle.graph_tests.specs.Plain.{IsPlain};
 
 use crate::code::program;
 use crate::fitting::is_fit;
-use crate::graph_faults_tests::known_calls::calls_are_known;
 use crate::graphs::{ALL, Given, graphs};
+use crate::known_calls::calls_are_known;
 use call_graph::{Groups, groups};
 use graph_checker::{Fault, Program, closed_fault};
 use heap_graph::ProgramGraphs;
@@ -54,58 +54,54 @@ fn fault_in(
     closed_fault(alloc, tac, groups, graphs)
 }
 
-fn of_group(number: usize) -> Option<Fault> {
-    Some(Fault {
-        group: Some(number),
-    })
+/// What is given of the graphs, and the fault that is found then.
+struct Row {
+    given: Given,
+    fault: Option<Fault>,
 }
 
-#[test]
-fn the_graphs_are_closed(rt: HostRuntime) -> Result<(), Fail> {
-    assert_eq!(rt; fault(rt.alloc(), ALL)?, None);
-    Ok(())
-}
+const ROWS: [Row; 6] = [
+    Row {
+        given: ALL,
+        fault: None,
+    },
+    Row {
+        given: Given { edge: false, ..ALL },
+        fault: Some(Fault { group: Some(0) }),
+    },
+    Row {
+        given: Given {
+            element: false,
+            ..ALL
+        },
+        fault: Some(Fault { group: Some(0) }),
+    },
+    Row {
+        given: Given { read: false, ..ALL },
+        fault: Some(Fault { group: Some(1) }),
+    },
+    Row {
+        given: Given {
+            embedding: false,
+            ..ALL
+        },
+        fault: Some(Fault { group: Some(1) }),
+    },
+    // another node is there
+    Row {
+        given: Given {
+            empty: false,
+            ..ALL
+        },
+        fault: Some(Fault { group: None }),
+    },
+];
 
 #[test]
-fn an_edge_is_wanted(rt: HostRuntime) -> Result<(), Fail> {
-    let given = Given { edge: false, ..ALL };
-    assert_eq!(rt; fault(rt.alloc(), given)?, of_group(0));
-    Ok(())
-}
-
-#[test]
-fn a_type_is_wanted(rt: HostRuntime) -> Result<(), Fail> {
-    let given = Given {
-        element: false,
-        ..ALL
-    };
-    assert_eq!(rt; fault(rt.alloc(), given)?, of_group(0));
-    Ok(())
-}
-
-#[test]
-fn a_flag_is_wanted(rt: HostRuntime) -> Result<(), Fail> {
-    let given = Given { read: false, ..ALL };
-    assert_eq!(rt; fault(rt.alloc(), given)?, of_group(1));
-    Ok(())
-}
-
-#[test]
-fn an_embedding_is_wanted(rt: HostRuntime) -> Result<(), Fail> {
-    let given = Given {
-        embedding: false,
-        ..ALL
-    };
-    assert_eq!(rt; fault(rt.alloc(), given)?, of_group(1));
-    Ok(())
-}
-
-#[test]
-fn no_other_node_is_there(rt: HostRuntime) -> Result<(), Fail> {
-    let given = Given {
-        empty: false,
-        ..ALL
-    };
-    assert_eq!(rt; fault(rt.alloc(), given)?, Some(Fault { group: None }));
+fn what_is_left_out_is_found(rt: HostRuntime) -> Result<(), Fail> {
+    for (number, row) in ROWS.iter().enumerate() {
+        let found = fault(rt.alloc(), row.given)?;
+        assert_eq!(rt; found, row.fault, "row {number}");
+    }
     Ok(())
 }

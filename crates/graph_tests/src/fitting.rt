@@ -8,7 +8,7 @@ ghost use Rattle.heap_graph.specs.Embeddings.{OptionHasSlots, NodesHaveSlots};
 ghost use Rattle.graph_checker.specs.Fits.{IsFit};
 ghost use Rattle.graph_tests.specs.Plain.{IsPlain, HasNoObjects, HaveNoObjects, HaveSlots};
 
-use crate::graph_faults_tests::known_calls::are_known;
+use crate::known_calls::are_known;
 use c_typed::TypeTable;
 use graph_checker::Program;
 use heap_graph::{Element, FrozenGraph, Node, slots_of};

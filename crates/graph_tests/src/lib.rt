@@ -1,8 +1,5 @@
-//! Tests of `type_parts` and `graph_memory`, by their public calls. They stand apart, since a crate with tests is proved twice.
-//!
-//! Tests of `call_targets` and `function_groups`, by their public calls. They stand apart, since a crate with tests is proved twice.
-//!
-//! Tests of `graph_faults`, by its public calls. They stand apart, since a crate with tests is proved twice.
+//! Tests of call_graph, heap_graph, graph_unification and graph_checker, by their public calls. They stand apart, since a crate with tests is
+//! proved twice.
 #![tactic(auto)]
 
 #[cfg(test)]
@@ -11,18 +8,20 @@ mod code;
 mod faults;
 #[cfg(test)]
 mod fitting;
-mod function_groups_tests;
-mod graph_faults_tests;
 #[cfg(test)]
 mod graphs;
 #[cfg(test)]
 mod heap_graphs;
+#[cfg(test)]
+mod known_calls;
 #[cfg(test)]
 mod order;
 #[cfg(test)]
 mod programs;
 #[cfg(test)]
 mod scenes;
+#[cfg(test)]
+mod sights;
 #[cfg(test)]
 mod targets;
 #[cfg(test)]

@@ -1,12 +1,12 @@
 // The groups of small programs, and of long ones.
 
-use crate::function_groups_tests::known_calls::calls_are_known;
+use crate::known_calls::calls_are_known;
 use crate::programs::Action::{Call, CallThrough, Take};
 use crate::programs::{Action, Kind, Program};
 use call_graph::{Groups, groups};
 use std::alloc::{AllocError, Global};
-use std::process::Abort;
 use std::test::Fail;
+use tac_ir::FunctionId;
 
 const NULLARY: Kind = Kind::Nullary;
 
@@ -107,15 +107,21 @@ const ROWS: [Row; 11] = [
 
 #[test]
 fn groups_stand_in_their_order(rt: HostRuntime) -> Result<(), Fail> {
-    let alloc = rt.alloc();
-    for row in &ROWS {
-        let made = groups_of(&rt, alloc, row.kinds, row.actions)?;
-        assert_eq!(rt; made.group_of.as_slice(), row.group_of);
-        let last = row.group_of.iter().copied().max();
-        assert_eq!(rt; made.members.len().checked_sub(1), last);
-        assert_members(&rt, &made);
+    for (number, row) in ROWS.iter().enumerate() {
+        assert!(rt; is_grouped(rt.alloc(), row)?, "row {number}");
     }
     Ok(())
+}
+
+/// Whether each function has its number, no number is left out, and each member of a group has its number.
+fn is_grouped(alloc: Global, row: &Row) -> Result<bool, AllocError> {
+    let made = groups_of(alloc, row.kinds, row.actions)?;
+    let last = row.group_of.iter().copied().max();
+    Ok(
+        made.group_of.as_slice() == row.group_of
+            && made.members.len().checked_sub(1) == last
+            && are_members(&made),
+    )
 }
 
 /// How many functions there are in a long program.
@@ -144,48 +150,62 @@ const LONG_ROWS: [LongRow; 2] = [
 
 #[test]
 fn many_functions_call_the_next_one(rt: HostRuntime) -> Result<(), Fail> {
-    let alloc = rt.alloc();
     for row in &LONG_ROWS {
-        let made = long_groups(&rt, alloc, row.is_cycle)?;
-        assert_eq!(rt; made.members.len(), row.groups);
-        assert_eq!(rt; made.group_of.first().copied(), Some(row.first));
-        assert_eq!(rt; made.group_of.last().copied(), Some(0));
-        assert_members(&rt, &made);
+        assert!(rt; is_long_grouped(rt.alloc(), row)?, "{} groups", row.groups);
     }
     Ok(())
 }
 
+fn is_long_grouped(alloc: Global, row: &LongRow) -> Result<bool, AllocError> {
+    let made = long_groups(alloc, row.is_cycle)?;
+    Ok(
+        made.members.len() == row.groups
+            && made.group_of.first().copied() == Some(row.first)
+            && made.group_of.last().copied() == Some(0)
+            && are_members(&made),
+    )
+}
+
+/// The groups of a long program.
+fn long_groups(alloc: Global, is_cycle: bool) -> Result<Groups, AllocError> {
+    let kinds = Vec::from_elem(alloc, NULLARY, COUNT)?;
+    let mut actions = Vec::new(alloc);
+    for number in 1..COUNT {
+        actions.push((number - 1, Call(number)))?;
+    }
+    if is_cycle {
+        actions.push((COUNT - 1, Call(0)))?;
+    }
+    groups_of(alloc, kinds.as_slice(), actions.as_slice())
+}
+
 fn groups_of(
-    rt: &impl Abort,
     alloc: Global,
     kinds: &[Kind],
     actions: &[(usize, Action)],
 ) -> Result<Groups, AllocError> {
     let program = Program::of(alloc, kinds, actions)?;
-    assert!(rt; calls_are_known(&program.tac));
+    if !calls_are_known(&program.tac) {
+        return Err(AllocError);
+    }
     groups(alloc, &program.tac)
 }
 
-/// The groups of a long program.
-fn long_groups(rt: &impl Abort, alloc: Global, is_cycle: bool) -> Result<Groups, AllocError> {
-    let mut kinds = Vec::new(alloc);
-    let mut actions = Vec::new(alloc);
-    for number in 0..COUNT {
-        kinds.push(NULLARY)?;
-        if number + 1 < COUNT {
-            actions.push((number, Call(number + 1)))?;
-        } else if is_cycle {
-            actions.push((number, Call(0)))?;
+/// Whether each member of a group has its number.
+fn are_members(made: &Groups) -> bool {
+    for (number, members) in made.members.iter().enumerate() {
+        if !have_number(made, members.as_slice(), number) {
+            return false;
         }
     }
-    groups_of(rt, alloc, kinds.as_slice(), actions.as_slice())
+    true
 }
 
-/// Each member of a group has its number.
-fn assert_members(rt: &impl Abort, made: &Groups) {
-    for (number, members) in made.members.iter().enumerate() {
-        for member in members {
-            assert_eq!(rt; made.group_of.get(member.0).copied(), Some(number));
+fn have_number(made: &Groups, members: &[FunctionId], number: usize) -> bool {
+    for member in members {
+        if made.group_of.get(member.0).copied() != Some(number) {
+            return false;
         }
     }
+    true
 }

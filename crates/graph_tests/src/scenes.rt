@@ -1,4 +1,4 @@
-// Graphs that are made step by step.
+// Graphs that are made step by step, and what is seen of them.
 
 ghost use Rattle.std.specs.Prelude.{◌≡◌, IfOk, OnOk};
 ghost use Rattle.c_typed.specs.Table.{structs_in};
@@ -7,19 +7,30 @@ ghost use Rattle.heap_graph.specs.Merging as merging;
 ghost use Rattle.graph_unification.specs.Memory.{graph_in, IsGraph};
 ghost use Rattle.graph_tests.specs.Objects.{AreTypes};
 
+use crate::sights::{Sight, is_seen};
 use crate::types::Types;
 use c_typed::TypeTable;
 use graph_unification::{Graph, Name};
-use heap_graph::{Element, Flags, Target, has_part, slots_of};
-use std::alloc::AllocError;
-use tac_ir::{FunctionId, Register};
+use heap_graph::{Element, Flags, Target, slots_of};
+use std::alloc::{AllocError, Global};
+use tac_ir::{FunctionId, GlobalId, LiteralId, Register};
 
-/// What a node's objects are at first.
+/// What a node's objects are.
 #[derive(Clone, Copy)]
 pub(crate) enum Kind {
     Missing,
     /// The type at a place of the list.
     Type(usize),
+    Collapsed,
+}
+
+/// What has a target.
+#[derive(Clone, Copy)]
+pub(crate) enum Named {
+    Register(usize),
+    Global(usize),
+    Literal(usize),
+    Copy(usize),
 }
 
 /// A target.
@@ -28,50 +39,146 @@ pub(crate) enum Place {
     At(usize, u64),
     /// That of a register.
     Of(usize),
+    /// A slot of the node to which a register points.
+    Beside(usize, u64),
 }
 
+/// What is done to a graph.
 #[derive(Clone, Copy)]
-pub(crate) enum Step {
+pub(crate) enum Deed {
     Node(Kind, Flags),
-    Name(usize, Place),
+    Name(Named, Place),
     Edge(Place, Place),
     Merge(Place, Place),
     Collapse(Place),
+    SetFlags(Place, Flags),
+    /// So many nodes, each with an edge to the one before it and with a register that points to it.
+    Chain(usize),
+    /// The targets of so many registers, each merged with that of the one before it.
+    MergeChain(usize),
 }
 
-pub(crate) fn register(number: usize) -> Name {
-    Name::Register {
-        function: Some(FunctionId(0)),
-        register: Register::Expression(number),
-    }
+/// What is done, or what is to be seen then.
+#[derive(Clone, Copy)]
+pub(crate) enum Step {
+    Do(Deed),
+    See(Sight),
+    /// The register that is told to have become certain.
+    Certain(Option<usize>),
 }
 
-/// Whether a part of a type begins at a slot of another.
-pub(crate) fn is_part(types: &Types, own: usize, slot: u64, part: usize) -> Result<bool, AllocError>
+pub(crate) const NONE: Flags = Flags {
+    heap: false,
+    stack: false,
+    global: false,
+    array: false,
+    modified: false,
+    read: false,
+    complete: false,
+    certain: false,
+};
+
+/// Takes steps one after the other, from an empty graph on. The number of the first at which something else is seen.
+pub(crate) fn first_wrong(
+    alloc: Global,
+    types: &Types,
+    steps: &[Step],
+) -> Result<Option<usize>, AllocError>
     requires { AreTypes types.now.table types.now.list.items }
 {
-    let whole = types.get(own)?;
-    let inner = types.get(part)?;
-    if slots_of(&types.table, inner) == 0 {
-        return Err(AllocError);
+    let mut graph = Graph::new(alloc);
+    for (number, step) in steps.iter().enumerate() {
+        if !take(alloc, types, &mut graph, *step)? {
+            return Ok(Some(number));
+        }
     }
-    Ok(has_part(&types.table, whole, slot, inner))
+    Ok(None)
 }
 
-/// Takes these steps one after the other.
-pub(crate) fn play(types: &Types, graph: &mut Graph, steps: &[Step]) -> Result<(), AllocError>
+/// Takes a step. Whether what is seen is what the step says.
+fn take(alloc: Global, types: &Types, graph: &mut Graph, step: Step) -> Result<bool, AllocError>
     requires types { AreTypes types.now.table types.now.list.items }
     requires graph { IsGraph types.now.table graph.old }
     ensures { OnOk result (IsGraph types.now.table graph.new) }
 {
-    for step in steps {
-        take(types, graph, *step)?;
+    match step {
+        Step::Do(deed) => {
+            act(types, graph, deed)?;
+            Ok(true)
+        }
+        Step::See(sight) => is_seen(alloc, types, graph, sight),
+        Step::Certain(number) => {
+            let told = graph.take_certain();
+            Ok(told == number.map(register))
+        }
     }
+}
+
+fn act(types: &Types, graph: &mut Graph, deed: Deed) -> Result<(), AllocError>
+    requires types { AreTypes types.now.table types.now.list.items }
+    requires graph { IsGraph types.now.table graph.old }
+    ensures { OnOk result (IsGraph types.now.table graph.new) }
+{
+    match deed {
+        Deed::Node(kind, flags) => add_node(types, graph, kind, flags),
+        Deed::Name(named, place) => set_name(types, graph, named, place),
+        Deed::Edge(from, to) => set_edge(types, graph, from, to),
+        Deed::Merge(a, b) => merge(types, graph, a, b),
+        Deed::Collapse(place) => {
+            let at = slot(types, graph, place)?;
+            graph.collapse(&types.table, at.node)
+        }
+        Deed::SetFlags(place, flags) => {
+            let at = slot(types, graph, place)?;
+            graph.set_flags(at.node, flags);
+            Ok(())
+        }
+        Deed::Chain(count) => chain(types, graph, count),
+        Deed::MergeChain(count) => merge_chain(types, graph, count),
+    }
+}
+
+fn add_node(types: &Types, graph: &mut Graph, kind: Kind, flags: Flags) -> Result<(), AllocError>
+    requires types { AreTypes types.now.table types.now.list.items }
+    requires graph { IsGraph types.now.table graph.old }
+    ensures { OnOk result (IsGraph types.now.table graph.new) }
+{
+    let element = element_of(types, kind)?;
+    graph.new_node(element, flags)?;
     Ok(())
 }
 
+fn set_name(types: &Types, graph: &mut Graph, named: Named, place: Place) -> Result<(), AllocError>
+    requires types { AreTypes types.now.table types.now.list.items }
+    requires graph { IsGraph types.now.table graph.old }
+    ensures { OnOk result (IsGraph types.now.table graph.new) }
+{
+    let to = slot(types, graph, place)?;
+    graph.set_target(name_of(named), to)
+}
+
+fn set_edge(types: &Types, graph: &mut Graph, from: Place, to: Place) -> Result<(), AllocError>
+    requires types { AreTypes types.now.table types.now.list.items }
+    requires graph { IsGraph types.now.table graph.old }
+    ensures { OnOk result (IsGraph types.now.table graph.new) }
+{
+    let at = slot(types, graph, from)?;
+    let end = slot(types, graph, to)?;
+    graph.set_edge(&types.table, at.node, at.shift, end)
+}
+
+fn merge(types: &Types, graph: &mut Graph, a: Place, b: Place) -> Result<(), AllocError>
+    requires types { AreTypes types.now.table types.now.list.items }
+    requires graph { IsGraph types.now.table graph.old }
+    ensures { OnOk result (IsGraph types.now.table graph.new) }
+{
+    let one = slot(types, graph, a)?;
+    let other = slot(types, graph, b)?;
+    graph.merge(&types.table, one, other)
+}
+
 /// Makes nodes, each with an edge to the one before it and with a register that points to it.
-pub(crate) fn chain(types: &Types, graph: &mut Graph, count: usize) -> Result<(), AllocError>
+fn chain(types: &Types, graph: &mut Graph, count: usize) -> Result<(), AllocError>
     requires types { AreTypes types.now.table types.now.list.items }
     requires graph { IsGraph types.now.table graph.old }
     ensures { OnOk result (IsGraph types.now.table graph.new) }
@@ -93,74 +200,43 @@ fn link(types: &Types, graph: &mut Graph, i: usize) -> Result<(), AllocError>
     } else {
         Kind::Missing
     };
-    take(types, graph, Step::Node(kind, NONE))?;
-    take(types, graph, Step::Name(i, Place::At(i, 0)))?;
+    add_node(types, graph, kind, NONE)?;
+    set_name(types, graph, Named::Register(i), Place::At(i, 0))?;
     if i == 0 {
         return Ok(());
     }
-    take(
-        types,
-        graph,
-        Step::Edge(Place::At(i, 0), Place::At(i - 1, 0)),
-    )
+    set_edge(types, graph, Place::At(i, 0), Place::At(i - 1, 0))
 }
 
 /// Makes the targets of registers one, each with that of the one before it.
-pub(crate) fn merge_all(types: &Types, graph: &mut Graph, count: usize) -> Result<(), AllocError>
+fn merge_chain(types: &Types, graph: &mut Graph, count: usize) -> Result<(), AllocError>
     requires types { AreTypes types.now.table types.now.list.items }
     requires graph { IsGraph types.now.table graph.old }
     ensures { OnOk result (IsGraph types.now.table graph.new) }
 {
     for i in 1..count {
-        take(types, graph, Step::Merge(Place::Of(i - 1), Place::Of(i)))?;
+        merge(types, graph, Place::Of(i - 1), Place::Of(i))?;
     }
     Ok(())
 }
 
-pub(crate) const NONE: Flags = Flags {
-    heap: false,
-    stack: false,
-    global: false,
-    array: false,
-    modified: false,
-    read: false,
-    complete: false,
-    certain: false,
-};
-
-fn take(types: &Types, graph: &mut Graph, step: Step) -> Result<(), AllocError>
-    requires types { AreTypes types.now.table types.now.list.items }
-    requires graph { IsGraph types.now.table graph.old }
-    ensures { OnOk result (IsGraph types.now.table graph.new) }
-{
-    match step {
-        Step::Node(kind, flags) => {
-            let element = element_of(types, kind)?;
-            graph.new_node(element, flags)?;
-            Ok(())
-        }
-        Step::Name(number, place) => {
-            let to = slot(types, graph, place)?;
-            graph.set_target(register(number), to)
-        }
-        Step::Edge(from, to) => {
-            let at = slot(types, graph, from)?;
-            let end = slot(types, graph, to)?;
-            graph.set_edge(&types.table, at.node, at.shift, end)
-        }
-        Step::Merge(a, b) => {
-            let one = slot(types, graph, a)?;
-            let other = slot(types, graph, b)?;
-            graph.merge(&types.table, one, other)
-        }
-        Step::Collapse(place) => {
-            let at = slot(types, graph, place)?;
-            graph.collapse(&types.table, at.node)
-        }
+fn name_of(named: Named) -> Name {
+    match named {
+        Named::Register(number) => register(number),
+        Named::Global(number) => Name::Global(GlobalId(number)),
+        Named::Literal(number) => Name::Literal(LiteralId(number)),
+        Named::Copy(number) => Name::Copy(number),
     }
 }
 
-fn element_of(types: &Types, kind: Kind) -> Result<Element, AllocError>
+pub(crate) fn register(number: usize) -> Name {
+    Name::Register {
+        function: Some(FunctionId(0)),
+        register: Register::Expression(number),
+    }
+}
+
+pub(crate) fn element_of(types: &Types, kind: Kind) -> Result<Element, AllocError>
     requires { AreTypes types.now.table types.now.list.items }
     ensures { IfOk result (λ element. ElementStands types.now.table element) }
 {
@@ -170,16 +246,28 @@ fn element_of(types: &Types, kind: Kind) -> Result<Element, AllocError>
             let t = types.get(index)?;
             Ok(Element::OfType(t))
         }
+        Kind::Collapsed => Ok(Element::Collapsed),
     }
 }
 
-fn target_at(graph: &Graph, place: Place) -> Result<Target, AllocError> {
+pub(crate) fn target_at(graph: &Graph, place: Place) -> Result<Target, AllocError> {
     match place {
         Place::At(node, shift) => Ok(Target { node, shift }),
-        Place::Of(number) => match graph.target(register(number)) {
-            Some(target) => Ok(target),
-            None => Err(AllocError),
-        },
+        Place::Of(number) => target_of_register(graph, number),
+        Place::Beside(number, shift) => {
+            let target = target_of_register(graph, number)?;
+            Ok(Target {
+                node: target.node,
+                shift,
+            })
+        }
+    }
+}
+
+fn target_of_register(graph: &Graph, number: usize) -> Result<Target, AllocError> {
+    match graph.target(register(number)) {
+        Some(target) => Ok(target),
+        None => Err(AllocError),
     }
 }
 

@@ -33,7 +33,7 @@ enum Called {
 /// The functions that a call may reach, the first one, and the first of their class where they are reached through a pointer.
 struct Row {
     called: Called,
-    targets: &'static [usize],
+    targets: &'static [FunctionId],
     first: Option<usize>,
     class: Option<usize>,
 }
@@ -42,7 +42,7 @@ const ROWS: [Row; 4] = [
     // those of the type whose address is taken
     Row {
         called: Called::Through(Kind::Unary),
-        targets: &[0, 2, 3],
+        targets: &[FunctionId(0), FunctionId(2), FunctionId(3)],
         first: Some(0),
         class: Some(0),
     },
@@ -56,13 +56,13 @@ const ROWS: [Row; 4] = [
     // by name, whether the address is taken or not
     Row {
         called: Called::Function(2),
-        targets: &[2],
+        targets: &[FunctionId(2)],
         first: Some(2),
         class: None,
     },
     Row {
         called: Called::Function(4),
-        targets: &[4],
+        targets: &[FunctionId(4)],
         first: Some(4),
         class: None,
     },
@@ -80,17 +80,23 @@ fn calls_reach_their_targets(rt: HostRuntime) -> Result<(), Fail> {
     let alloc = rt.alloc();
     let program = program(alloc)?;
     let classes = Classes::of_program(alloc, &program.tac)?;
-    for row in &ROWS {
-        let callee = callee(program.types, row.called);
-        let targets = classes.targets(alloc, &program.tac, callee)?;
-        assert!(rt;
-            targets
-                .iter()
-                .map(|function| function.0)
-                .eq(row.targets.iter().copied())
-        );
-        assert_eq!(rt; classes.first_target(&program.tac, callee), row.first);
-        assert_eq!(rt; classes.class_of(&program.tac, callee), row.class);
+    for (number, row) in ROWS.iter().enumerate() {
+        assert!(rt; is_reached(alloc, &program, &classes, row)?, "row {number}");
     }
     Ok(())
+}
+
+fn is_reached(
+    alloc: Global,
+    program: &Program,
+    classes: &Classes,
+    row: &Row,
+) -> Result<bool, AllocError> {
+    let callee = callee(program.types, row.called);
+    let targets = classes.targets(alloc, &program.tac, callee)?;
+    Ok(
+        targets.as_slice() == row.targets
+            && classes.first_target(&program.tac, callee) == row.first
+            && classes.class_of(&program.tac, callee) == row.class,
+    )
 }

@@ -1,7 +1,7 @@
 use Rattle.std.proofs.Common.{true, false}
 use Rattle.heap_graph.specs.Embeddings.{OptionHasSlots}
 use Rattle.graph_checker.proofs.Judged.{at_start, holds_on, fails, ends}
-use Rattle.graph_tests.proofs.GraphFaultsTests.Slots.{told}
+use Rattle.graph_tests.proofs.HasSlots.{told}
 use Rattle.graph_tests.proofs.fitting.has_slots.Goals as goal
 
 pub loop-node-init : goal.loop-node-init

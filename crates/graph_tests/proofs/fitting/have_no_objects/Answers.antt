@@ -1,7 +1,7 @@
 use Rattle.std.proofs.Common.{true, false}
 use Rattle.graph_tests.specs.Plain.{HasNoObjects}
 use Rattle.graph_checker.proofs.Judged.{at_start, holds_on, fails, ends}
-use Rattle.graph_tests.proofs.GraphFaultsTests.Slots.{same_all}
+use Rattle.graph_tests.proofs.HasSlots.{same_all}
 use Rattle.graph_tests.proofs.fitting.have_no_objects.Goals as goal
 
 pub loop-function-init : goal.loop-function-init

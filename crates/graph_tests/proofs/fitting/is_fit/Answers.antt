@@ -2,7 +2,7 @@ use Rattle.std.proofs.Common.{◌≡◌, true, List, map, length, sym, ap, subst
 use Rattle.std.specs.List.{list_all}
 use Rattle.tac_ir.specs.declared.op.Op.{Op}
 use Rattle.tac_ir.specs.Views.{op_in}
-use Rattle.graph_tests.specs.GraphFaultsTests.KnownCalls.{is_known}
+use Rattle.graph_tests.specs.KnownCalls.{is_known}
 use Rattle.graph_tests.specs.Plain.{HaveNoObjects, HaveSlots}
 use Rattle.graph_tests.proofs.Fit.{fits}
 use Rattle.graph_tests.proofs.fitting.is_fit.Goals as goal

@@ -1,7 +1,7 @@
 use Rattle.std.proofs.Common.{◌<◌, subst}
 use Rattle.heap_graph.specs.Memory.{target_of}
 use Rattle.graph_unification.specs.Memory.{graph_in}
-use Rattle.graph_tests.proofs.HeapGraphTests.Slots.{told_slot}
+use Rattle.graph_tests.proofs.Slots.{told_slot}
 use Rattle.graph_tests.proofs.scenes.slot.Goals as goal
 
 pub returns-then-target-slots_in : goal.returns-then-target-slots_in

@@ -1,8 +1,8 @@
 use Rattle.std.proofs.Common.{◌≡◌, map, length, drop}
 use Rattle.std.specs.List.{list_all}
 use Rattle.tac_ir.specs.Views.{function_in}
-use Rattle.graph_tests.specs.GraphFaultsTests.KnownCalls.{calls_known}
-use Rattle.graph_tests.proofs.graph_faults_tests.known_calls.calls_are_known.Given as goal
+use Rattle.graph_tests.specs.KnownCalls.{calls_known}
+use Rattle.graph_tests.proofs.known_calls.calls_are_known.Given as goal
 
 -- the calls of the functions from the index on are known just where all are
 abbrev pub invariant-loop-function : goal.invariant-loop-function

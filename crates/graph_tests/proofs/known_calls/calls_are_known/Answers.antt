@@ -4,9 +4,9 @@ use Rattle.std.proofs.lemmas.List.{at_drop_more, at_drop_all}
 use Rattle.tac_ir.specs.declared.op.Op.{Op}
 use Rattle.tac_ir.specs.declared.program.Function.{Function}
 use Rattle.tac_ir.specs.Views.{op_in, function_in}
-use Rattle.graph_tests.specs.FunctionGroupsTests.KnownCalls.{is_known, calls_known}
-use Rattle.graph_tests.proofs.FunctionGroupsTests.Known.{all_known}
-use Rattle.graph_tests.proofs.function_groups_tests.known_calls.calls_are_known.Goals as goal
+use Rattle.graph_tests.specs.KnownCalls.{is_known, calls_known}
+use Rattle.graph_tests.proofs.Known.{all_known}
+use Rattle.graph_tests.proofs.known_calls.calls_are_known.Goals as goal
 
 pub loop-function-init : goal.loop-function-init
 loop-function-init c = refl

@@ -10,7 +10,7 @@ use Rattle.tac_ir.specs.Code as O
 use Rattle.tac_ir.specs.Code.{Known}
 use Rattle.tac_ir.specs.Views.{function_in, tac_of}
 use Rattle.call_graph.specs.GroupViews.{CallsKnown}
-use Rattle.graph_tests.specs.GraphFaultsTests.KnownCalls.{is_known, calls_known}
+use Rattle.graph_tests.specs.KnownCalls.{is_known, calls_known}
 
 both : (a b : Bool) → (a && b) ≡ true → (a ≡ true) × (b ≡ true)
 both true b e = (refl, e)

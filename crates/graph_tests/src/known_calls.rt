@@ -4,7 +4,7 @@ ghost use Rattle.std.specs.Prelude.{◌≡◌, length, map, IsTrue};
 ghost use Rattle.std.specs.List.{list_all};
 ghost use Rattle.tac_ir.specs.Views.{op_in, tac_of};
 ghost use Rattle.call_graph.specs.GroupViews.{CallsKnown};
-ghost use Rattle.graph_tests.specs.FunctionGroupsTests.KnownCalls.{is_known};
+ghost use Rattle.graph_tests.specs.KnownCalls.{is_known};
 
 use tac_ir::{Callee, Op, Tac};
 
@@ -20,7 +20,7 @@ pub(crate) fn calls_are_known(tac: &Tac) -> bool
     true
 }
 
-fn are_known(tac: &Tac, points: &[Op]) -> bool
+pub(crate) fn are_known(tac: &Tac, points: &[Op]) -> bool
     ensures { result ≡ list_all (is_known (length tac.now.functions.items)) (map (op_in tac.now.types) points.now) }
 {
     for op in points {

@@ -1,4 +1,0 @@
-// Tests of `graph_faults`, by its public calls. They stand apart, since a crate with tests is proved twice.
-
-#[cfg(test)]
-pub(crate) mod known_calls;
