@@ -8,10 +8,8 @@ fn counts_lines_and_columns(rt: HostRuntime) {
     let second = start.after(b'a');
     let below = second.after(b'\n');
     let last = below.after(b'\t');
-    assert_eq!(rt; (start.line, start.column), (1, 1));
-    assert_eq!(rt; (second.line, second.column), (1, 2));
-    assert_eq!(rt; (below.line, below.column), (2, 1));
-    assert_eq!(rt; (last.line, last.column), (2, 2));
+    let found = [start, second, below, last].map(|place| (place.line, place.column));
+    assert_eq!(rt; found, [(1, 1), (1, 2), (2, 1), (2, 2)]);
     assert!(rt; second < below);
 }
 
