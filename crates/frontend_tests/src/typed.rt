@@ -1,14 +1,111 @@
 // Sizes that were worked out by hand, by the rules of C17 6.2.8 and 6.7.2.1 with each scalar aligned to its size.
 
-ghost use Rattle.std.specs.Prelude.{◌≡◌, Some, IfOk};
+ghost use Rattle.std.specs.Prelude.{◌≡◌, false, Some, IfOk};
 ghost use Rattle.c_typed.specs.Types as T;
-ghost use Rattle.c_typed.specs.Table.{Interned, Stands, type_in, TagStands, tag_in, AreComplete, member_entries};
-ghost use Rattle.c_typed.specs.Kept.{IsObject, MakesObject};
+ghost use Rattle.c_typed.specs.Layouts.{is_complete};
+ghost use Rattle.c_typed.specs.Table.{Interned, structs_in, Stands, type_in, TagStands, tag_in};
+ghost use Rattle.c_typed.specs.Kept.{IsObject};
 
 use c_num::IntType;
-use c_typed::{CType, Member, MemberPlace, Shape, Step, StructId, TypeTable};
+use c_typed::{CType, Member, Shape, Step, StructId, TypeTable};
 use std::alloc::{AllocError, Global};
+use std::process::Abort;
 use std::test::Fail;
+
+/// How a type is made, of the types of other rows by their numbers; the members of a structure are `a`, `b` and `c`.
+#[derive(Clone, Copy)]
+enum Make {
+    Integer(IntType),
+    ToVoid,
+    Array(usize, u64),
+    Pair(&'static str, usize, usize),
+    Triple(&'static str, usize, usize, usize),
+}
+
+const VOID_POINTER: usize = 0;
+
+const CHAR: usize = 1;
+
+const USHORT: usize = 2;
+
+const INT: usize = 3;
+
+const LONG: usize = 4;
+
+const LARGE: usize = 5;
+
+const SMALL: usize = 6;
+
+const NESTED: usize = 7;
+
+const CHARS: usize = 8;
+
+const ROWS: usize = 9;
+
+const SMALLS: usize = 10;
+
+const AROUND: usize = 11;
+
+const LONGS: usize = 12;
+
+const ARRAYS: usize = 13;
+
+const BOTH: usize = 14;
+
+const WHOLE: usize = 15;
+
+const GREATEST: u64 = 1 << 62;
+
+/// Types, in the order in which they are made, with their sizes, alignments and slots.
+const TYPES: [(usize, Make, (u64, u64, u64)); 16] = [
+    (VOID_POINTER, Make::ToVoid, (8, 8, 1)),
+    (CHAR, Make::Integer(IntType::Char), (1, 1, 1)),
+    (USHORT, Make::Integer(IntType::UShort), (2, 2, 1)),
+    (INT, Make::Integer(IntType::Int), (4, 4, 1)),
+    (LONG, Make::Integer(IntType::Long), (8, 8, 1)),
+    // struct large { char a; long b; char c; };
+    (LARGE, Make::Triple("large", CHAR, LONG, CHAR), (24, 8, 3)),
+    // struct small { char a; int b; };
+    (SMALL, Make::Pair("small", CHAR, INT), (8, 4, 2)),
+    // struct nested { char a; struct small b; char c; };
+    (
+        NESTED,
+        Make::Triple("nested", CHAR, SMALL, CHAR),
+        (16, 4, 4),
+    ),
+    // char[2][1048577]
+    (CHARS, Make::Array(CHAR, 1048577), (1048577, 1, 1)),
+    (ROWS, Make::Array(CHARS, 2), (2097154, 1, 1)),
+    // struct small [3]
+    (SMALLS, Make::Array(SMALL, 3), (24, 4, 2)),
+    // struct around { struct small a[3]; char b; };
+    (AROUND, Make::Pair("around", SMALLS, CHAR), (28, 4, 3)),
+    // sizes end at 2^62
+    (LONGS, Make::Array(LONG, u64::MAX), (GREATEST, 8, 1)),
+    (ARRAYS, Make::Array(LONGS, u64::MAX), (GREATEST, 8, 1)),
+    (BOTH, Make::Pair("both", ARRAYS, LONG), (GREATEST, 8, 2)),
+    // struct whole { int a; struct small b[3]; char c; };
+    (WHOLE, Make::Triple("whole", INT, SMALLS, CHAR), (32, 4, 4)),
+];
+
+/// The members of a type by how many stand before them, with their offsets and types.
+const PLACES: [(usize, usize, Option<(u64, usize)>); 4] = [
+    (LARGE, 1, Some((8, LONG))),
+    (LARGE, 2, Some((16, CHAR))),
+    (LARGE, 3, None),
+    (CHAR, 0, None),
+];
+
+/// Parts of a type, each with the slot at which it begins.
+const SLOTS: [(usize, &[Step], u64); 3] = [
+    (
+        WHOLE,
+        &[Step::Member(1), Step::Element(2), Step::Member(1)],
+        2,
+    ),
+    (WHOLE, &[Step::Member(2)], 3),
+    (WHOLE, &[], 0),
+];
 
 /// An integer type.
 fn integer(int_type: IntType) -> CType
@@ -17,20 +114,50 @@ fn integer(int_type: IntType) -> CType
     CType::integer(int_type)
 }
 
-/// Pointers to a type.
-fn pointer(table: &mut TypeTable, target: CType) -> Result<CType, AllocError>
-    requires { Stands table.old target }
-    ensures { IfOk result (λ made. MakesObject table.old table.new made) }
+/// A type that was made.
+fn of_row(table: &TypeTable, made: &[CType], row: usize) -> CType
+    ensures { Stands table.now result }
 {
-    table.pointer_to(target)
+    match made.get(row) {
+        Some(t) => table.number_of(*t),
+        None => table.number_of(CType::VOID),
+    }
 }
 
-/// Arrays of a type.
-fn array(table: &mut TypeTable, element: CType, length: u64) -> Result<CType, AllocError>
-    requires { IsObject table.old element }
-    ensures { IfOk result (λ made. MakesObject table.old table.new made) }
+/// One that is a complete object type.
+fn object(table: &TypeTable, made: &[CType], row: usize) -> Result<CType, AllocError>
+    ensures { IfOk result (λ t. IsObject table.now t) }
 {
-    table.array_of(element, length)
+    let t = of_row(table, made, row);
+    if table.is_complete(t) {
+        Ok(t)
+    } else {
+        Err(AllocError)
+    }
+}
+
+/// The number of a structure's tag.
+fn id_of(table: &TypeTable, t: CType) -> Result<StructId, AllocError>
+    requires { Stands table.now t }
+    ensures { IfOk result (λ id. TagStands table.now id) }
+{
+    match table.shape(t) {
+        Shape::Struct(id) => Ok(id),
+        _ => Err(AllocError),
+    }
+}
+
+/// A structure that isn't completed, and the number of its tag.
+fn open_structure(table: &mut TypeTable, tag: &str) -> Result<(CType, StructId), AllocError>
+    ensures stands { IfOk result (λ made. TagStands table.new made.1) }
+    ensures unfinished { IfOk result (λ made. is_complete (structs_in table.new) (T.Struct (tag_in table.new made.1)) ≡ false) }
+{
+    let made = table.struct_type(tag.as_bytes())?;
+    let id = id_of(table, made)?;
+    if table.is_completed(id) {
+        return Err(AllocError);
+    }
+    Ok((made, id))
 }
 
 fn member(alloc: Global, name: &str, c_type: CType) -> Result<Member, AllocError>
@@ -42,48 +169,21 @@ fn member(alloc: Global, name: &str, c_type: CType) -> Result<Member, AllocError
     })
 }
 
-/// The number of a structure's tag.
-fn id_of(table: &TypeTable, t: CType) -> Result<StructId, AllocError>
-    requires { Stands table.now t }
-    ensures tag { IfOk result (λ id. TagStands table.now id) }
-    ensures means { IfOk result (λ id. type_in table.now t ≡ T.Struct (tag_in table.now id)) }
-{
-    match table.shape(t) {
-        Shape::Struct(id) => Ok(id),
-        _ => Err(AllocError),
-    }
-}
-
-/// Makes and completes a structure.
-fn structure(table: &mut TypeTable, tag: &str, members: Vec<Member>) -> Result<CType, AllocError>
-    requires { AreComplete table.old (member_entries members.items) }
-    ensures { IfOk result (λ made. MakesObject table.old table.new made) }
-{
-    let made = table.struct_type(tag.as_bytes())?;
-    let id = id_of(table, made)?;
-    if table.is_completed(id) {
-        return Err(AllocError);
-    }
-    table.complete(id, members)?;
-    Ok(made)
-}
-
 /// A structure with members `a` and `b`.
 fn pair(
     alloc: Global,
     table: &mut TypeTable,
     tag: &str,
-    a: CType,
-    b: CType,
-) -> Result<CType, AllocError>
-    requires a { IsObject table.old a }
-    requires b { IsObject table.old b }
-    ensures { IfOk result (λ made. MakesObject table.old table.new made) }
-{
-    let first = member(alloc, "a", a)?;
-    let second = member(alloc, "b", b)?;
-    let members = vec![in alloc; first, second]?;
-    structure(table, tag, members)
+    made: &[CType],
+    a: usize,
+    b: usize,
+) -> Result<CType, AllocError> {
+    let (whole, id) = open_structure(table, tag)?;
+    let a = object(table, made, a)?;
+    let b = object(table, made, b)?;
+    let members = vec![in alloc; member(alloc, "a", a)?, member(alloc, "b", b)?]?;
+    table.complete(id, members)?;
+    Ok(whole)
 }
 
 /// A structure with members `a`, `b` and `c`.
@@ -91,208 +191,175 @@ fn triple(
     alloc: Global,
     table: &mut TypeTable,
     tag: &str,
-    a: CType,
-    b: CType,
-    c: CType,
-) -> Result<CType, AllocError>
-    requires a { IsObject table.old a }
-    requires b { IsObject table.old b }
-    requires c { IsObject table.old c }
-    ensures { IfOk result (λ made. MakesObject table.old table.new made) }
-{
+    made: &[CType],
+    a: usize,
+    b: usize,
+    c: usize,
+) -> Result<CType, AllocError> {
+    let (whole, id) = open_structure(table, tag)?;
+    let a = object(table, made, a)?;
+    let b = object(table, made, b)?;
+    let c = object(table, made, c)?;
     let first = member(alloc, "a", a)?;
     let second = member(alloc, "b", b)?;
     let third = member(alloc, "c", c)?;
     let members = vec![in alloc; first, second, third]?;
-    structure(table, tag, members)
+    table.complete(id, members)?;
+    Ok(whole)
+}
+
+fn made_of(
+    alloc: Global,
+    table: &mut TypeTable,
+    made: &[CType],
+    making: Make,
+) -> Result<CType, AllocError> {
+    match making {
+        Make::Integer(int_type) => Ok(CType::integer(int_type)),
+        Make::ToVoid => {
+            let void = table.number_of(CType::VOID);
+            table.pointer_to(void)
+        }
+        Make::Array(element, length) => {
+            let element = object(table, made, element)?;
+            table.array_of(element, length)
+        }
+        Make::Pair(tag, a, b) => pair(alloc, table, tag, made, a, b),
+        Make::Triple(tag, a, b, c) => triple(alloc, table, tag, made, a, b, c),
+    }
+}
+
+/// The types of all rows.
+fn make_all(alloc: Global, table: &mut TypeTable) -> Result<Vec<CType>, AllocError> {
+    let mut made = Vec::new(alloc);
+    for (_, making, _) in TYPES {
+        let t = made_of(alloc, table, &made, making)?;
+        made.push(t)?;
+    }
+    Ok(made)
 }
 
 /// Size, alignment and slots.
 fn layout(table: &TypeTable, t: CType) -> (u64, u64, u64)
-    requires { IsObject table.now t }
+    requires { Stands table.now t }
 {
     (table.size_of(t), table.align_of(t), table.slots(t))
 }
 
+fn have_layouts(rt: &impl Abort, table: &TypeTable, made: &[CType]) {
+    for (row, _, expected) in TYPES {
+        let found = layout(table, of_row(table, made, row));
+        assert_eq!(rt; found, expected, "row {row}");
+    }
+}
+
+fn have_places(rt: &impl Abort, table: &TypeTable, made: &[CType]) {
+    for (row, number, expected) in PLACES {
+        let found = table.member_place(of_row(table, made, row), number);
+        let found = found.map(|place| (place.offset, place.c_type));
+        let expected = expected.map(|(offset, row)| (offset, made.get(row).copied()));
+        assert_eq!(rt; found, expected, "member {number} of row {row}");
+    }
+}
+
+fn have_slots(rt: &impl Abort, table: &TypeTable, made: &[CType]) {
+    for (row, path, expected) in SLOTS {
+        let found = table.slot_of(of_row(table, made, row), path);
+        assert_eq!(rt; found, expected, "{path:?}");
+    }
+}
+
 #[test]
-fn scalars_have_the_sizes_of_their_words(rt: HostRuntime) -> Result<(), Fail> {
+fn types_have_their_layouts(rt: HostRuntime) -> Result<(), Fail> {
     let mut table = TypeTable::new(rt.alloc());
-    let to_void = pointer(&mut table, CType::VOID)?;
-    assert_eq!(rt; layout(&table, to_void), (8, 8, 1));
-    let char = integer(IntType::Char);
-    assert_eq!(rt; layout(&table, char), (1, 1, 1));
-    let short = integer(IntType::UShort);
-    assert_eq!(rt; layout(&table, short), (2, 2, 1));
-    let int = integer(IntType::Int);
-    assert_eq!(rt; layout(&table, int), (4, 4, 1));
-    let long = integer(IntType::Long);
-    assert_eq!(rt; layout(&table, long), (8, 8, 1));
+    let made = make_all(rt.alloc(), &mut table)?;
+    have_layouts(&rt, &table, &made);
+    have_places(&rt, &table, &made);
+    have_slots(&rt, &table, &made);
     Ok(())
 }
 
-#[test]
-fn members_are_aligned(rt: HostRuntime) -> Result<(), Fail> {
-    let alloc = rt.alloc();
-    let mut table = TypeTable::new(alloc);
-    let char = integer(IntType::Char);
-    let long = integer(IntType::Long);
-    // struct large { char a; long b; char c; };
-    let large = triple(alloc, &mut table, "large", char, long, char)?;
-    assert_eq!(rt; layout(&table, large), (24, 8, 3));
-    Ok(())
-}
-
-#[test]
-fn members_have_their_offsets(rt: HostRuntime) -> Result<(), Fail> {
-    let alloc = rt.alloc();
-    let mut table = TypeTable::new(alloc);
-    let char = integer(IntType::Char);
-    let long = integer(IntType::Long);
-    // struct large { char a; long b; char c; };
-    let large = triple(alloc, &mut table, "large", char, long, char)?;
-    let at_b = MemberPlace {
-        offset: 8,
-        c_type: Some(long),
-    };
-    assert_eq!(rt; table.member_place(large, 1), Some(at_b));
-    let offset = table.member_place(large, 2).map(|place| place.offset);
-    assert_eq!(rt; offset, Some(16));
-    assert_eq!(rt; table.member_place(large, 3), None);
-    assert_eq!(rt; table.member_place(char, 0), None);
-    Ok(())
-}
-
-#[test]
-fn structures_are_aligned(rt: HostRuntime) -> Result<(), Fail> {
-    let alloc = rt.alloc();
-    let mut table = TypeTable::new(alloc);
-    let char = integer(IntType::Char);
-    let int = integer(IntType::Int);
-    // struct small { char a; int b; };
-    let small = pair(alloc, &mut table, "small", char, int)?;
-    assert_eq!(rt; layout(&table, small), (8, 4, 2));
-    // struct nested { char a; struct small b; char c; };
-    let nested = triple(alloc, &mut table, "nested", char, small, char)?;
-    assert_eq!(rt; layout(&table, nested), (16, 4, 4));
-    Ok(())
-}
-
-#[test]
-fn arrays_repeat_their_elements(rt: HostRuntime) -> Result<(), Fail> {
-    let mut table = TypeTable::new(rt.alloc());
-    let char = integer(IntType::Char);
-    // char[2][1048577]
-    let row = array(&mut table, char, 1048577)?;
-    let rows = array(&mut table, row, 2)?;
-    assert_eq!(rt; layout(&table, rows), (2097154, 1, 1));
-    Ok(())
-}
-
-#[test]
-fn arrays_repeat_structures(rt: HostRuntime) -> Result<(), Fail> {
-    let alloc = rt.alloc();
-    let mut table = TypeTable::new(alloc);
-    let char = integer(IntType::Char);
-    let int = integer(IntType::Int);
-    // struct small { char a; int b; } [3]
-    let small = pair(alloc, &mut table, "small", char, int)?;
-    let smalls = array(&mut table, small, 3)?;
-    assert_eq!(rt; layout(&table, smalls), (24, 4, 2));
-    // struct { struct small a[3]; char b; }
-    let around = pair(alloc, &mut table, "around", smalls, char)?;
-    assert_eq!(rt; layout(&table, around), (28, 4, 3));
-    Ok(())
-}
-
-#[test]
-fn sizes_end_at_two_to_the_62nd(rt: HostRuntime) -> Result<(), Fail> {
-    let alloc = rt.alloc();
-    let mut table = TypeTable::new(alloc);
-    let long = integer(IntType::Long);
-    let greatest = 1 << 62;
-    let longs = array(&mut table, long, u64::MAX)?;
-    assert_eq!(rt; layout(&table, longs), (greatest, 8, 1));
-    let arrays = array(&mut table, longs, u64::MAX)?;
-    assert_eq!(rt; layout(&table, arrays), (greatest, 8, 1));
-    let both = pair(alloc, &mut table, "both", arrays, long)?;
-    assert_eq!(rt; layout(&table, both), (greatest, 8, 2));
-    Ok(())
-}
-
-#[test]
-fn a_type_is_made_once(rt: HostRuntime) -> Result<(), Fail> {
-    let mut table = TypeTable::new(rt.alloc());
+/// Whether the pointers to a type are the same as before, and a tag's structure, where other types were made between.
+fn made_twice(table: &mut TypeTable) -> Result<(bool, bool), AllocError> {
     let int = integer(IntType::Int);
     let first = table.pointer_to(int)?;
     let tagged = table.struct_type(b"list")?;
     let again = table.pointer_to(int)?;
-    assert_eq!(rt; again, first);
     let same = table.struct_type(b"list")?;
-    assert_eq!(rt; tagged, same);
+    Ok((again == first, same == tagged))
+}
+
+/// Functions of no parameters and of one pointer: whether they are the same, whether the parameters are split as they
+/// were made, and whether the second has its shape.
+fn two_functions(table: &mut TypeTable) -> Result<[bool; 4], AllocError> {
+    let int = integer(IntType::Int);
+    let none = table.no_parameters()?;
+    let ends = table.first_parameter(none).is_none();
+    let other = table.function(int, none)?;
+    let to_int = table.pointer_to(int)?;
+    let one = table.parameter(to_int, none)?;
+    let function = table.function(int, one)?;
+    let shape = Shape::Function {
+        result: int,
+        parameters: one,
+    };
+    Ok([
+        table.same(function, other),
+        table.first_parameter(one) == Some((to_int, none)),
+        ends,
+        table.shape(function) == shape,
+    ])
+}
+
+/// `struct list { struct list *a; int b; };`, made before it is completed: whether it was complete before and is then, its size,
+/// and the numbers of the members `b` and `c`.
+fn completed_later(
+    alloc: Global,
+    table: &mut TypeTable,
+) -> Result<(bool, bool, u64, [Option<u32>; 2]), AllocError> {
+    let list = table.struct_type(b"list")?;
+    let link = table.pointer_to(list)?;
+    let made = [link, integer(IntType::Int), list];
+    let before = table.is_complete(of_row(table, &made, 2));
+    pair(alloc, table, "list", &made, 0, 1)?;
+    let list = of_row(table, &made, 2);
+    let b = table.member(list, b"b").map(|member| member.number);
+    let c = table.member(list, b"c").map(|member| member.number);
+    let size = table.size_of(list);
+    Ok((before, table.is_complete(list), size, [b, c]))
+}
+
+/// Whether the tag of a structure is read back.
+fn tag_is_kept(table: &mut TypeTable) -> Result<bool, AllocError> {
+    let list = table.struct_type(b"list")?;
+    let id = id_of(table, list)?;
+    Ok(table.tag(id) == b"list".as_slice())
+}
+
+#[test]
+fn a_type_is_made_once(rt: HostRuntime) -> Result<(), Fail> {
+    let found = made_twice(&mut TypeTable::new(rt.alloc()))?;
+    assert_eq!(rt; found, (true, true));
     Ok(())
 }
 
 #[test]
 fn functions_have_their_parameters(rt: HostRuntime) -> Result<(), Fail> {
-    let mut table = TypeTable::new(rt.alloc());
-    let int = integer(IntType::Int);
-    let none = table.no_parameters()?;
-    let other = table.function(int, none)?;
-    let to_int = table.pointer_to(int)?;
-    let one = table.parameter(to_int, none)?;
-    let function = table.function(int, one)?;
-    assert_eq!(rt; table.same(function, other), false);
-    assert_eq!(rt; table.first_parameter(one), Some((to_int, none)));
-    assert_eq!(rt; table.first_parameter(none), None);
-    assert_eq!(rt;
-        table.shape(function),
-        Shape::Function {
-            result: int,
-            parameters: one
-        }
-    );
+    let found = two_functions(&mut TypeTable::new(rt.alloc()))?;
+    assert_eq!(rt; found, [false, true, true, true]);
     Ok(())
 }
 
 #[test]
 fn structures_are_completed_later(rt: HostRuntime) -> Result<(), Fail> {
-    let alloc = rt.alloc();
-    let mut table = TypeTable::new(alloc);
-    // struct list { struct list *a; int b; };
-    let list = table.struct_type(b"list")?;
-    let link = pointer(&mut table, list)?;
-    assert_eq!(rt; table.is_complete(list), false);
-    pair(alloc, &mut table, "list", link, integer(IntType::Int))?;
-    assert_eq!(rt; table.is_complete(list), true);
-    assert_eq!(rt; table.size_of(list), 16);
-    let found = table.member(list, b"b").map(|member| member.number);
-    assert_eq!(rt; found, Some(1));
-    assert_eq!(rt; table.member(list, b"c").is_none(), true);
-    Ok(())
-}
-
-#[test]
-fn parts_begin_behind_the_slots_before_them(rt: HostRuntime) -> Result<(), Fail> {
-    let alloc = rt.alloc();
-    let mut table = TypeTable::new(alloc);
-    let char = integer(IntType::Char);
-    let int = integer(IntType::Int);
-    // struct around { int a; struct small { char a; int b; } b[3]; char c; };
-    let small = pair(alloc, &mut table, "small", char, int)?;
-    let smalls = array(&mut table, small, 3)?;
-    let around = triple(alloc, &mut table, "around", int, smalls, char)?;
-    let path = [Step::Member(1), Step::Element(2), Step::Member(1)];
-    assert_eq!(rt; table.slot_of(around, &path), 2);
-    assert_eq!(rt; table.slot_of(around, &[Step::Member(2)]), 3);
-    assert_eq!(rt; table.slot_of(around, &[]), 0);
+    let found = completed_later(rt.alloc(), &mut TypeTable::new(rt.alloc()))?;
+    assert_eq!(rt; found, (false, true, 16, [Some(1), None]));
     Ok(())
 }
 
 #[test]
 fn a_tag_is_read_back(rt: HostRuntime) -> Result<(), Fail> {
-    let mut table = TypeTable::new(rt.alloc());
-    let list = table.struct_type(b"list")?;
-    let id = id_of(&table, list)?;
-    assert_eq!(rt; table.tag(id), b"list".as_slice());
+    let is_kept = tag_is_kept(&mut TypeTable::new(rt.alloc()))?;
+    assert!(rt; is_kept);
     Ok(())
 }
