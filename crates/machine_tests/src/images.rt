@@ -1,9 +1,6 @@
 // Bytes are written here in hexadecimal digits.
 
-use image_form::{
-    Function, Globals, Image, ImageErr, MachineLimits, PoolKind, from_bytes, to_bytes,
-};
-use pool_isa::Instr;
+use image_form::{ImageErr, from_bytes, to_bytes};
 use std::alloc::Global;
 use std::test::Fail;
 
@@ -13,7 +10,25 @@ const SEVEN: &str = "5041494d01808004ffffffff0f000000010000010002010727";
 // Globals of 9 bytes that begin with 3, three kinds of pools, and one function, which makes a pool of the last.
 const KINDS: &str = "5041494d0101020903410042030001088080100001e807ac0201010000010002500227";
 
-// Changes of a byte of that: where it stands, the byte that is put there, and the place of the fault.
+// Images, and what they hold.
+const HELD: [(&str, &str); 2] = [
+    (
+        SEVEN,
+        "Image { version: 1, limits: MachineLimits { slabs: 65536, index: 4294967295 }, \
+         globals: Globals { size: 0, contents: [] }, kinds: [], functions: [Function { \
+         parameters: 0, extra: 0, height: 1, signature: 0, code: [Constant(7), Exit] }] }",
+    ),
+    (
+        KINDS,
+        "Image { version: 1, limits: MachineLimits { slabs: 1, index: 2 }, globals: Globals { \
+         size: 9, contents: [65, 0, 66] }, kinds: [Mixed, Homogeneous { source: 8, \
+         cell: 1048576, indexed: false }, Homogeneous { source: 1000, cell: 1200, \
+         indexed: true }], functions: [Function { parameters: 0, extra: 0, height: 1, \
+         signature: 0, code: [PoolInit(2), Exit] }] }",
+    ),
+];
+
+// Changes of a byte of the second image: where it stands, the byte that is put there, and the place of the fault.
 const FAULTY: [(usize, u8, usize); 7] = [
     (8, 10, 8),
     (11, 0, 11),
@@ -24,8 +39,9 @@ const FAULTY: [(usize, u8, usize); 7] = [
     (33, 3, 33),
 ];
 
-// The first image changed, and the place of the fault, if there is one.
-const CHANGED: [(&str, Option<usize>); 13] = [
+// Bytes, and the place of the fault, if there is one.
+const PLACES: [(&str, Option<usize>); 46] = [
+    // The first image changed.
     (
         "5041494d01808004ffffffff0f00000001000001000201072700",
         Some(25),
@@ -63,10 +79,7 @@ const CHANGED: [(&str, Option<usize>); 13] = [
         "5041494d01808004ffffffff0f000000010000010002230127",
         Some(23),
     ),
-];
-
-// Images made by chance, most of them damaged, and the place where another reader finds the fault, if there is one.
-const OTHERS: [(&str, Option<usize>); 30] = [
+    // Images made by chance, most of them damaged, and the place where another reader finds the fault.
     (
         "5041494d0101ffffffff0f010178010001006a0601051426111827",
         None,
@@ -154,21 +167,18 @@ const OTHERS: [(&str, Option<usize>); 30] = [
         "5041494d01808040010000020000030040070002310725011c0202041d19420728012604030702612700011b1025",
         Some(41),
     ),
-];
-
-// Images but for one byte, 54, which is no instruction's code.
-const NO_CODE: [(&str, usize); 3] = [
+    // Images but for one byte, 54, which is no instruction's code.
     (
         "5041494d0101010806df00769894a101018080400400020008080105350154310523012002020704030351390225",
-        30,
+        Some(30),
     ),
     (
         "5041494d01010108080cbfcbcf4c9f7f690201808040040101808040020002000c0103065442001c513805270230050108350738001d2301510400002002",
-        36,
+        Some(36),
     ),
     (
         "5041494d018080400108018c010003001f0202061221053004300431052601160300060224808080808020263906532500270900081d54021935003602380428",
-        54,
+        Some(54),
     ),
 ];
 
@@ -190,99 +200,75 @@ fn fault_of(alloc: Global, bytes: &[u8]) -> Result<Option<usize>, ImageErr> {
     }
 }
 
+// What the image of these bytes holds, and whether it is written as these bytes again.
+fn read_and_written(alloc: Global, bytes: &[u8]) -> Result<(String, bool), Fail> {
+    let image = from_bytes(alloc, bytes)?;
+    let again = to_bytes(alloc, &image)?;
+    let held = format!(in alloc; "{image:?}")?;
+    Ok((held, again.as_slice() == bytes))
+}
+
 #[test]
-fn read_and_written(rt: HostRuntime) -> Result<(), Fail> {
-    let bytes = bytes_of(rt.alloc(), SEVEN)?;
-    let image = from_bytes(rt.alloc(), &bytes)?;
-    let limits = MachineLimits {
-        slabs: 65_536,
-        index: 4_294_967_295,
-    };
-    assert_eq!(rt; (image.version, image.limits), (1, limits));
-    assert_eq!(rt; (image.globals.size, image.globals.contents.len()), (0, 0));
-    assert_eq!(rt; (image.kinds.len(), image.functions.len()), (0, 1));
-    for function in &image.functions {
-        assert_eq!(rt; (function.parameters, function.extra), (0, 0));
-        assert_eq!(rt; (function.height, function.signature), (1, 0));
-        assert_eq!(rt;
-            function.code.as_slice(),
-            [Instr::Constant(7), Instr::Exit].as_slice()
-        );
+fn read_and_written_again(rt: HostRuntime) -> Result<(), Fail> {
+    for (text, held) in HELD {
+        let bytes = bytes_of(rt.alloc(), text)?;
+        let (found, same) = read_and_written(rt.alloc(), &bytes)?;
+        assert_eq!(rt; (found.as_str(), same), (held, true));
     }
-    let again = to_bytes(rt.alloc(), &image)?;
-    assert_eq!(rt; again.as_slice(), bytes.as_slice());
     Ok(())
 }
 
-// Kinds of pools, and contents of globals, read and written again.
 #[test]
-fn kinds_and_contents(rt: HostRuntime) -> Result<(), Fail> {
-    let bytes = bytes_of(rt.alloc(), KINDS)?;
-    let image = from_bytes(rt.alloc(), &bytes)?;
-    assert_eq!(rt; image.globals.size, 9);
-    assert_eq!(rt; image.globals.contents.as_slice(), [65, 0, 66].as_slice());
-    let kinds = [
-        PoolKind::Mixed,
-        PoolKind::Homogeneous {
-            source: 8,
-            cell: 1_048_576,
-            indexed: false,
-        },
-        PoolKind::Homogeneous {
-            source: 1_000,
-            cell: 1_200,
-            indexed: true,
-        },
-    ];
-    assert_eq!(rt; image.kinds.as_slice(), kinds.as_slice());
-    let again = to_bytes(rt.alloc(), &image)?;
-    assert_eq!(rt; again.as_slice(), bytes.as_slice());
+fn fronts_have_faults_at_their_ends(rt: HostRuntime) -> Result<(), Fail> {
+    let bytes = bytes_of(rt.alloc(), SEVEN)?;
+    for length in 0..bytes.len() {
+        let place = fault_of(rt.alloc(), &bytes[..length])?;
+        assert_eq!(rt; place, Some(length));
+    }
     Ok(())
+}
+
+// The first row whose fault is found elsewhere.
+fn first_misplaced<'a>(
+    alloc: Global,
+    rows: &[(&'a str, Option<usize>)],
+) -> Result<Option<&'a str>, Fail> {
+    for (text, wanted) in rows {
+        let bytes = bytes_of(alloc, text)?;
+        if fault_of(alloc, &bytes)? != *wanted {
+            return Ok(Some(text));
+        }
+    }
+    Ok(None)
 }
 
 #[test]
 fn places_of_faults(rt: HostRuntime) -> Result<(), Fail> {
-    let bytes = bytes_of(rt.alloc(), SEVEN)?;
-    for length in 0..bytes.len() {
-        assert_eq!(rt; fault_of(rt.alloc(), &bytes[..length])?, Some(length));
-    }
-    for (text, place) in CHANGED {
-        let bytes = bytes_of(rt.alloc(), text)?;
-        assert_eq!(rt; fault_of(rt.alloc(), &bytes)?, place, "{text}");
-    }
+    assert_eq!(rt; first_misplaced(rt.alloc(), &PLACES)?, None);
     Ok(())
+}
+
+// The place of the fault in the second image with a byte changed.
+fn fault_with(alloc: Global, index: usize, byte: u8) -> Result<Option<usize>, Fail> {
+    let mut bytes = bytes_of(alloc, KINDS)?;
+    if let Some(changed) = bytes.get_mut(index) {
+        *changed = byte;
+    }
+    Ok(fault_of(alloc, &bytes)?)
 }
 
 #[test]
 fn places_in_kinds_and_contents(rt: HostRuntime) -> Result<(), Fail> {
-    for (index, byte, place) in FAULTY {
-        let mut bytes = bytes_of(rt.alloc(), KINDS)?;
-        if let Some(changed) = bytes.get_mut(index) {
-            *changed = byte;
-        }
-        assert_eq!(rt; fault_of(rt.alloc(), &bytes)?, Some(place), "{index}");
-    }
-    Ok(())
-}
-
-#[test]
-fn other_places(rt: HostRuntime) -> Result<(), Fail> {
-    for (text, place) in OTHERS {
-        let bytes = bytes_of(rt.alloc(), text)?;
-        assert_eq!(rt; fault_of(rt.alloc(), &bytes)?, place, "{text}");
-    }
-    for (text, place) in NO_CODE {
-        let bytes = bytes_of(rt.alloc(), text)?;
-        assert_eq!(rt; fault_of(rt.alloc(), &bytes)?, Some(place), "{text}");
+    for (index, byte, wanted) in FAULTY {
+        let place = fault_with(rt.alloc(), index, byte)?;
+        assert_eq!(rt; place, Some(wanted), "{index}");
     }
     Ok(())
 }
 
 #[test]
 fn printed(rt: HostRuntime) -> Result<(), Fail> {
-    let bad = ImageErr::Bad(7).to_string(rt.alloc())?;
-    assert_eq!(rt; bad.as_str(), "no image at byte 7");
-    let memory = ImageErr::OutOfMemory.to_string(rt.alloc())?;
-    assert_eq!(rt; memory.as_str(), "out of memory");
+    let text = format!(in rt.alloc(); "{}, {}", ImageErr::Bad(7), ImageErr::OutOfMemory)?;
+    assert_eq!(rt; text.as_str(), "no image at byte 7, out of memory");
     Ok(())
 }

@@ -1,8 +1,5 @@
-//! Tests of `pool_isa` and `image_form`, by their public calls. They stand apart, since a crate with tests is proved twice.
-//!
-//! Tests of `machine`, by its public calls. They stand apart, since a crate with tests is proved twice.
-//!
-//! Tests of `pool_linker`, by its public call. They stand apart, since a crate with tests is proved twice.
+//! Tests of the machine's parts by their public calls: of instructions (`pool_isa`), images (`image_form`), linking
+//! (`pool_linker`) and runs (`machine`). They stand apart, since a crate with tests is proved twice.
 #![tactic(auto)]
 
 #[cfg(test)]
@@ -12,4 +9,10 @@ mod instructions;
 #[cfg(test)]
 mod linking;
 #[cfg(test)]
-mod tests;
+mod operators;
+#[cfg(test)]
+mod resumed;
+#[cfg(test)]
+mod runs;
+#[cfg(test)]
+mod scenes;

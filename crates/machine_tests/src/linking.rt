@@ -29,17 +29,24 @@ fn unit(alloc: Global, code: &[Instr]) -> Result<Unit, AllocError>
 }
 
 // The first two kinds are equal, so that the third one's number is 1; zeros at the end of the contents are left out.
+const LINKED: &str = "Image { version: 1, limits: MachineLimits { slabs: 16, index: 1000 }, \
+    globals: Globals { size: 8, contents: [0, 7] }, \
+    kinds: [Homogeneous { source: 12, cell: 12, indexed: true }, Mixed], functions: [\
+    Function { parameters: 0, extra: 8, height: 2, signature: 0, \
+    code: [PoolInit(1), Call(1), Return] }, \
+    Function { parameters: 0, extra: 8, height: 2, signature: 0, \
+    code: [PoolInit(0), PoolInit(0), Trap] }] }";
+
 #[test]
 fn equal_kinds_have_one_number(rt: HostRuntime) -> Result<(), Fail> {
     let alloc = rt.alloc();
-    let mut functions = Vec::new(alloc);
-    functions.push(unit(alloc, &[Instr::PoolInit(2), Instr::Call(1), Instr::Return])?)?;
-    functions.push(unit(
+    let start = unit(alloc, &[Instr::PoolInit(2), Instr::Call(1), Instr::Return])?;
+    let main = unit(
         alloc,
         &[Instr::PoolInit(1), Instr::PoolInit(0), Instr::Trap],
-    )?)?;
+    )?;
     let units = Units {
-        functions,
+        functions: vec![in alloc; start, main]?,
         kinds: Vec::from_slice(alloc, &[CELLS, CELLS, PoolKind::Mixed])?,
         globals: 8,
         contents: Vec::from_slice(alloc, &[0, 7, 0, 0])?,
@@ -49,15 +56,7 @@ fn equal_kinds_have_one_number(rt: HostRuntime) -> Result<(), Fail> {
         index: 1000,
     };
     let image = link(alloc, units, limits)?;
-
-    assert_eq!(rt; image.limits, limits);
-    assert_eq!(rt; image.kinds.as_slice(), [CELLS, PoolKind::Mixed].as_slice());
-    assert_eq!(rt; image.globals.size, 8);
-    assert_eq!(rt; image.globals.contents.as_slice(), [0, 7].as_slice());
-    assert_eq!(rt; image.functions.len(), 2);
-    let start = [Instr::PoolInit(1), Instr::Call(1), Instr::Return];
-    assert_eq!(rt; image.functions[0].code.as_slice(), start.as_slice());
-    let main = [Instr::PoolInit(0), Instr::PoolInit(0), Instr::Trap];
-    assert_eq!(rt; image.functions[1].code.as_slice(), main.as_slice());
+    let text = format!(in alloc; "{image:?}")?;
+    assert_eq!(rt; text.as_str(), LINKED);
     Ok(())
 }
