@@ -60,28 +60,71 @@ fn make_flaky(interrupts: u32, kind: Option<ErrorKind>, flush: Option<ErrorKind>
     }
 }
 
-#[test]
-fn source_tries_again(rt: HostRuntime) {
-    let mut buf = [0u8; 2];
-    let mut source = StdSource::new(make_flaky(1000, None, None));
-    assert_eq!(rt; source.read(&mut buf), Ok(1));
-    assert_eq!(rt; buf, [7, 0]);
-    let mut source = StdSource::new(make_flaky(1001, None, None));
-    assert_eq!(rt; source.read(&mut buf), Err(Failed));
-    let mut source = StdSource::new(make_flaky(0, Some(ErrorKind::BrokenPipe), None));
-    assert_eq!(rt; source.read(&mut buf), Err(Failed));
+/// What one write or another answers.
+type Answer = Result<usize, Failed>;
+
+// Interruptions before a read and what it then says; the answer, and what then stands where it puts bytes.
+const READS: [(u32, Option<ErrorKind>, Answer, [u8; 2]); 3] = [
+    (1000, None, Ok(1), [7, 0]),
+    (1001, None, Err(Failed), [0, 0]),
+    (0, Some(ErrorKind::BrokenPipe), Err(Failed), [0, 0]),
+];
+
+// Interruptions before a write, what it then says, and what a flush says; the answers of two writes. A write whose flush fails has failed.
+const WRITES: [(u32, Option<ErrorKind>, Option<ErrorKind>, [Answer; 2]); 3] = [
+    (1000, None, None, [Ok(1), Ok(1)]),
+    (
+        0,
+        Some(ErrorKind::BrokenPipe),
+        None,
+        [Err(Failed), Err(Failed)],
+    ),
+    (
+        0,
+        None,
+        Some(ErrorKind::BrokenPipe),
+        [Err(Failed), Err(Failed)],
+    ),
+];
+
+/// The first read that is answered otherwise.
+fn first_wrong_read() -> Option<usize> {
+    for (index, (interrupts, kind, answer, bytes)) in READS.iter().enumerate() {
+        let mut buf = [0u8; 2];
+        let mut source = StdSource::new(make_flaky(*interrupts, *kind, None));
+        if source.read(&mut buf) != *answer || buf != *bytes {
+            return Some(index);
+        }
+    }
+    None
 }
 
-// A write whose flush fails has failed.
+/// The first writes that are answered otherwise.
+fn first_wrong_write() -> Option<usize> {
+    for (index, (interrupts, kind, flush, answers)) in WRITES.iter().enumerate() {
+        let mut sink = StdSink::new(make_flaky(*interrupts, *kind, *flush));
+        if [sink.write(b"ab"), sink.write(b"b")] != *answers {
+            return Some(index);
+        }
+    }
+    None
+}
+
 #[test]
-fn sink_flushes(rt: HostRuntime) {
-    let mut sink = StdSink::new(make_flaky(1000, None, None));
-    assert_eq!(rt; sink.write(b"ab"), Ok(1));
-    assert_eq!(rt; sink.write(b"b"), Ok(1));
-    let mut sink = StdSink::new(make_flaky(0, Some(ErrorKind::BrokenPipe), None));
-    assert_eq!(rt; sink.write(b"ab"), Err(Failed));
-    let mut sink = StdSink::new(make_flaky(0, None, Some(ErrorKind::BrokenPipe)));
-    assert_eq!(rt; sink.write(b"ab"), Err(Failed));
+fn sources_and_sinks_try_again(rt: HostRuntime) {
+    assert_eq!(rt; first_wrong_read(), None);
+    assert_eq!(rt; first_wrong_write(), None);
+}
+
+/// What reads of this file from 1 and from 4 and of another answer, and what the first one puts where it puts bytes.
+fn read_places<F: Files>(files: &mut F, name: &str) -> ([Answer; 3], [u8; 3]) {
+    let mut buf = [0u8; 3];
+    let answers = [
+        files.read_at(name, 1, &mut buf),
+        files.read_at(name, 4, &mut [0; 3]),
+        files.read_at("/no/such/file", 0, &mut [0; 3]),
+    ];
+    (answers, buf)
 }
 
 #[test]
@@ -91,12 +134,8 @@ fn files_of_the_host(rt: HostRuntime) -> Result<(), Fail> {
     let path = dir.as_path().join(rt.alloc(), own.as_str())?;
     fs::write(&rt, path.as_path(), b"abcd")?;
     let name = path.as_path().to_str().ok_or("a path that is text")?;
-    let mut files = HostFiles::new(rt.clone()?);
-    let mut buf = [0u8; 3];
-    assert_eq!(rt; files.read_at(name, 1, &mut buf), Ok(3));
-    assert_eq!(rt; &buf, b"bcd");
-    assert_eq!(rt; files.read_at(name, 4, &mut buf), Ok(0));
-    assert_eq!(rt; files.read_at("/no/such/file", 0, &mut buf), Err(Failed));
+    let found = read_places(&mut HostFiles::new(rt.clone()?), name);
+    assert_eq!(rt; found, ([Ok(3), Ok(0), Err(Failed)], *b"bcd"));
     fs::remove_file(&rt, path.as_path())?;
     Ok(())
 }
